@@ -1,0 +1,10 @@
+pub mod Answer
+pub mod Refusals
+pub mod Run
+pub mod ListOrder
+pub mod CheckLog
+pub mod PlainQueue
+pub mod History
+pub mod Demand3
+pub mod All
+pub mod KnownRuns

@@ -1,0 +1,5 @@
+pub mod Bytes
+pub mod StepRecords
+pub mod AnswerRecords
+pub mod OrderRecords
+pub mod All

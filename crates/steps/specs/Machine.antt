@@ -1,0 +1,76 @@
+-- The machine: the shared memory and the processes, and what one begin and one step do to it.
+use Prim.Native.Nat.{ℕ, _+_, _*_}
+use mathlib.Core.Bool.{Bool, true, false}
+use mathlib.Core.List.{List}
+use lib.ListN.{getD, set, replicate}
+use Rattle.tree.specs.Shape.{Shape, processes}
+use Rattle.tree.specs.Layout.{wordsNeeded}
+use Rattle.steps.specs.declared.Operation.{Operation}
+use Rattle.steps.specs.declared.Step.{Step}
+use Rattle.steps.specs.declared.Step.the-variants.{A, V1, V2, V3, R1, R2, R3, R4, R5, C1, C2, C3, C4, Q}
+use Rattle.steps.specs.declared.Status.{Status}
+use Rattle.steps.specs.declared.Status.the-variants.{Idle, Busy}
+use Rattle.steps.specs.declared.Process.{Process}
+use Rattle.steps.specs.Process.{idle}
+use Rattle.steps.specs.Memory.{Memory}
+use Rattle.steps.specs.Rules.{step}
+
+pub record Machine : Type 0 where
+  pub memory : Memory
+  pub processes : List Process
+
+-- at the start the needed words are zero, each head is 1 and every process is idle
+unfoldable pub start : Shape → Machine
+start s =
+    record {
+      memory = record { table = replicate (wordsNeeded s) 0; heads = replicate (2 * processes s) 1 };
+      processes = replicate (processes s) idle;
+    }
+
+unfoldable pub processOf : Machine → ℕ → Process
+processOf m k = getD (m .processes) k idle
+
+-- the machine with another memory, in which process k is p
+unfoldable pub withProcess : Machine → ℕ → Process → Memory → Machine
+withProcess m k p memory = record { memory = memory; processes = set (m .processes) k p }
+
+-- where a process is: idle, or at Q
+unfoldable pub isIdle : Status → Bool
+isIdle Idle = true
+isIdle (Busy o n) = false
+
+unfoldable pub isQ : Step → Bool
+isQ A = false
+isQ (V1 w a v h) = false
+isQ (V2 w a v h x) = false
+isQ (V3 w a v h) = false
+isQ (R1 v second) = false
+isQ (R2 w) = false
+isQ (R3 w c) = false
+isQ (R4 w) = false
+isQ (R5 w c) = false
+isQ (C1 w) = false
+isQ (C2 w l) = false
+isQ (C3 w l r) = false
+isQ (C4 w n) = false
+isQ Q = true
+
+unfoldable pub atQ : Status → Bool
+atQ Idle = false
+atQ (Busy o n) = isQ n
+
+-- a begin: process k opens operation o, and comes to A
+unfoldable pub begin : Machine → ℕ → Operation → Machine
+begin m k o =
+    withProcess m k (record { status = Busy o A; begun = processOf m k .begun + 1; steps = 0 }) (m .memory)
+
+-- one step of process k, whose status is given; an idle process has none
+unfoldable pub stepFrom : Shape → Machine → ℕ → Status → Machine
+stepFrom s m k Idle = m
+stepFrom s m k (Busy o n) =
+    let r = step s k o (m .memory) n in
+    let p = processOf m k in
+    withProcess m k (record { status = r .next; begun = p .begun; steps = p .steps + 1 }) (r .memory)
+
+unfoldable pub stepOf : Shape → Machine → ℕ → Machine
+stepOf s m k = stepFrom s m k (processOf m k .status)

@@ -1,0 +1,113 @@
+-- The step rules: what each named step does to the shared memory, and which step comes next.
+use Prim.Native.Nat.{ℕ, _+_, _-_}
+use mathlib.Core.Bool.{Bool, true, false, _&&_, _||_}
+use lib.Dec.{eqb}
+use Rattle.base.specs.Choice.{if_then_else_}
+use Rattle.tree.specs.declared.Block.{Block}
+use Rattle.tree.specs.Shape.{Shape, root, leafOf, parentOf, leftOf, rightOf}
+use Rattle.tree.specs.Blocks.{absent}
+use Rattle.steps.specs.declared.Operation.{Operation}
+use Rattle.steps.specs.declared.Operation.the-variants.{Put, Take}
+use Rattle.steps.specs.declared.Visit.{Visit}
+use Rattle.steps.specs.declared.After.{After}
+use Rattle.steps.specs.declared.After.the-variants.{Right, Ends, Again, Up}
+use Rattle.steps.specs.declared.Built.{Built}
+use Rattle.steps.specs.declared.Step.{Step}
+use Rattle.steps.specs.declared.Step.the-variants.{A, V1, V2, V3, R1, R2, R3, R4, R5, C1, C2, C3, C4, Q}
+use Rattle.steps.specs.declared.Status.{Status}
+use Rattle.steps.specs.declared.Status.the-variants.{Idle, Busy}
+use Rattle.steps.specs.Memory.{Memory, headOf, block, write, writeIfAbsent, setSuper, raise}
+use Rattle.steps.specs.Size.{rootSize}
+
+-- ---- the order of the steps
+
+-- after the last refresh of v: the parent is refreshed, or after the root Q is done
+unfoldable pub above : ℕ → Step
+above v = if eqb v root then Q else R1 (parentOf v) false
+
+-- the first step of what follows an advance
+unfoldable pub resume : After → Visit → Step
+resume Right w = R4 w
+resume Ends w = C1 w
+resume Again w = R1 (w .node) true
+resume Up w = above (w .node)
+
+-- advance (v, h), in a visit: V1, V2, V3; at the root, V3 only
+unfoldable pub advance : Visit → After → ℕ → ℕ → Step
+advance w a v h = if eqb v root then V3 w a v h else V1 w a v h
+
+-- what follows the advance of a refreshed node: a failed first refresh is done a second time; after a first that succeeded, or a second whatever its outcome, go on up
+unfoldable pub afterRefresh : Bool → Bool → After
+afterRefresh second success = if success || second then Up else Again
+
+-- R3 and R5: the child's block at c is looked at; if present, advance (child, c)
+unfoldable pub help : Shape → Memory → Visit → After → ℕ → ℕ → Step
+help s m w a child c = if absent (block s m child c) then resume a w else advance w a child c
+
+-- ---- the blocks that are written
+
+-- A: the totals of block b plus this operation, super 0; a put's value in end left
+unfoldable pub plusOperation : Operation → Block → Block
+plusOperation (Put x) b = record { puts = b .puts + 1; takes = b .takes; superblock = 0; left = x; right = 0; size = 0 }
+plusOperation Take b = record { puts = b .puts; takes = b .takes + 1; superblock = 0; left = 0; right = 0; size = 0 }
+
+-- C3: totals = sums of the children's blocks x and y at the ends l and r; v's block before is old
+unfoldable pub joined : ℕ → Block → Block → Block → ℕ → ℕ → Built
+joined v old x y l r =
+    record {
+      puts = x .puts + y .puts;
+      takes = x .takes + y .takes;
+      left = l;
+      right = r;
+      size = if eqb v root then rootSize old (x .puts + y .puts) (x .takes + y .takes) else 0;
+    }
+
+unfoldable pub built : Shape → Memory → Visit → ℕ → ℕ → Built
+built s m w l r =
+    joined (w .node) (block s m (w .node) (w .head - 1)) (block s m (leftOf (w .node)) l) (block s m (rightOf (w .node)) r) l r
+
+-- whether they equal those of v's block before
+unfoldable pub sameTotals : Built → Block → Bool
+sameTotals n old = eqb (n .puts) (old .puts) && eqb (n .takes) (old .takes)
+
+-- C4: the block, with super 0
+unfoldable pub blockOf : Built → Block
+blockOf n =
+    record { puts = n .puts; takes = n .takes; superblock = 0; left = n .left; right = n .right; size = n .size }
+
+-- ---- the rules
+
+-- what a step leaves: the memory, and where the process then is
+pub record Stepped : Type 0 where
+  pub memory : Memory
+  pub next : Status
+
+-- a step of process k, inside operation o, on memory m: a line a named step
+module _ (s : Shape) (k : ℕ) (o : Operation) (m : Memory) where
+  unfoldable pub go : Memory → Step → Stepped
+  go after n = record { memory = after; next = Busy o n }
+
+  unfoldable pub step : Step → Stepped
+  unfolding go
+  step A =
+      let v = leafOf s k in
+      let h = headOf m v in
+      go (write s m v h (plusOperation o (block s m v (h - 1)))) (advance (record { node = v; second = false; head = h }) Up v h)
+  step (V1 w a v h) = go m (V2 w a v h (headOf m (parentOf v)))
+  step (V2 w a v h x) = go (setSuper s m v h x) (V3 w a v h)
+  step (V3 w a v h) = go (raise m v h) (resume a w)
+  step (R1 v second) = go m (R2 (record { node = v; second = second; head = headOf m v }))
+  step (R2 w) = go m (R3 w (headOf m (leftOf (w .node))))
+  step (R3 w c) = go m (help s m w Right (leftOf (w .node)) c)
+  step (R4 w) = go m (R5 w (headOf m (rightOf (w .node))))
+  step (R5 w c) = go m (help s m w Ends (rightOf (w .node)) c)
+  step (C1 w) = go m (C2 w (headOf m (leftOf (w .node)) - 1))
+  step (C2 w l) = go m (C3 w l (headOf m (rightOf (w .node)) - 1))
+  step (C3 w l r) =
+      let n = built s m w l r in
+      go m (if sameTotals n (block s m (w .node) (w .head - 1)) then above (w .node) else C4 w n)
+  step (C4 w n) =
+      let v = w .node in
+      let h = w .head in
+      go (writeIfAbsent s m v h (blockOf n)) (advance w (afterRefresh (w .second) (absent (block s m v h))) v h)
+  step Q = record { memory = m; next = Idle }

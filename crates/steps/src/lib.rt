@@ -1,0 +1,148 @@
+// Processes and their named steps. This crate knows nothing of records.
+ghost use mathlib.Core.Path.{_≡_};
+ghost use Rattle.steps.specs.Process.{idle, processesAllowed, operationsAllowed};
+
+// What a process is inside of: a put of a value, or a take.
+pub enum Operation {
+    Put(u32),
+    Take,
+}
+
+// Where an operation is on its way from its leaf to the root: the node, whether this is the second refresh of it, and the head h that was read there.
+pub struct Visit {
+    pub node: u32,
+    pub second: bool,
+    pub head: u32,
+}
+
+// What follows an advance: the right half of a refresh's helping (R4), its ends (C1), the second refresh of the node, or the way up: the parent's refresh, or Q after
+// the root.
+pub enum After {
+    Right,
+    Ends,
+    Again,
+    Up,
+}
+
+// What C3 makes for C4 to write: the block's totals, ends and size. Its super is 0.
+pub struct Built {
+    pub puts: u32,
+    pub takes: u32,
+    pub left: u32,
+    pub right: u32,
+    pub size: u32,
+}
+
+// The named steps, each with its own registers. An advance (node, place) keeps the visit that it is part of; `above` is the head of the parent. `child` is the head of a
+// child, `left` and `right` are the ends.
+pub enum Step {
+    A,
+    V1 {
+        visit: Visit,
+        after: After,
+        node: u32,
+        place: u32,
+    },
+    V2 {
+        visit: Visit,
+        after: After,
+        node: u32,
+        place: u32,
+        above: u32,
+    },
+    V3 {
+        visit: Visit,
+        after: After,
+        node: u32,
+        place: u32,
+    },
+    R1 {
+        node: u32,
+        second: bool,
+    },
+    R2 {
+        visit: Visit,
+    },
+    R3 {
+        visit: Visit,
+        child: u32,
+    },
+    R4 {
+        visit: Visit,
+    },
+    R5 {
+        visit: Visit,
+        child: u32,
+    },
+    C1 {
+        visit: Visit,
+    },
+    C2 {
+        visit: Visit,
+        left: u32,
+    },
+    C3 {
+        visit: Visit,
+        left: u32,
+        right: u32,
+    },
+    C4 {
+        visit: Visit,
+        built: Built,
+    },
+    Q,
+}
+
+// A process is idle, or inside an operation at a named step.
+pub enum Status {
+    Idle,
+    Busy(Operation, Step),
+}
+
+// A process, the operations that it has begun, and the own steps of the one that it is inside of.
+pub struct Process {
+    pub status: Status,
+    pub begun: u32,
+    pub steps: u32,
+}
+
+impl Process {
+    // The limits: at most so many processes, and at most so many operations of one.
+    pub const MOST_PROCESSES: u32 = 8;
+
+    pub const MOST_OPERATIONS: u32 = 500;
+
+    // At the start each process is idle, with no operations begun.
+    pub fn start() -> Self
+        ensures { λ r. ⌜ r ≡ idle ⌝ }
+    {
+        Process {
+            status: Status::Idle,
+            begun: 0,
+            steps: 0,
+        }
+    }
+
+    // Whether there may be p processes: 2, 4 or 8.
+    pub fn processes_allowed(p: u32) -> bool
+        ensures { λ r. ⌜ r ≡ processesAllowed p ⌝ }
+    {
+        if p == 2 {
+            return true;
+        }
+        if p == 4 {
+            return true;
+        }
+        p == Process::MOST_PROCESSES
+    }
+
+    // Whether a process may have at most l operations: 1 to 500.
+    pub fn operations_allowed(l: u32) -> bool
+        ensures { λ r. ⌜ r ≡ operationsAllowed l ⌝ }
+    {
+        if l == 0 {
+            return false;
+        }
+        l <= Process::MOST_OPERATIONS
+    }
+}

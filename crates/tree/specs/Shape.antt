@@ -1,0 +1,41 @@
+-- The tree: processes, nodes, heights and places.
+use Prim.Native.Nat.{ℕ, zero, suc, _+_, _*_, _^_, _/_}
+use lib.Dec.{ltb}
+use Rattle.base.specs.Choice.{if_then_else_}
+
+-- the shape of a tree: its height H, and L, the most operations of one process
+pub record Shape : Type 0 where
+  pub height : ℕ
+  pub most : ℕ
+
+-- p, the number of processes: 2 to the power H
+unfoldable pub processes : Shape → ℕ
+processes s = 2 ^ s .height
+
+-- the nodes: the root is 1, the children of v are 2v and 2v + 1, and the leaf of process k is p + k
+unfoldable pub root : ℕ
+root = 1
+
+unfoldable pub leftOf : ℕ → ℕ
+leftOf v = 2 * v
+
+unfoldable pub rightOf : ℕ → ℕ
+rightOf v = 2 * v + 1
+
+unfoldable pub parentOf : ℕ → ℕ
+parentOf v = v / 2
+
+unfoldable pub leafOf : Shape → ℕ → ℕ
+leafOf s k = processes s + k
+
+-- the height of node v in a tree of height H, a leaf's being 0: the nodes above the leaves are those of a tree of height H − 1, one higher
+unfoldable pub heightIn : ℕ → ℕ → ℕ
+heightIn zero v = 0
+heightIn (suc H) v = if ltb v (2 ^ suc H) then suc (heightIn H v) else 0
+
+unfoldable pub heightOf : Shape → ℕ → ℕ
+heightOf s v = heightIn (s .height) v
+
+-- a node of height k has places 0 to L × 2^k
+unfoldable pub lastPlace : Shape → ℕ → ℕ
+lastPlace s v = s .most * 2 ^ heightOf s v
