@@ -1,0 +1,19 @@
+//! Plain version of the queue on an ordering tree: the oracle of comparison tests.
+
+pub mod check;
+pub mod demand3;
+pub mod list;
+pub mod lists;
+pub mod machine;
+pub mod memory;
+pub mod order;
+pub mod plain_queue;
+pub mod print;
+pub mod process;
+pub mod random;
+pub mod records;
+pub mod refusal;
+pub mod run;
+pub mod schedules;
+pub mod steps;
+pub mod tree;

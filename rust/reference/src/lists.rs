@@ -1,0 +1,38 @@
+//! A builder of step record lists.
+
+use crate::records::{Act, Operation, StepRecord};
+
+#[derive(Clone, Default, PartialEq, Eq, Debug)]
+pub struct List {
+    bytes: Vec<u8>,
+}
+
+impl List {
+    pub fn new() -> List {
+        List::default()
+    }
+
+    pub fn record(mut self, process: u32, act: Act) -> List {
+        self.bytes.extend(StepRecord { process, act }.bytes());
+        self
+    }
+
+    pub fn put(self, process: u32, value: u32) -> List {
+        self.record(process, Act::Begin(Operation::Put(value)))
+    }
+
+    pub fn take(self, process: u32) -> List {
+        self.record(process, Act::Begin(Operation::Take))
+    }
+
+    pub fn steps(mut self, process: u32, count: usize) -> List {
+        for _ in 0..count {
+            self = self.record(process, Act::Step);
+        }
+        self
+    }
+
+    pub fn bytes(self) -> Vec<u8> {
+        self.bytes
+    }
+}

@@ -1,0 +1,45 @@
+//! Why a call or a record is turned down, with the paper's numbers.
+
+#[derive(Clone, Copy, PartialEq, Eq, Hash, Debug)]
+pub enum Refusal {
+    /// p is not 2, 4 or 8.
+    ProcessCount,
+    /// L is not 1 to 500.
+    OperationLimit,
+    /// The work table is shorter than the words needed.
+    TableShort,
+    /// The record bytes are not a multiple of 8.
+    RecordsTorn,
+    /// A process not below p, a kind above 2, or a byte that must be zero.
+    IllFormed,
+    /// A begin while the process is not idle.
+    BeginNotIdle,
+    /// A step while the process is idle.
+    StepIdle,
+    /// A begin by a process that has begun L.
+    BegunAll,
+    /// A Q with fewer than 16 answer bytes left.
+    AnswersFull,
+    /// The order list is longer than the output.
+    OutputShort,
+    /// The log bytes are not a multiple of 16.
+    LogTorn,
+}
+
+/// The paper's number; 0 stands for no refusal.
+pub fn number(refusal: Option<Refusal>) -> u32 {
+    match refusal {
+        None => 0,
+        Some(Refusal::ProcessCount) => 1,
+        Some(Refusal::OperationLimit) => 2,
+        Some(Refusal::TableShort) => 3,
+        Some(Refusal::RecordsTorn) => 4,
+        Some(Refusal::IllFormed) => 5,
+        Some(Refusal::BeginNotIdle) => 6,
+        Some(Refusal::StepIdle) => 7,
+        Some(Refusal::BegunAll) => 8,
+        Some(Refusal::AnswersFull) => 9,
+        Some(Refusal::OutputShort) => 10,
+        Some(Refusal::LogTorn) => 11,
+    }
+}

@@ -1,0 +1,188 @@
+//! The step rules: what each named step does and which step follows it.
+
+use crate::memory::Memory;
+use crate::process::{Advance, Attempt, Refresh, Step, Then};
+use crate::records::Operation;
+use crate::tree::{left_child, parent, right_child, Block, ROOT};
+
+/// The first step of an advance; at the root V3 only.
+fn begin_advance(node: u32, place: u32, then: Then) -> Step {
+    let advance = Advance { node, place, then };
+    if node == ROOT {
+        Step::V3 { advance }
+    } else {
+        Step::V1 { advance }
+    }
+}
+
+fn begin_refresh(node: u32, attempt: Attempt) -> Step {
+    let refresh = Refresh { node, attempt };
+    Step::R1 { refresh }
+}
+
+/// A failed first refresh is done again; any other goes on to the parent, or to Q.
+fn end_refresh(refresh: Refresh, success: bool) -> Step {
+    if !success && refresh.attempt == Attempt::First {
+        begin_refresh(refresh.node, Attempt::Second)
+    } else if refresh.node == ROOT {
+        Step::Q
+    } else {
+        begin_refresh(parent(refresh.node), Attempt::First)
+    }
+}
+
+fn end_advance(advance: Advance) -> Step {
+    match advance.then {
+        Then::RefreshParent => begin_refresh(parent(advance.node), Attempt::First),
+        Then::R4 { refresh, h } => Step::R4 { refresh, h },
+        Then::C1 { refresh, h } => Step::C1 { refresh, h },
+        Then::EndRefresh { refresh, success } => end_refresh(refresh, success),
+    }
+}
+
+/// Does one named step other than Q and gives the step that follows it.
+pub fn one_step(memory: &mut Memory, process: u32, operation: Operation, step: Step) -> Step {
+    match step {
+        Step::A => append(memory, process, operation),
+        Step::V1 { advance } => {
+            let parent_head = memory.head(parent(advance.node));
+            Step::V2 {
+                advance,
+                parent_head,
+            }
+        }
+        Step::V2 {
+            advance,
+            parent_head,
+        } => {
+            memory.set_super(advance.node, advance.place, parent_head);
+            Step::V3 { advance }
+        }
+        Step::V3 { advance } => {
+            memory.raise_head(advance.node, advance.place);
+            end_advance(advance)
+        }
+        refreshing => refresh_step(memory, refreshing),
+    }
+}
+
+/// A: the new block in the own leaf at its head.
+fn append(memory: &mut Memory, process: u32, operation: Operation) -> Step {
+    let leaf = memory.tree.shape().leaf(process);
+    let h = memory.head(leaf);
+    let before = memory.tree.block(leaf, h - 1);
+    let (puts, takes, value) = match operation {
+        Operation::Put(value) => (1, 0, value),
+        Operation::Take => (0, 1, 0),
+    };
+    let block = Block {
+        puts: before.puts + puts,
+        takes: before.takes + takes,
+        end_left: value,
+        ..Block::default()
+    };
+    memory.tree.write(leaf, h, block);
+    begin_advance(leaf, h, Then::RefreshParent)
+}
+
+/// R1 to R5 and C1 to C4.
+fn refresh_step(memory: &mut Memory, step: Step) -> Step {
+    match step {
+        Step::R1 { refresh } => {
+            let h = memory.head(refresh.node);
+            Step::R2 { refresh, h }
+        }
+        Step::R2 { refresh, h } => {
+            let c = memory.head(left_child(refresh.node));
+            Step::R3 { refresh, h, c }
+        }
+        Step::R4 { refresh, h } => {
+            let c = memory.head(right_child(refresh.node));
+            Step::R5 { refresh, h, c }
+        }
+        Step::R3 { refresh, h, c } => {
+            help(memory, left_child(refresh.node), c, Then::R4 { refresh, h })
+        }
+        Step::R5 { refresh, h, c } => help(
+            memory,
+            right_child(refresh.node),
+            c,
+            Then::C1 { refresh, h },
+        ),
+        creating => create_step(memory, creating),
+    }
+}
+
+/// R3 and R5: advance the child's block if it is present, else go on at once.
+fn help(memory: &Memory, child: u32, c: u32, then: Then) -> Step {
+    if memory.tree.block(child, c).present() {
+        begin_advance(child, c, then)
+    } else {
+        let (node, place) = (child, c);
+        end_advance(Advance { node, place, then })
+    }
+}
+
+/// C1 to C4.
+fn create_step(memory: &mut Memory, step: Step) -> Step {
+    match step {
+        Step::C1 { refresh, h } => {
+            let end_left = memory.head(left_child(refresh.node)) - 1;
+            Step::C2 {
+                refresh,
+                h,
+                end_left,
+            }
+        }
+        Step::C2 {
+            refresh,
+            h,
+            end_left,
+        } => {
+            let end_right = memory.head(right_child(refresh.node)) - 1;
+            Step::C3 {
+                refresh,
+                h,
+                end_left,
+                end_right,
+            }
+        }
+        Step::C3 {
+            refresh,
+            h,
+            end_left,
+            end_right,
+        } => build(memory, refresh, h, end_left, end_right),
+        Step::C4 { refresh, h, block } => {
+            let node = refresh.node;
+            let success = memory.write_if_absent(node, h, block);
+            begin_advance(node, h, Then::EndRefresh { refresh, success })
+        }
+        other => unreachable!("{other:?} is done elsewhere"),
+    }
+}
+
+/// C3: the block from the children's blocks at the ends; equal totals end the
+/// refresh with success, without C4 and without an advance.
+fn build(memory: &Memory, refresh: Refresh, h: u32, end_left: u32, end_right: u32) -> Step {
+    let node = refresh.node;
+    let left = memory.tree.block(left_child(node), end_left);
+    let right = memory.tree.block(right_child(node), end_right);
+    let before = memory.tree.block(node, h - 1);
+    let (puts, takes) = (left.puts + right.puts, left.takes + right.takes);
+    if (puts, takes) == (before.puts, before.takes) {
+        return end_refresh(refresh, true);
+    }
+    let held =
+        i64::from(before.size) + i64::from(puts - before.puts) - i64::from(takes - before.takes);
+    let size = if node == ROOT { held.max(0) } else { 0 };
+    let block = Block {
+        puts,
+        takes,
+        superblock: 0,
+        end_left,
+        end_right,
+        size: u32::try_from(size).expect("a size is at most all puts"),
+    };
+    Step::C4 { refresh, h, block }
+}

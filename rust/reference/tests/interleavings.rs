@@ -1,0 +1,190 @@
+//! All interleavings of a few operations: demand 3 in every state that can be reached.
+
+use reference::demand3::check;
+use reference::machine::Machine;
+use reference::records::{Act, Answer, Operation, StepRecord};
+use reference::run::play_record;
+use reference::tree::Shape;
+use std::collections::hash_map::DefaultHasher;
+use std::collections::{BTreeSet, HashSet};
+use std::hash::{Hash, Hasher};
+
+/// All that demand 3 can tell apart: two lists with equal states have equal verdicts.
+#[derive(Clone, Hash)]
+struct State {
+    machine: Machine,
+    answers: Vec<Answer>,
+    /// At each begin, its process and the answers so far.
+    begins: Vec<(u32, usize)>,
+}
+
+struct Search {
+    /// For each process, what it begins in turn.
+    operations: Vec<Vec<Operation>>,
+    /// Hashes of the states met.
+    seen: HashSet<u64>,
+    /// The answer logs of the ends.
+    logs: HashSet<Vec<Answer>>,
+    most_steps: u16,
+    /// Demand 3 is checked at every state if set, else at the ends.
+    every_state: bool,
+}
+
+impl Search {
+    fn new(operations: Vec<Vec<Operation>>, every_state: bool) -> Search {
+        Search {
+            operations,
+            seen: HashSet::new(),
+            logs: HashSet::new(),
+            most_steps: 0,
+            every_state,
+        }
+    }
+
+    fn explore(mut self, p: u32, l: u32) -> Search {
+        let start = State {
+            machine: Machine::start(Shape::new(p, l).unwrap()),
+            answers: Vec::new(),
+            begins: Vec::new(),
+        };
+        self.visit(&start, &mut Vec::new());
+        self
+    }
+
+    /// What the process can do next, if anything.
+    fn act(&self, state: &State, process: u32) -> Option<Act> {
+        if !state.machine.idle(process) {
+            return Some(Act::Step);
+        }
+        let begun = state.machine.process(process).begun as usize;
+        let operations = self.operations.get(process as usize)?;
+        operations
+            .get(begun)
+            .map(|&operation| Act::Begin(operation))
+    }
+
+    fn visit(&mut self, state: &State, records: &mut Vec<u8>) {
+        let mut hasher = DefaultHasher::new();
+        state.hash(&mut hasher);
+        if !self.seen.insert(hasher.finish()) {
+            return;
+        }
+        let mut end = true;
+        for process in 0..state.machine.shape().p() {
+            let Some(act) = self.act(state, process) else {
+                continue;
+            };
+            end = false;
+            let record = StepRecord { process, act };
+            records.extend(record.bytes());
+            self.visit(&after(state, record), records);
+            records.truncate(records.len() - 8);
+        }
+        if end {
+            self.logs.insert(state.answers.clone());
+            let most = state.answers.iter().map(|answer| answer.steps).max();
+            self.most_steps = self.most_steps.max(most.unwrap_or(0));
+        }
+        if end || self.every_state {
+            assert_demand3(state, records);
+        }
+    }
+}
+
+fn after(state: &State, record: StepRecord) -> State {
+    let mut next = state.clone();
+    if record.act != Act::Step {
+        next.begins.push((record.process, next.answers.len()));
+    }
+    let answer = play_record(&mut next.machine, record);
+    next.answers.extend(answer);
+    next
+}
+
+fn assert_demand3(state: &State, records: &[u8]) {
+    let shape = state.machine.shape();
+    let mut table = vec![0; shape.words_needed()];
+    state.machine.memory.tree.write_words(&mut table);
+    let answers: Vec<u8> = state
+        .answers
+        .iter()
+        .flat_map(|answer| answer.bytes())
+        .collect();
+    let verdict = check(shape.p(), shape.l(), records, &answers, &table);
+    assert_eq!(verdict, Ok(()), "{records:?}");
+}
+
+const PUT: Operation = Operation::Put(5);
+const OTHER: Operation = Operation::Put(6);
+const TAKE: Operation = Operation::Take;
+
+/// The root blocks of both operations and what the take got, over all end states.
+fn endings(search: &Search) -> BTreeSet<(u32, u32, String)> {
+    let ending = |log: &Vec<Answer>| {
+        let of = |process| log.iter().find(|answer| answer.process == process).unwrap();
+        let (put, take) = (of(0), of(1));
+        (
+            put.root_block,
+            take.root_block,
+            format!("{:?}", take.outcome),
+        )
+    };
+    search.logs.iter().map(ending).collect()
+}
+
+#[test]
+fn one_put_and_one_take_of_two_processes() {
+    let search = Search::new(vec![vec![PUT], vec![TAKE]], true).explore(2, 1);
+    assert!(search.seen.len() > 2000, "{} states", search.seen.len());
+    let expected = [
+        (1, 1, "Value(5)".to_string()),
+        (1, 2, "Value(5)".to_string()),
+        (2, 1, "Nothing".to_string()),
+    ];
+    assert_eq!(endings(&search), BTreeSet::from(expected));
+}
+
+#[test]
+fn other_pairs_of_kinds() {
+    for pair in [[PUT, OTHER], [TAKE, PUT], [TAKE, TAKE]] {
+        let operations = pair.iter().map(|&operation| vec![operation]).collect();
+        let search = Search::new(operations, true).explore(2, 1);
+        assert!(search.seen.len() > 2000, "{} states", search.seen.len());
+    }
+}
+
+#[test]
+fn two_operations_against_one() {
+    for two in [[PUT, TAKE], [TAKE, PUT], [TAKE, TAKE]] {
+        for one in [OTHER, TAKE] {
+            let search = Search::new(vec![two.to_vec(), vec![one]], true).explore(2, 2);
+            assert!(search.seen.len() > 15_000, "{} states", search.seen.len());
+        }
+    }
+}
+
+#[test]
+fn two_operations_against_two() {
+    let operations = vec![vec![PUT, TAKE], vec![OTHER, TAKE]];
+    let search = Search::new(operations, false).explore(2, 2);
+    assert!(search.seen.len() > 400_000, "{} states", search.seen.len());
+    assert!(search.logs.len() > 1000, "{} logs", search.logs.len());
+}
+
+/// A put by process 0 and a take by another process of a larger tree.
+fn assert_distant_pair(p: u32, taker: usize) {
+    let mut operations = vec![Vec::new(); p as usize];
+    operations[0] = vec![PUT];
+    operations[taker] = vec![TAKE];
+    let search = Search::new(operations, true).explore(p, 1);
+    assert!(search.seen.len() > 3000, "{} states", search.seen.len());
+    let limit = 36 * p.ilog2() as u16 + 1;
+    assert!(search.most_steps <= limit);
+}
+
+#[test]
+fn pairs_that_meet_at_each_height() {
+    for (p, taker) in [(4, 1), (4, 2), (8, 2), (8, 4)] {
+        assert_distant_pair(p, taker);
+    }
+}

@@ -1,0 +1,94 @@
+//! The printing program, through its function and as a program.
+
+use reference::lists::List;
+use reference::print::{print_run, L, P, RECORD_BYTES, TABLE_WORDS};
+use reference::tree::Shape;
+use std::io::Write;
+use std::process::{Command, Stdio};
+
+/// What the program prints for this input.
+fn program(input: &[u8]) -> String {
+    let mut child = Command::new(env!("CARGO_BIN_EXE_print_run"))
+        .stdin(Stdio::piped())
+        .stdout(Stdio::piped())
+        .spawn()
+        .expect("the program starts");
+    let mut stdin = child.stdin.take().expect("standard input is a pipe");
+    // The program may end before it has read a long input.
+    let _ = stdin.write_all(input);
+    drop(stdin);
+    let output = child.wait_with_output().expect("the program ends");
+    assert!(output.status.success());
+    String::from_utf8(output.stdout).expect("the print is text")
+}
+
+fn assert_print(input: &[u8], print: &str) {
+    assert_eq!(print_run(input), print);
+    assert_eq!(program(input), print);
+}
+
+fn worked() -> List {
+    List::new().put(0, 7).steps(0, 27).take(1).steps(1, 27)
+}
+
+#[test]
+fn worked_print() {
+    assert_print(
+        &worked().bytes(),
+        "put 0 1 27 1\ntake 1 1 27 2 7\nend 0 56\n",
+    );
+}
+
+#[test]
+fn a_take_of_nothing_and_a_large_value() {
+    let list = List::new()
+        .take(3)
+        .steps(3, 27)
+        .put(3, u32::MAX)
+        .steps(3, 27);
+    let list = list.take(0).steps(0, 27).bytes();
+    let print = "take 3 1 27 1 none\nput 3 2 27 2\ntake 0 1 27 3 4294967295\nend 0 84\n";
+    assert_print(&list, print);
+}
+
+#[test]
+fn refusals_end_the_print() {
+    assert_print(&[], "end 0 0\n");
+    assert_print(&[0; 7], "end 4 0\n");
+    assert_print(
+        &worked().steps(1, 1).bytes(),
+        "put 0 1 27 1\ntake 1 1 27 2 7\nend 7 56\n",
+    );
+    assert_print(&List::new().put(4, 0).bytes(), "end 5 0\n");
+    assert_print(&List::new().put(1, 0).put(1, 0).bytes(), "end 6 1\n");
+}
+
+#[test]
+fn all_operations_have_room() {
+    let mut list = List::new();
+    for operation in 0..P * L {
+        list = list.put(operation % P, operation).steps(operation % P, 27);
+    }
+    let list = list.bytes();
+    let print = print_run(&list);
+    assert_eq!(print.lines().count(), 97);
+    assert!(print.ends_with("put 3 24 27 96\nend 0 2688\n"));
+    let one_more = [list, List::new().put(0, 0).bytes()].concat();
+    assert!(print_run(&one_more).ends_with("put 3 24 27 96\nend 8 2688\n"));
+}
+
+#[test]
+fn input_as_long_as_the_buffer_and_longer() {
+    let mut list = worked().bytes();
+    list.resize(RECORD_BYTES, 0);
+    assert_print(&list, "put 0 1 27 1\ntake 1 1 27 2 7\nend 7 56\n");
+    list.push(0);
+    assert_print(&list, "long\n");
+    list.resize(4 * RECORD_BYTES, 0);
+    assert_print(&list, "long\n");
+}
+
+#[test]
+fn the_table_has_the_words_needed() {
+    assert_eq!(Shape::new(P, L).unwrap().words_needed(), TABLE_WORDS);
+}

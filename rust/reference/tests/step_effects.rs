@@ -1,0 +1,144 @@
+//! Each step alone: what it changes in the memory and what it reads into registers.
+
+use reference::machine::Machine;
+use reference::process::{Step, STEP_NAMES};
+use reference::records::{Act, Operation, StepRecord};
+use reference::run::play_record;
+use reference::schedules::{schedule, Ending, Pace, Plan};
+use reference::tree::{left_child, parent, right_child, Block, Shape, ROOT};
+
+/// A block that is not what it was: node, place, and what stands there now.
+type BlockChange = (u32, u32, Block);
+/// A head that is not what it was: node and the head now.
+type HeadChange = (u32, u32);
+
+fn changes(before: &Machine, after: &Machine) -> (Vec<BlockChange>, Vec<HeadChange>) {
+    let (mut blocks, mut heads) = (Vec::new(), Vec::new());
+    let shape = before.shape();
+    for node in ROOT..=shape.last_node() {
+        for place in 0..=shape.last_place(node) {
+            let now = after.memory.tree.block(node, place);
+            if before.memory.tree.block(node, place) != now {
+                blocks.push((node, place, now));
+            }
+        }
+        if before.memory.head(node) != after.memory.head(node) {
+            heads.push((node, after.memory.head(node)));
+        }
+    }
+    (blocks, heads)
+}
+
+/// The block that A writes, with its node and place.
+fn appended(before: &Machine, process: u32, operation: Operation) -> BlockChange {
+    let leaf = before.shape().leaf(process);
+    let head = before.memory.head(leaf);
+    let last = before.memory.tree.block(leaf, head - 1);
+    let words = match operation {
+        Operation::Put(value) => [last.puts + 1, last.takes, 0, value, 0, 0],
+        Operation::Take => [last.puts, last.takes + 1, 0, 0, 0, 0],
+    };
+    (leaf, head, Block::from_words(&words))
+}
+
+/// What the step must change.
+fn expected(
+    before: &Machine,
+    process: u32,
+    operation: Operation,
+    step: Step,
+) -> (Vec<BlockChange>, Vec<HeadChange>) {
+    let (tree, none) = (&before.memory.tree, (Vec::new(), Vec::new()));
+    match step {
+        Step::A => (vec![appended(before, process, operation)], Vec::new()),
+        Step::V2 {
+            advance,
+            parent_head,
+        } => {
+            let mut block = tree.block(advance.node, advance.place);
+            if block.superblock != 0 {
+                return none;
+            }
+            block.superblock = parent_head;
+            (vec![(advance.node, advance.place, block)], Vec::new())
+        }
+        Step::V3 { advance } if before.memory.head(advance.node) == advance.place => {
+            (Vec::new(), vec![(advance.node, advance.place + 1)])
+        }
+        Step::C4 { refresh, h, block } if !tree.block(refresh.node, h).present() => {
+            (vec![(refresh.node, h, block)], Vec::new())
+        }
+        _ => none,
+    }
+}
+
+/// What the step must have read into a register, and what is there.
+fn read(before: &Machine, step: Step, next: Step) -> Option<(u32, u32)> {
+    let head = |node| before.memory.head(node);
+    Some(match (step, next) {
+        (Step::V1 { advance }, Step::V2 { parent_head, .. }) => {
+            (head(parent(advance.node)), parent_head)
+        }
+        (Step::R1 { refresh }, Step::R2 { h, .. }) => (head(refresh.node), h),
+        (Step::R2 { refresh, .. }, Step::R3 { c, .. }) => (head(left_child(refresh.node)), c),
+        (Step::R4 { refresh, .. }, Step::R5 { c, .. }) => (head(right_child(refresh.node)), c),
+        (Step::C1 { refresh, .. }, Step::C2 { end_left, .. }) => {
+            (head(left_child(refresh.node)), end_left + 1)
+        }
+        (Step::C2 { refresh, .. }, Step::C3 { end_right, .. }) => {
+            (head(right_child(refresh.node)), end_right + 1)
+        }
+        _ => return None,
+    })
+}
+
+/// One record: its effect on the memory, its reads, and nothing in other processes.
+fn assert_effect(before: &Machine, after: &Machine, operation: Operation, record: StepRecord) {
+    let process = record.process;
+    for other in (0..before.shape().p()).filter(|&other| other != process) {
+        assert_eq!(before.process(other), after.process(other));
+    }
+    let Some(step) = before.next_step(process) else {
+        assert_eq!(before.memory, after.memory);
+        return;
+    };
+    let effect = expected(before, process, operation, step);
+    assert_eq!(changes(before, after), effect, "{step:?}");
+    if let Some((head, register)) = after.next_step(process).and_then(|n| read(before, step, n)) {
+        assert_eq!(register, head, "{step:?}");
+    }
+}
+
+fn assert_effects(plan: &Plan) {
+    let mut machine = Machine::start(Shape::new(plan.p, plan.l).unwrap());
+    let mut operations = vec![Operation::Take; plan.p as usize];
+    for bytes in schedule(plan).chunks_exact(8) {
+        let record = StepRecord::read(bytes, plan.p).unwrap();
+        if let Act::Begin(operation) = record.act {
+            operations[record.process as usize] = operation;
+        }
+        let before = machine.clone();
+        play_record(&mut machine, record);
+        assert_effect(
+            &before,
+            &machine,
+            operations[record.process as usize],
+            record,
+        );
+    }
+}
+
+#[test]
+fn every_step_of_mixed_lists() {
+    for p in [2, 4, 8] {
+        for seed in 0..6 {
+            assert_effects(&Plan::new(p, 3, Pace::Uniform, seed));
+            for step in STEP_NAMES {
+                let after = seed % 2 == 0;
+                let plan = Plan::new(p, 3, Pace::Stalls { step, after }, seed);
+                assert_effects(&plan.ending(Ending::Abandoned));
+                assert_effects(&plan);
+            }
+        }
+    }
+}
