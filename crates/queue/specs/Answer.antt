@@ -1,4 +1,4 @@
--- The answer of an operation, at its Q. With the root's size (steps, Size) this is what makes the tree a queue.
+-- The answer of an operation, at its Q. With the root's size (tree, Size) this is what makes the tree a queue.
 use Prim.Native.Nat.{ℕ, _+_, _-_}
 use mathlib.Core.List.{List, [], _∷_}
 use lib.ListN.{getD}

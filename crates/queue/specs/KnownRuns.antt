@@ -13,7 +13,7 @@ use Rattle.record.specs.AnswerRecords.{logBytes}
 use Rattle.tree.specs.declared.Kind.the-variants.{Puts, Takes}
 use Rattle.tree.specs.Shape.{Shape, leafOf}
 use Rattle.tree.specs.Order.{OpId, inRoot}
-use Rattle.steps.specs.Memory.{Memory, headOf}
+use Rattle.tree.specs.Memory.{Memory, headOf}
 use Rattle.queue.specs.Answer.{margin}
 use Rattle.queue.specs.Refusals.{refusalNumber, shapeFor}
 use Rattle.queue.specs.Run.{RunLeaves, play, run}

@@ -1,10 +1,8 @@
 -- One name for all definitions of this crate, for proofs by computation: what unfolds it unfolds them.
 use Rattle.steps.specs.Process.{idle, processesAllowed, operationsAllowed}
-use Rattle.steps.specs.Memory.{headOf, block, write, writeIfAbsent, withSuper, setSuper, raise}
-use Rattle.steps.specs.Size.{rootSize}
 use Rattle.steps.specs.Rules.{above, resume, advance, afterRefresh, help, plusOperation, joined, built, sameTotals, blockOf, go, step}
 use Rattle.steps.specs.Machine.{start, processOf, withProcess, isIdle, isQ, atQ, begin, stepFrom, stepOf}
 
 unfoldable pub stepRules : Unit {0}
-unfolding idle processesAllowed operationsAllowed headOf block write writeIfAbsent withSuper setSuper raise rootSize above resume advance afterRefresh help plusOperation joined built sameTotals blockOf go step start processOf withProcess isIdle isQ atQ begin stepFrom stepOf
+unfolding idle processesAllowed operationsAllowed above resume advance afterRefresh help plusOperation joined built sameTotals blockOf go step start processOf withProcess isIdle isQ atQ begin stepFrom stepOf
 stepRules = tt

@@ -12,7 +12,7 @@ use Rattle.steps.specs.declared.Status.{Status}
 use Rattle.steps.specs.declared.Status.the-variants.{Idle, Busy}
 use Rattle.steps.specs.declared.Process.{Process}
 use Rattle.steps.specs.Process.{idle}
-use Rattle.steps.specs.Memory.{Memory}
+use Rattle.tree.specs.Memory.{Memory}
 use Rattle.steps.specs.Rules.{step}
 
 pub record Machine : Type 0 where

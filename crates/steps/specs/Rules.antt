@@ -16,8 +16,8 @@ use Rattle.steps.specs.declared.Step.{Step}
 use Rattle.steps.specs.declared.Step.the-variants.{A, V1, V2, V3, R1, R2, R3, R4, R5, C1, C2, C3, C4, Q}
 use Rattle.steps.specs.declared.Status.{Status}
 use Rattle.steps.specs.declared.Status.the-variants.{Idle, Busy}
-use Rattle.steps.specs.Memory.{Memory, headOf, block, write, writeIfAbsent, setSuper, raise}
-use Rattle.steps.specs.Size.{rootSize}
+use Rattle.tree.specs.Memory.{Memory, headOf, block, write, writeIfAbsent, setSuper, raise}
+use Rattle.tree.specs.Size.{rootSize}
 
 -- ---- the order of the steps
 
