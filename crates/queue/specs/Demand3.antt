@@ -12,15 +12,11 @@ use Rattle.record.specs.declared.AnswerRecord.{AnswerRecord}
 use Rattle.record.specs.AnswerRecords.{logBytes}
 use Rattle.tree.specs.Shape.{Shape, root}
 use Rattle.tree.specs.Blocks.{blockAt}
-use Rattle.tree.specs.Order.{OpId, Placed, lastRoot, rootOrder}
+use Rattle.tree.specs.Order.{OpId, lastRoot, rootOperations}
 use Rattle.tree.specs.Standing.{same, times, standsIn, rootBlockOf}
 use Rattle.queue.specs.Refusals.{shapeFor}
 use Rattle.queue.specs.PlainQueue.{fed, answers}
 use Rattle.queue.specs.History.{Event, opens, moves, finishes, history, isOpened, isFinished, finishedBefore, ownSteps, does}
-
--- the operations in root order
-unfoldable pub rootOperations : Shape → List ℕ → List OpId
-rootOperations s t = map (λ (x : Placed). x .op) (rootOrder s t)
 
 -- the plain queue after it was fed some operations, each with the kind and value of its begin record
 unfoldable pub queueAfter : List Event → List ℕ → List OpId → List ℕ

@@ -61,6 +61,10 @@ blockOrder s t b = map (placed Puts b) (inRoot s t Puts b) ++ map (placed Takes 
 unfoldable pub rootOrder : Shape → List ℕ → List Placed
 rootOrder s t = flatMap (blockOrder s t) (between 0 (lastRoot s t))
 
+-- the operations in root order
+unfoldable pub rootOperations : Shape → List ℕ → List OpId
+rootOperations s t = map (λ (x : Placed). x .op) (rootOrder s t)
+
 -- the puts in root order
 unfoldable pub rootPuts : Shape → List ℕ → List OpId
 rootPuts s t = flatMap (inRoot s t Puts) (between 0 (lastRoot s t))

@@ -1,0 +1,11 @@
+pub mod Parts
+pub mod BlockWrites
+pub mod Heights
+pub mod Sizes
+pub mod Nodes
+pub mod Writes
+pub mod Presence
+pub mod Sound
+pub mod Growth
+pub mod Ancestors
+pub mod Reach
