@@ -1,6 +1,6 @@
 -- Proofs by cases on a test.
-use mathlib.Core.Path.{_≡_, refl}
-use mathlib.Core.Bool.{Bool, true, false, not, _&&_, _||_, true≢false, false≢true}
+use mathlib.Core.Path.{_≡_, refl, sym, _∙_}
+use mathlib.Core.Bool.{Bool, true, false, _&&_, _||_, true≢false, false≢true}
 use Rattle.base.specs.Choice.{if_then_else_}
 
 -- what holds of both choices holds of the choice
@@ -21,10 +21,6 @@ pub or-false : (a b : Bool) → a || b ≡ false → (a ≡ false) × (b ≡ fal
 or-false true b h = absurd (true≢false h)
 or-false false b h = (refl, h)
 
-pub not-true : (a : Bool) → not a ≡ true → a ≡ false
-not-true true h = absurd (false≢true h)
-not-true false h = refl
-
-pub not-false : (a : Bool) → not a ≡ false → a ≡ true
-not-false true h = refl
-not-false false h = absurd (true≢false h)
+-- a test that is both true and false
+pub contradiction : {A : Type 0} (b : Bool) → b ≡ true → b ≡ false → A
+contradiction b t f = absurd (true≢false (sym t ∙ f))

@@ -1,3 +1,4 @@
 pub mod Cases
+pub mod All
 pub mod Splice
 pub mod Stores

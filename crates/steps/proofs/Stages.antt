@@ -1,0 +1,115 @@
+-- The stage of an operation that a step is in, with what the process holds there. Used by proofs; no promise cites it.
+use Prim.Native.Nat.{ℕ, _-_}
+use mathlib.Core.Path.{_≡_, refl}
+use mathlib.Core.Bool.{Bool, true, false}
+use lib.Dec.{eqb}
+use Rattle.base.specs.Choice.{if_then_else_}
+use Rattle.base.proofs.Cases.{both}
+use Rattle.tree.specs.Shape.{root, parentOf}
+use Rattle.tree.proofs.Nodes.{Side, onLeft, onRight}
+use Rattle.steps.specs.declared.Visit.{Visit}
+use Rattle.steps.specs.declared.After.{After}
+use Rattle.steps.specs.declared.After.the-variants.{Right, Ends, Again, Up}
+use Rattle.steps.specs.declared.Built.{Built}
+use Rattle.steps.specs.declared.Step.{Step}
+use Rattle.steps.specs.declared.Step.the-variants.{A, V1, V2, V3, R1, R2, R3, R4, R5, C1, C2, C3, C4, Q}
+use Rattle.steps.specs.declared.Status.{Status}
+use Rattle.steps.specs.declared.Status.the-variants.{Idle, Busy}
+use Rattle.steps.specs.Rules.{above, resume, advance}
+
+-- the ends in hand: none, the left one, both, or the block made of them
+pub data Hand : Type 0 where
+  none : Hand
+  one : ℕ → Hand
+  two : ℕ → ℕ → Hand
+  made : Built → Hand
+
+pub data Stage : Type 0 where
+  resting : Stage
+  adding : Stage
+  advancing : Visit → After → ℕ → ℕ → Stage
+  starting : ℕ → Bool → Stage
+  building : Visit → Hand → Stage
+  answering : Stage
+
+abbrev pub stage : Step → Stage
+stage A = adding
+stage (V1 w a v h) = advancing w a v h
+stage (V2 w a v h x) = advancing w a v h
+stage (V3 w a v h) = advancing w a v h
+stage (R1 v second) = starting v second
+stage (R2 w) = building w none
+stage (R3 w c) = building w none
+stage (R4 w) = building w none
+stage (R5 w c) = building w none
+stage (C1 w) = building w none
+stage (C2 w l) = building w (one l)
+stage (C3 w l r) = building w (two l r)
+stage (C4 w n) = building w (made n)
+stage Q = answering
+
+abbrev pub stageOf : Status → Stage
+stageOf Idle = resting
+stageOf (Busy o n) = stage n
+
+-- the stage after the last refresh of v, and after an advance
+abbrev pub aboveStage : ℕ → Stage
+aboveStage v = if eqb v root then answering else starting (parentOf v) false
+
+abbrev pub afterStage : After → Visit → Stage
+afterStage Right w = building w none
+afterStage Ends w = building w none
+afterStage Again w = starting (w .node) true
+afterStage Up w = aboveStage (w .node)
+
+pub stage-above : (v : ℕ) → stage (above v) ≡ aboveStage v
+unfolding above
+stage-above v = on (eqb v root)
+  where
+    on : (b : Bool) → stage (if b then Q else R1 (parentOf v) false) ≡ (if b then answering else starting (parentOf v) false)
+    on true = refl
+    on false = refl
+
+pub stage-resume : (a : After) (w : Visit) → stage (resume a w) ≡ afterStage a w
+unfolding resume
+stage-resume Right w = refl
+stage-resume Ends w = refl
+stage-resume Again w = refl
+stage-resume Up w = stage-above (w .node)
+
+pub stage-advance : (w : Visit) (a : After) (v h : ℕ) → stage (advance w a v h) ≡ advancing w a v h
+unfolding advance
+stage-advance w a v h = both (λ (n : Step). stage n ≡ advancing w a v h) (eqb v root) refl refl
+
+-- what is in hand has end e on a side
+abbrev pub HasEnd : Side → Hand → ℕ → Type 0
+HasEnd onLeft none e = ⊥
+HasEnd onLeft (one l) e = l ≡ e
+HasEnd onLeft (two l r) e = l ≡ e
+HasEnd onLeft (made n) e = n .left ≡ e
+HasEnd onRight none e = ⊥
+HasEnd onRight (one l) e = ⊥
+HasEnd onRight (two l r) e = r ≡ e
+HasEnd onRight (made n) e = n .right ≡ e
+
+pub none-empty : (d : Side) (e : ℕ) → HasEnd d none e → ⊥
+none-empty onLeft e w = w
+none-empty onRight e w = w
+
+-- a process in that stage refreshes node u with head h, and has end e in hand on a side
+abbrev pub Holds : Side → Stage → ℕ → ℕ → ℕ → Type 0
+Holds d resting u h e = ⊥
+Holds d adding u h e = ⊥
+Holds d (advancing w a v i) u h e = ⊥
+Holds d (starting v second) u h e = ⊥
+Holds d (building w x) u h e = (w .node ≡ u) × (w .head ≡ h) × HasEnd d x e
+Holds d answering u h e = ⊥
+
+pub after-empty : (a : After) (w : Visit) (d : Side) (u h e : ℕ) → Holds d (afterStage a w) u h e → ⊥
+after-empty Right w d u h e p = none-empty d e (p .2)
+after-empty Ends w d u h e p = none-empty d e (p .2)
+after-empty Again w d u h e p = p
+after-empty Up w d u h e p = above-empty (w .node) p
+  where
+    above-empty : (v : ℕ) → Holds d (aboveStage v) u h e → ⊥
+    above-empty v = both (λ (x : Stage). Holds d x u h e → ⊥) (eqb v root) (λ q. q) (λ q. q)

@@ -1,0 +1,97 @@
+-- Every step is one of thirteen turns: what it does to the memory and to the stage. This is where the named steps are read off the rules; the laws above go by turns. Used by
+-- proofs; no promise cites it.
+use Prim.Native.Nat.{ℕ, _-_}
+use mathlib.Core.Path.{_≡_, refl, sym}
+use mathlib.Core.Bool.{Bool, true, false}
+use mathlib.Core.List.{List}
+use Rattle.base.specs.Choice.{if_then_else_}
+use Rattle.base.proofs.Cases.{cases}
+use Rattle.tree.specs.declared.Block.{Block}
+use Rattle.tree.specs.Shape.{Shape, leafOf, leftOf, rightOf}
+use Rattle.tree.specs.Blocks.{absent}
+use Rattle.tree.specs.Memory.{Memory, headOf, block, write, writeIfAbsent, setSuper, raise}
+use Rattle.tree.proofs.Nodes.{Side, onLeft, onRight, childOf}
+use Rattle.steps.specs.declared.Operation.{Operation}
+use Rattle.steps.specs.declared.Visit.{Visit}
+use Rattle.steps.specs.declared.After.{After}
+use Rattle.steps.specs.declared.After.the-variants.{Right, Ends, Again, Up}
+use Rattle.steps.specs.declared.Built.{Built}
+use Rattle.steps.specs.declared.Step.{Step}
+use Rattle.steps.specs.declared.Step.the-variants.{A, V1, V2, V3, R1, R2, R3, R4, R5, C1, C2, C3, C4, Q}
+use Rattle.steps.specs.declared.Status.the-variants.{Idle, Busy}
+use Rattle.steps.specs.Rules.{resume, advance, above, afterRefresh, help, plusOperation, built, sameTotals, blockOf, go, step}
+use Rattle.steps.proofs.Stages.{Hand, none, one, two, made, Stage, resting, adding, advancing, starting, building, answering, stage, stageOf, aboveStage, afterStage, stage-above, stage-resume, stage-advance}
+
+-- what follows a help on a side
+abbrev pub afterHelp : Side → After
+afterHelp onLeft = Right
+afterHelp onRight = Ends
+
+-- a turn of process k, inside operation o, on memory m: the stage before it, the memory after it, the stage after it
+pub data Turn (s : Shape) (k : ℕ) (o : Operation) (m : Memory) : Stage → Memory → Stage → Type 0 where
+  -- V1, R2, R4; R3 and R5 that find no block
+  rests : (x : Stage) → Turn s k o m x m x
+  -- A
+  adds : Turn s k o m adding
+      (write s m (leafOf s k) (headOf m (leafOf s k)) (plusOperation o (block s m (leafOf s k) (headOf m (leafOf s k) - 1))))
+      (advancing (record { node = leafOf s k; second = false; head = headOf m (leafOf s k) }) Up (leafOf s k) (headOf m (leafOf s k)))
+  -- V2
+  supers : (w : Visit) (a : After) (v h x : ℕ) → Turn s k o m (advancing w a v h) (setSuper s m v h x) (advancing w a v h)
+  -- V3
+  raises : (w : Visit) (a : After) (v h : ℕ) → Turn s k o m (advancing w a v h) (raise m v h) (afterStage a w)
+  -- R1
+  starts : (v : ℕ) (q : Bool) → Turn s k o m (starting v q) m (building (record { node = v; second = q; head = headOf m v }) none)
+  -- R3 and R5 that find a block
+  helps : (w : Visit) (d : Side) (c : ℕ) → absent (block s m (childOf d (w .node)) c) ≡ false
+      → Turn s k o m (building w none) m (advancing w (afterHelp d) (childOf d (w .node)) c)
+  -- C1, C2
+  endsLeft : (w : Visit) → Turn s k o m (building w none) m (building w (one (headOf m (leftOf (w .node)) - 1)))
+  endsRight : (w : Visit) (l : ℕ) → Turn s k o m (building w (one l)) m (building w (two l (headOf m (rightOf (w .node)) - 1)))
+  -- C3: other totals, or equal ones
+  makes : (w : Visit) (l r : ℕ) → sameTotals (built s m w l r) (block s m (w .node) (w .head - 1)) ≡ false
+      → Turn s k o m (building w (two l r)) m (building w (made (built s m w l r)))
+  finds : (w : Visit) (l r : ℕ) → sameTotals (built s m w l r) (block s m (w .node) (w .head - 1)) ≡ true
+      → Turn s k o m (building w (two l r)) m (aboveStage (w .node))
+  -- C4: the place is absent, or taken
+  writes : (w : Visit) (n : Built) → absent (block s m (w .node) (w .head)) ≡ true
+      → Turn s k o m (building w (made n)) (write s m (w .node) (w .head) (blockOf n)) (advancing w (afterRefresh (w .second) true) (w .node) (w .head))
+  meets : (w : Visit) (n : Built) → absent (block s m (w .node) (w .head)) ≡ false
+      → Turn s k o m (building w (made n)) m (advancing w (afterRefresh (w .second) false) (w .node) (w .head))
+  -- Q
+  finishes : Turn s k o m answering m resting
+
+module _ (s : Shape) (k : ℕ) (o : Operation) (m : Memory) where
+  help-turn : (w : Visit) (d : Side) (c : ℕ) → stage (resume (afterHelp d) w) ≡ building w none
+      → Turn s k o m (building w none) m (stage (help s m w (afterHelp d) (childOf d (w .node)) c))
+  unfolding help
+  help-turn w d c e =
+      cases (λ (n : Step). Turn s k o m (building w none) m (stage n)) (absent (block s m (childOf d (w .node)) c))
+      (λ f. rw e (rests (building w none)))
+      (λ f. rw (stage-advance w (afterHelp d) (childOf d (w .node)) c) (helps w d c f))
+
+  write-turn : (w : Visit) (n : Built) (b : Bool) → absent (block s m (w .node) (w .head)) ≡ b
+      → Turn s k o m (building w (made n)) (writeIfAbsent s m (w .node) (w .head) (blockOf n)) (advancing w (afterRefresh (w .second) b) (w .node) (w .head))
+  unfolding writeIfAbsent write
+  write-turn w n true e = rw e (writes w n e)
+  write-turn w n false e = rw e (meets w n e)
+
+  pub turn : (n : Step) → Turn s k o m (stage n) (step s k o m n .memory) (stageOf (step s k o m n .next))
+  unfolding step go
+  turn A = rw (stage-advance _ Up (leafOf s k) (headOf m (leafOf s k))) adds
+  turn (V1 w a v h) = rests (advancing w a v h)
+  turn (V2 w a v h x) = supers w a v h x
+  turn (V3 w a v h) = rw (stage-resume a w) (raises w a v h)
+  turn (R1 v q) = starts v q
+  turn (R2 w) = rests (building w none)
+  turn (R3 w c) = help-turn w onLeft c (stage-resume Right w)
+  turn (R4 w) = rests (building w none)
+  turn (R5 w c) = help-turn w onRight c (stage-resume Ends w)
+  turn (C1 w) = endsLeft w
+  turn (C2 w l) = endsRight w l
+  turn (C3 w l r) =
+      cases (λ (n : Step). Turn s k o m (building w (two l r)) m (stage n)) (sameTotals (built s m w l r) (block s m (w .node) (w .head - 1)))
+      (λ e. rw (stage-above (w .node)) (finds w l r e)) (λ e. makes w l r e)
+  turn (C4 w n) =
+      rw (stage-advance w (afterRefresh (w .second) (absent (block s m (w .node) (w .head)))) (w .node) (w .head))
+      (write-turn w n (absent (block s m (w .node) (w .head))) refl)
+  turn Q = finishes
