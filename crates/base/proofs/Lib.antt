@@ -2,3 +2,4 @@ pub mod Cases
 pub mod All
 pub mod Splice
 pub mod Stores
+pub mod Gather

@@ -19,7 +19,7 @@ use Rattle.steps.specs.declared.Operation.the-variants.{Put, Take}
 use Rattle.queue.specs.PlainQueue.{fed, answers}
 use Rattle.queue.specs.History.{Event, does}
 use Rattle.queue.specs.Demand3.{queueAfter, queueAnswer}
-use Rattle.queue.proofs.Operations.{same-eq}
+use Rattle.tree.proofs.Names.{same-eq}
 
 fed-take : (q : List ℕ) → fed Take q ≡ drop 1 q
 unfolding fed

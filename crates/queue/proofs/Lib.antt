@@ -2,5 +2,4 @@ pub mod Legal
 pub mod Histories
 pub mod Played
 pub mod Prefixes
-pub mod Operations
 pub mod Feeding

@@ -1,2 +1,11 @@
 pub mod Stages
 pub mod Turns
+pub mod Progress
+pub mod Others
+pub mod Builds
+pub mod Effects
+pub mod Costs
+pub mod Leaf
+pub mod OwnTurn
+pub mod WayTurn
+pub mod Invariant

@@ -9,3 +9,15 @@ pub mod Sound
 pub mod Growth
 pub mod Ancestors
 pub mod Reach
+pub mod Cleared
+pub mod Later
+pub mod Levels
+pub mod Opening
+pub mod Names
+pub mod Counting
+pub mod LastRoot
+pub mod Operations
+pub mod Reached
+pub mod Once
+pub mod RootBlock
+pub mod OrderGrows

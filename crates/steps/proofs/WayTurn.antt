@@ -1,0 +1,154 @@
+-- How far an operation has come after any turn of its own process. The second C4 is where two refreshes are seen to be enough: the block that was written there first reaches
+-- the operation too.
+use Prim.Native.Nat.{ℕ, suc, _+_, _-_, _≤_, _<_}
+use native.Mathlib.Omega.{arith}
+use mathlib.Core.Path.{_≡_, refl, ap, sym, _∙_, subst}
+use mathlib.Core.Logic.{_≢_, inl, inr}
+use mathlib.Core.Bool.{Bool, true, false}
+use Rattle.tree.specs.declared.Block.{Block}
+use Rattle.tree.specs.Shape.{Shape, processes, leafOf, lastPlace}
+use Rattle.tree.specs.Blocks.{absent}
+use Rattle.tree.specs.Memory.{Memory, headOf, block, write, raise}
+use Rattle.tree.proofs.Nodes.{Node, Inner, Side, childOf, endOf, onLeft, onRight, child-node, inner-node, leaf-node}
+use Rattle.tree.proofs.Heights.{leaf-places}
+use Rattle.tree.proofs.Presence.{count, Present, present-count}
+use Rattle.tree.proofs.Sound.{Sound, below-head, present-low, place-count}
+use Rattle.tree.proofs.Growth.{present-stays}
+use Rattle.tree.proofs.Writes.{Sized, write-here, raise-past}
+use Rattle.tree.proofs.Ancestors.{ancestor, sideAt, child-at, ancestor-node, ancestor-inner}
+use Rattle.tree.proofs.Reach.{reach, reach-zero, reach-suc}
+use Rattle.steps.specs.declared.Operation.{Operation}
+use Rattle.steps.specs.declared.Visit.{Visit}
+use Rattle.steps.specs.declared.After.{After}
+use Rattle.steps.specs.declared.After.the-variants.{Right, Ends, Again, Up}
+use Rattle.steps.specs.declared.Built.{Built}
+use Rattle.steps.specs.Rules.{afterRefresh, plusOperation, blockOf}
+use Rattle.steps.proofs.Stages.{Hand, none, made, Stage, resting, adding, advancing, starting, building, answering, afterStage, HasEnd, Holds, none-empty}
+use Rattle.steps.proofs.Turns.{Turn, afterHelp, rests, adds, supers, raises, starts, helps, endsLeft, endsRight, makes, finds, writes, meets, finishes}
+use Rattle.steps.proofs.Progress.{LeafOpen, OwnLeaf, Threshold, Refreshing, Passing, Failed, AfterAdvance, Advancing, Building, Way}
+use Rattle.steps.proofs.Others.{Effect, Registers, hand-below, reached, covered-stable, owed-stable, refreshing-stable, after-stable, way-stable, sound'}
+use Rattle.steps.proofs.Effects.{plus-one, made-has, build-fresh}
+use Rattle.steps.proofs.OwnTurn.{resumed, started, read-left, read-right, made-block, nothing-new}
+
+module _ (s : Shape) (m : Memory) (sized : Sized s m) (sound : Sound s m) (hold hold' : ℕ → Stage) (k : ℕ) (kp : k < processes s) (o : Operation)
+    (others : (r : ℕ) → r ≢ k → hold' r ≡ hold r) (regs : Registers s m hold) (b : ℕ) (bm : b ≤ s .most)
+  where
+    refresh-inner : (w : Visit) → Refreshing s m hold k b w → Inner s (w .node)
+    refresh-inner w r = rw (r .node) (ancestor-inner s k kp (r .level) (r .low))
+
+    -- ---- after C4
+    module _ (n : Memory) (eff : Effect s k o m (hold k) n (hold' k)) (w : Visit) (c : Built) (p : Building s m hold k b w (made c)) where
+      abbrev re : Refreshing s m hold k b w
+      re = p .refreshing
+
+      -- the block just written has an own end in hand
+      wrote-it : block s n (w .node) (w .head) ≡ blockOf c → b ≤ reach s n k (suc (re .level)) (w .head)
+      wrote-it put =
+          let d : Side = sideAt s k (re .level) in
+          let e : ℕ = endOf d (blockOf c) in
+          let y : e < headOf m (ancestor s k (re .level)) =
+          subst (λ (u : ℕ). e < headOf m u) (ap (λ (u : ℕ). childOf d u) (re .node) ∙ child-at s k (re .level)) (hand-below s m w d e (made c) (p .hand) (made-has c d)) in
+          let z : b ≤ reach s n k (re .level) e =
+          reached s m n sound hold hold' k kp o eff others regs k kp b (re .level) (omega (arith, re .low)) e
+          (below-head (sound .node (ancestor s k (re .level)) (ancestor-node s k kp (re .level) (omega (arith, re .low)))) e y) (p .mine e (made-has c d)) in
+          let f : endOf d (block s n (ancestor s k (suc (re .level))) (w .head)) ≡ e = ap (λ (u : ℕ). endOf d (block s n u (w .head))) (sym (re .node)) ∙ ap (endOf d) put in
+          rw (reach-suc s n k (re .level) (w .head), f) z
+
+      -- the block that another wrote there reaches it, if this is a second refresh
+      found-it : absent (block s m (w .node) (w .head)) ≡ false → re .limit < w .head → b ≤ reach s n k (suc (re .level)) (w .head)
+      found-it e l =
+          let f : Present s m (ancestor s k (suc (re .level))) (w .head) = rw (← re .node) (present-count (block s m (w .node) (w .head)) e) in
+          reached s m n sound hold hold' k kp o eff others regs k kp b (suc (re .level)) (re .low) (w .head) (inr f) (re .owed .blocks (w .head) l f)
+
+      passing : b ≤ reach s n k (suc (re .level)) (w .head) → Passing s n k b w (w .node) (w .head)
+      passing got = record { level = suc (re .level); same = refl; node = re .node; low = re .low; got = got }
+
+      failed : re .limit ≤ w .head → Failed s n hold' k b w (w .node) (w .head)
+      failed l =
+          record {
+            level = re .level;
+            limit = re .limit;
+            same = refl;
+            node = re .node;
+            low = re .low;
+            covered = covered-stable s m n sound hold hold' k kp o eff others regs k kp b (re .level) (omega (arith, re .low)) (re .covered);
+            bound = l;
+            owed = owed-stable s m n sound hold hold' k kp o eff others regs k kp b (re .level) (re .low) (re .covered) (re .limit) (re .owed);
+          }
+
+      after-written : block s n (w .node) (w .head) ≡ blockOf c → AfterAdvance s n hold' k b w (afterRefresh (w .second) true) (w .node) (w .head)
+      unfolding afterRefresh
+      after-written put = passing (wrote-it put)
+
+      threshold : (q : Bool) → w .second ≡ q → Threshold q (re .limit) (w .head)
+      threshold q e = subst (λ (x : Bool). Threshold x (re .limit) (w .head)) e (re .bound)
+
+      -- if the place was taken, a first refresh is done again
+      after-taken : (q : Bool) → w .second ≡ q → absent (block s m (w .node) (w .head)) ≡ false → AfterAdvance s n hold' k b w (afterRefresh q false) (w .node) (w .head)
+      unfolding afterRefresh
+      after-taken true e f = passing (found-it f (threshold true e))
+      after-taken false e f = failed (threshold false e)
+
+    -- the place of a block that may be written is in the node
+    place-within : (w : Visit) (c : Built) → (p : Building s m hold k b w (made c)) → Inner s (w .node) → absent (block s m (w .node) (w .head)) ≡ true → w .head ≤ lastPlace s (w .node)
+    place-within w c p iv free =
+        let q = sound .node (w .node) (inner-node s (w .node) iv) in
+        let f = build-fresh s k o m sized sound kp b bm hold w c p iv free in
+        omega (
+          arith,
+          f .within,
+          f .follows .more,
+          p .refreshing .first,
+          place-count q (w .head - 1) (below-head q (w .head - 1) (omega (arith, p .refreshing .first, p .refreshing .last))),
+        )
+
+    -- ---- after A
+    added : (n : Memory) → block s n (leafOf s k) (headOf m (leafOf s k)) ≡ plusOperation o (block s m (leafOf s k) (headOf m (leafOf s k) - 1)) → LeafOpen s m k b
+        → Advancing s n hold' k b (record { node = leafOf s k; second = false; head = headOf m (leafOf s k) }) Up (leafOf s k) (headOf m (leafOf s k))
+    added n put lo =
+        record {
+          node = leaf-node s k kp;
+          present = rw put (omega (arith, plus-one o (block s m (leafOf s k) (headOf m (leafOf s k) - 1))));
+          then = record { level = 0; same = refl; node = refl; low = omega arith; got = rw (reach-zero s n k (headOf m (leafOf s k))) (omega (arith, lo .head)) };
+        }
+
+    -- ---- every turn
+    pub way-turn : {x : Stage} {n : Memory} {y : Stage} → Turn s k o m x n y → hold k ≡ x → hold' k ≡ y → Effect s k o m (hold k) n (hold' k) → OwnLeaf s m k b x → Way s m hold k b x
+        → Way s n hold' k b y
+    way-turn (rests x) e f eff own p = way-stable s m m sound hold hold' k kp o eff others regs k kp b x p
+    way-turn adds e f eff own p =
+        added _ (write-here s m (leafOf s k) (headOf m (leafOf s k)) (plusOperation o (block s m (leafOf s k) (headOf m (leafOf s k) - 1))) sized (leaf-node s k kp)
+        (omega (arith, leaf-places s k kp, own .head))) own
+    way-turn (supers w a v h z) e f eff own p = way-stable s m _ sound hold hold' k kp o eff others regs k kp b (advancing w a v h) p
+    way-turn (raises w a v h) e f eff own p =
+        let nv : Node s v = p .node in
+        resumed s (raise m v h) (sound' s m (raise m v h) sound hold hold' k kp o eff others regs k kp b) hold' k kp b w a v h
+        (raise-past m v h (omega (arith, nv .last, sized .heads)) (present-low (sound .node v nv) h (p .present)))
+        (after-stable s m (raise m v h) sound hold hold' k kp o eff others regs k kp b w a v h (p .present) (p .then))
+    way-turn (starts v q) e f eff own p =
+        started s m sound hold hold' k kp o eff others regs b v q (λ d u h z r. none-empty d z ((subst (λ (y : Stage). Holds d y u h z) f r) .2)) p
+    way-turn (helps w d c g) e f eff own p =
+        record {
+          node = child-node s d (w .node) (refresh-inner w (p .refreshing));
+          present = present-count (block s m (childOf d (w .node)) c) g;
+          then = helped d (refreshing-stable s m m sound hold hold' k kp o eff others regs k kp b w (p .refreshing));
+        }
+      where
+        helped : (d : Side) → Refreshing s m hold' k b w → AfterAdvance s m hold' k b w (afterHelp d) (childOf d (w .node)) c
+        helped onLeft r = r
+        helped onRight r = r
+    way-turn (endsLeft w) e f eff own p = read-left s m sound hold hold' k kp o eff others regs b w (p .refreshing)
+    way-turn (endsRight w l) e f eff own p = read-right s m sound hold hold' k kp o eff others regs b w l p
+    way-turn (makes w l r g) e f eff own p = made-block s m sound hold hold' k kp o eff others regs b w l r p g
+    way-turn (finds w l r g) e f eff own p = nothing-new s m sound hold hold' k kp o eff others regs b w l r p g
+    way-turn (writes w c g) e f eff own p =
+        let iv : Inner s (w .node) = refresh-inner w (p .refreshing) in
+        let put = write-here s m (w .node) (w .head) (blockOf c) sized (inner-node s (w .node) iv) (place-within w c p iv g) in
+        record { node = inner-node s (w .node) iv; present = rw put (omega (arith, p .hand .0 .more)); then = after-written _ eff w c p put }
+    way-turn (meets w c g) e f eff own p =
+        record {
+          node = inner-node s (w .node) (refresh-inner w (p .refreshing));
+          present = present-count (block s m (w .node) (w .head)) g;
+          then = after-taken m eff w c p (w .second) refl g;
+        }
+    way-turn finishes e f eff own p = tt
