@@ -7,7 +7,6 @@ use mathlib.Core.List.{List, [], _∷_, _++_, flatMap, append-nil, append-assoc}
 use Rattle.base.specs.Between.{following, between}
 use Rattle.base.proofs.All.{All, all-append}
 
-
 -- ---- the numbers
 pub between-self : (i : ℕ) → between i i ≡ []
 unfolding between following

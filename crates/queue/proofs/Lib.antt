@@ -3,3 +3,4 @@ pub mod Histories
 pub mod Played
 pub mod Prefixes
 pub mod Feeding
+pub mod Leaves

@@ -2,9 +2,9 @@
 use Prim.Native.Nat.{ℕ, suc, _+_, _-_, _≤_, _<_}
 use native.Mathlib.Omega.{arith}
 use native.Mathlib.Decide.{decLt}
-use mathlib.Core.Path.{_≡_, refl, sym, _∙_, ap}
+use mathlib.Core.Path.{_≡_, refl, sym}
 use mathlib.Core.Logic.{_⊎_, inl, inr}
-use mathlib.Core.Bool.{Bool, true, false}
+use mathlib.Core.Bool.{true}
 use Rattle.tree.specs.declared.Block.{Block}
 use Rattle.tree.specs.declared.Kind.{Kind}
 use Rattle.tree.specs.declared.Kind.the-variants.{Puts, Takes}
@@ -16,8 +16,8 @@ use Rattle.tree.proofs.Nodes.{Node, Inner, Side, onLeft, onRight, childOf, endO
 use Rattle.tree.proofs.Ancestors.{ancestor-inner}
 use Rattle.tree.proofs.Heights.{leaf-places, node-places}
 use Rattle.tree.proofs.Presence.{count, Present, Written, absent-count}
-use Rattle.tree.proofs.Sound.{Sound, Follows, AddsOne, Joins, below-head, leaf-count}
-use Rattle.tree.proofs.Growth.{Same, Grows, Fresh, same-refl}
+use Rattle.tree.proofs.Sound.{Sound, Follows, below-head, leaf-count}
+use Rattle.tree.proofs.Growth.{Same, Fresh, same-refl}
 use Rattle.tree.proofs.Writes.{Sized, write-cases, raise-cases}
 use Rattle.steps.specs.declared.Operation.{Operation}
 use Rattle.steps.specs.declared.Operation.the-variants.{Put, Take}
@@ -26,7 +26,7 @@ use Rattle.steps.specs.declared.After.{After}
 use Rattle.steps.specs.declared.After.the-variants.{Up}
 use Rattle.steps.specs.declared.Built.{Built}
 use Rattle.steps.specs.Rules.{plusOperation, joined, built, blockOf}
-use Rattle.steps.proofs.Stages.{Hand, none, one, two, made, Stage, resting, adding, advancing, starting, building, answering, HasEnd, Holds, none-empty, after-empty}
+use Rattle.steps.proofs.Stages.{Hand, none, one, two, made, Stage, adding, advancing, building, HasEnd, Holds, none-empty, after-empty}
 use Rattle.steps.proofs.Turns.{Turn, rests, adds, supers, raises, starts, helps, endsLeft, endsRight, makes, finds, writes, meets, finishes}
 use Rattle.steps.proofs.Progress.{LeafOpen, OwnLeaf, Building, Way}
 use Rattle.steps.proofs.Others.{LeafWrote, InnerWrote, Effect}

@@ -1,43 +1,26 @@
--- The invariant of the machine: the memory's, and each process's. The start meets it, and every begin and every step keeps it. Used by proofs; no promise cites it.
-use Prim.Native.Nat.{ℕ, suc, _+_, _*_, _-_, _≤_, _<_}
-use native.Mathlib.Omega.{arith}
-use native.Mathlib.Decide.{ℕ-discrete}
-use native.Mathlib.Nat.{le-refl}
-use mathlib.Core.Path.{_≡_, refl, ap, sym, _∙_, subst, subst₂}
-use mathlib.Core.Logic.{_≢_, inl, inr}
-use mathlib.Core.List.{List}
-use lib.ListN.{length, getD, set, replicate, length-set, length-replicate, getD-replicate}
-use lib.Seq.{getD-set-same, getD-set-other}
-use Rattle.tree.specs.Shape.{Shape, processes, root, leafOf}
-use Rattle.tree.specs.Memory.{Memory, headOf, block}
-use Rattle.tree.proofs.Nodes.{Node, Inner, Side, childOf, inner-node, leaf-node}
-use Rattle.tree.proofs.Presence.{Present}
+-- The invariant of the machine: the memory's, and each process's. Used by proofs; no promise cites it.
+use Prim.Native.Nat.{ℕ, _+_, _≤_, _<_}
+use mathlib.Core.Path.{_≡_}
+use lib.ListN.{length}
+use Rattle.tree.specs.Shape.{Shape, processes}
+use Rattle.tree.specs.Memory.{Memory, headOf}
+use Rattle.tree.proofs.Nodes.{Inner, Side, childOf, inner-node, leaf-node}
 use Rattle.tree.proofs.Writes.{Sized, write-sized, raise-sized}
 use Rattle.tree.proofs.Sound.{Sound}
-use Rattle.tree.proofs.Growth.{Grows, sound-grows}
-use Rattle.tree.proofs.Cleared.{cleared, cleared-head, cleared-count, cleared-sized, cleared-sound}
 use Rattle.tree.proofs.Ancestors.{ancestor-node, ancestor-inner}
-use Rattle.tree.proofs.Reach.{reach}
 use Rattle.steps.specs.declared.Operation.{Operation}
 use Rattle.steps.specs.declared.Visit.{Visit}
 use Rattle.steps.specs.declared.After.{After}
 use Rattle.steps.specs.declared.After.the-variants.{Right, Ends, Again, Up}
 use Rattle.steps.specs.declared.Step.{Step}
 use Rattle.steps.specs.declared.Step.the-variants.{A, V1, V2, V3, R1, R2, R3, R4, R5, C1, C2, C3, C4, Q}
-use Rattle.steps.specs.declared.Status.{Status}
-use Rattle.steps.specs.declared.Status.the-variants.{Idle, Busy}
 use Rattle.steps.specs.declared.Process.{Process}
-use Rattle.steps.specs.Process.{idle}
-use Rattle.steps.specs.Rules.{step}
-use Rattle.steps.specs.Machine.{Machine, start, processOf, withProcess, begin, stepFrom, stepOf}
-use Rattle.steps.proofs.Stages.{Hand, Stage, resting, adding, advancing, starting, building, answering, stage, stageOf, Holds}
-use Rattle.steps.proofs.Turns.{Turn, turn, rests, adds, supers, raises, starts, helps, endsLeft, endsRight, makes, finds, writes, meets, finishes}
-use Rattle.steps.proofs.Progress.{LeafDone, OwnLeaf, Refreshing, AfterAdvance, Way}
-use Rattle.steps.proofs.Others.{LeafWrote, Effect, Registers, hand-below, way-stable}
-use Rattle.steps.proofs.Effects.{still, effect}
-use Rattle.steps.proofs.Leaf.{leaf-within, own-stable, own-turn}
-use Rattle.steps.proofs.WayTurn.{way-turn}
-use Rattle.steps.proofs.Costs.{AfterNodes, StepNodes, rest, restOf, rest-step, rest-first}
+use Rattle.steps.specs.Machine.{Machine, processOf}
+use Rattle.steps.proofs.Stages.{Stage, resting, adding, advancing, starting, building, answering, stage, stageOf, Holds}
+use Rattle.steps.proofs.Turns.{Turn, rests, adds, supers, raises, starts, helps, endsLeft, endsRight, makes, finds, writes, meets, finishes}
+use Rattle.steps.proofs.Progress.{OwnLeaf, Refreshing, AfterAdvance, Way}
+use Rattle.steps.proofs.Others.{Registers, hand-below}
+use Rattle.steps.proofs.Costs.{AfterNodes, StepNodes, rest, restOf}
 
 -- what is known of process k
 pub record ProcessSound (s : Shape) (m : Memory) (hold : ℕ → Stage) (k : ℕ) (p : Process) : Type 0 where
@@ -67,7 +50,7 @@ way-ends s m hold k b (building w x) p d u h e q =
     (rw (q .0) at (hand-below s m w d e x (p .hand) (q .2)), rw (q .0, q .1) at (p .refreshing .last))
 way-ends s m hold k b answering p d u h e q = absurd q
 
-registers : (s : Shape) (m : Machine) → Invariant s m → Registers s (m .memory) (holding m)
+pub registers : (s : Shape) (m : Machine) → Invariant s m → Registers s (m .memory) (holding m)
 registers s m inv =
     record {
       ends = λ r rp d u h e q. way-ends s (m .memory) (holding m) r _ (holding m r) (inv .process r rp .way) d u h e q .0;
@@ -85,7 +68,7 @@ module _ (s : Shape) (m : Memory) (hold : ℕ → Stage) (k : ℕ) (kp : k < pro
   after-nodes w Again v h p = rw (p .node) (ancestor-inner s k kp (p .level) (p .low))
   after-nodes w Up v h p = rw (p .node) (ancestor-node s k kp (p .level) (p .low))
 
-  step-nodes : (n : Step) → Way s m hold k b (stage n) → StepNodes s n
+  pub step-nodes : (n : Step) → Way s m hold k b (stage n) → StepNodes s n
   step-nodes A p = tt
   step-nodes (V1 w a v h) p = after-nodes w a v h (p .then)
   step-nodes (V2 w a v h x) p = after-nodes w a v h (p .then)
@@ -101,7 +84,7 @@ module _ (s : Shape) (m : Memory) (hold : ℕ → Stage) (k : ℕ) (kp : k < pro
   step-nodes (C4 w c) p = refresh-inner s m hold k kp b w (p .refreshing)
   step-nodes Q p = tt
 
-  turn-sized : {o : Operation} {x : Stage} {n : Memory} {y : Stage} → Turn s k o m x n y → Way s m hold k b x → Sized s m → Sized s n
+  pub turn-sized : {o : Operation} {x : Stage} {n : Memory} {y : Stage} → Turn s k o m x n y → Way s m hold k b x → Sized s m → Sized s n
   unfolding Rattle.tree.specs.Memory.setSuper
   turn-sized (rests x) p sz = sz
   turn-sized adds p sz = write-sized s m _ _ _ sz (leaf-node s k kp)

@@ -1,25 +1,22 @@
 -- What is known of a process's own leaf, after a turn of another and after its own.
-use Prim.Native.Nat.{ℕ, zero, suc, _+_, _*_, _-_, _≤_, _<_}
+use Prim.Native.Nat.{ℕ, zero, suc, _+_, _-_, _≤_, _<_}
 use native.Mathlib.Omega.{arith}
 use native.Mathlib.Decide.{decLe}
 use mathlib.Core.Path.{_≡_, refl, _∙_, subst}
 use mathlib.Core.Logic.{_⊎_, inl, inr}
-use mathlib.Core.Bool.{Bool, true, false}
 use lib.Dec.{eqb}
-use lib.ListN.{length}
 use Rattle.base.proofs.Cases.{both}
 use Rattle.tree.specs.Shape.{Shape, processes, root, leafOf}
-use Rattle.tree.specs.Memory.{Memory, headOf, block, write, setSuper, raise}
+use Rattle.tree.specs.Memory.{Memory, headOf, block, write, raise}
 use Rattle.tree.proofs.Nodes.{Node, leaf-node}
 use Rattle.tree.proofs.Presence.{count, Present}
 use Rattle.tree.proofs.Writes.{Sized, raise-past}
 use Rattle.tree.proofs.Sound.{Sound, present-low}
-use Rattle.tree.proofs.Growth.{Grows}
 use Rattle.steps.specs.declared.Operation.{Operation}
 use Rattle.steps.specs.declared.Visit.{Visit}
 use Rattle.steps.specs.declared.After.{After}
 use Rattle.steps.specs.declared.After.the-variants.{Right, Ends, Again, Up}
-use Rattle.steps.proofs.Stages.{Hand, made, Stage, resting, adding, advancing, starting, building, answering, afterStage, aboveStage}
+use Rattle.steps.proofs.Stages.{Hand, made, Stage, resting, adding, advancing, starting, building, answering, afterStage}
 use Rattle.steps.proofs.Turns.{Turn, rests, adds, supers, raises, starts, helps, endsLeft, endsRight, makes, finds, writes, meets, finishes}
 use Rattle.steps.proofs.Progress.{LeafEnds, LeafDone, LeafOpen, LeafMoving, OwnLeaf, Way}
 use Rattle.steps.proofs.Others.{LeafWrote, Effect}

@@ -9,3 +9,4 @@ pub mod Leaf
 pub mod OwnTurn
 pub mod WayTurn
 pub mod Invariant
+pub mod Keeps

@@ -1,17 +1,16 @@
 -- What is known of a process stays known after a turn of any process. Used by proofs; no promise cites it.
-use Prim.Native.Nat.{ℕ, zero, suc, _+_, _-_, _≤_, _<_}
+use Prim.Native.Nat.{ℕ, zero, suc, _-_, _≤_, _<_}
 use native.Mathlib.Omega.{arith}
-use native.Mathlib.Decide.{decLe, ℕ-discrete}
+use native.Mathlib.Decide.{ℕ-discrete}
 use native.Mathlib.Nat.{le-refl}
-use mathlib.Core.Path.{_≡_, refl, ap, sym, _∙_, subst}
+use mathlib.Core.Path.{_≡_}
 use mathlib.Core.Logic.{_≢_, _⊎_, inl, inr}
-use mathlib.Core.Bool.{Bool, true, false}
-use Rattle.tree.specs.declared.Block.{Block}
+use mathlib.Core.Bool.{Bool}
 use Rattle.tree.specs.Shape.{Shape, processes, root, leafOf}
 use Rattle.tree.specs.Memory.{Memory, headOf, block}
-use Rattle.tree.proofs.Nodes.{Node, Inner, Side, onLeft, onRight, childOf, endOf, child-node, inner-node, leaf-node}
-use Rattle.tree.proofs.Presence.{count, Present, Written}
-use Rattle.tree.proofs.Sound.{NodeSound, Sound, Follows, Joins, below-head}
+use Rattle.tree.proofs.Nodes.{Node, Inner, Side, onLeft, onRight, childOf, endOf, child-node, inner-node}
+use Rattle.tree.proofs.Presence.{Present, Written}
+use Rattle.tree.proofs.Sound.{NodeSound, Sound, below-head}
 use Rattle.tree.proofs.Growth.{Same, Grows, same-refl, same-end, heads-rise, present-stays, follows-same, joins-grows, sound-grows}
 use Rattle.tree.proofs.Ancestors.{ancestor, sideAt, child-at, ancestor-node, ancestor-inner, ancestor-root}
 use Rattle.tree.proofs.Reach.{reach, reach-suc, reach-rises, reach-stays}
@@ -21,7 +20,7 @@ use Rattle.steps.specs.declared.After.{After}
 use Rattle.steps.specs.declared.After.the-variants.{Right, Ends, Again, Up}
 use Rattle.steps.specs.Rules.{blockOf, plusOperation}
 use Rattle.steps.proofs.Stages.{Hand, none, one, two, made, Stage, resting, adding, advancing, starting, building, answering, HasEnd, Holds}
-use Rattle.steps.proofs.Progress.{LeafEnds, LeafDone, LeafOpen, LeafMoving, OwnLeaf, Covered, Owed, Refreshing, Starting, Passing, Failed, AfterAdvance, Advancing, EndOk, HandOk, Building, Rooted, Way}
+use Rattle.steps.proofs.Progress.{Covered, Owed, Refreshing, Starting, AfterAdvance, EndOk, HandOk, Building, Rooted, Way}
 
 -- a block in the leaf of process r after a turn of process a, in stage x: it was there, or a has just added it
 abbrev pub LeafWrote : Shape → ℕ → Operation → Memory → Stage → Memory → ℕ → ℕ → Type 0

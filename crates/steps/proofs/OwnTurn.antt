@@ -1,5 +1,5 @@
 -- How far an operation has come after a turn of its own process that reads only.
-use Prim.Native.Nat.{ℕ, suc, _+_, _-_, _≤_, _<_}
+use Prim.Native.Nat.{ℕ, suc, _-_, _≤_, _<_}
 use native.Mathlib.Omega.{arith}
 use native.Mathlib.Decide.{ℕ-discrete}
 use native.Mathlib.Nat.{le-refl}
@@ -11,8 +11,7 @@ use borrow.Author.Tests.{eqb-true, eqb-false}
 use Rattle.base.proofs.Cases.{cases}
 use Rattle.tree.specs.Shape.{Shape, processes, root, parentOf, leftOf, rightOf}
 use Rattle.tree.specs.Memory.{Memory, headOf, block}
-use Rattle.tree.proofs.Nodes.{Node, Inner, Side, onLeft, onRight, childOf, endOf, child-node, inner-node}
-use Rattle.tree.proofs.Presence.{Present}
+use Rattle.tree.proofs.Nodes.{Inner, Side, onLeft, onRight, childOf, endOf, child-node, inner-node}
 use Rattle.tree.proofs.Sound.{Sound, NodeSound, below-head, present-low, end-below}
 use Rattle.tree.proofs.Ancestors.{ancestor, sideAt, child-at, ancestor-node, ancestor-inner, ancestor-root, root-height, not-root}
 use Rattle.tree.proofs.Reach.{reach, reach-suc, reach-rises}

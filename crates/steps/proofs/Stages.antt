@@ -1,5 +1,5 @@
 -- The stage of an operation that a step is in, with what the process holds there. Used by proofs; no promise cites it.
-use Prim.Native.Nat.{ℕ, _-_}
+use Prim.Native.Nat.{ℕ}
 use mathlib.Core.Path.{_≡_, refl}
 use mathlib.Core.Bool.{Bool, true, false}
 use lib.Dec.{eqb}

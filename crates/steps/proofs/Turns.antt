@@ -1,12 +1,9 @@
 -- Every step is one of thirteen turns: what it does to the memory and to the stage. This is where the named steps are read off the rules; the laws above go by turns. Used by
 -- proofs; no promise cites it.
 use Prim.Native.Nat.{ℕ, _-_}
-use mathlib.Core.Path.{_≡_, refl, sym}
+use mathlib.Core.Path.{_≡_, refl}
 use mathlib.Core.Bool.{Bool, true, false}
-use mathlib.Core.List.{List}
-use Rattle.base.specs.Choice.{if_then_else_}
 use Rattle.base.proofs.Cases.{cases}
-use Rattle.tree.specs.declared.Block.{Block}
 use Rattle.tree.specs.Shape.{Shape, leafOf, leftOf, rightOf}
 use Rattle.tree.specs.Blocks.{absent}
 use Rattle.tree.specs.Memory.{Memory, headOf, block, write, writeIfAbsent, setSuper, raise}
@@ -14,13 +11,12 @@ use Rattle.tree.proofs.Nodes.{Side, onLeft, onRight, childOf}
 use Rattle.steps.specs.declared.Operation.{Operation}
 use Rattle.steps.specs.declared.Visit.{Visit}
 use Rattle.steps.specs.declared.After.{After}
-use Rattle.steps.specs.declared.After.the-variants.{Right, Ends, Again, Up}
+use Rattle.steps.specs.declared.After.the-variants.{Right, Ends, Up}
 use Rattle.steps.specs.declared.Built.{Built}
 use Rattle.steps.specs.declared.Step.{Step}
 use Rattle.steps.specs.declared.Step.the-variants.{A, V1, V2, V3, R1, R2, R3, R4, R5, C1, C2, C3, C4, Q}
-use Rattle.steps.specs.declared.Status.the-variants.{Idle, Busy}
-use Rattle.steps.specs.Rules.{resume, advance, above, afterRefresh, help, plusOperation, built, sameTotals, blockOf, go, step}
-use Rattle.steps.proofs.Stages.{Hand, none, one, two, made, Stage, resting, adding, advancing, starting, building, answering, stage, stageOf, aboveStage, afterStage, stage-above, stage-resume, stage-advance}
+use Rattle.steps.specs.Rules.{resume, afterRefresh, help, plusOperation, built, sameTotals, blockOf, go, step}
+use Rattle.steps.proofs.Stages.{none, one, two, made, Stage, resting, adding, advancing, starting, building, answering, stage, stageOf, aboveStage, afterStage, stage-above, stage-resume, stage-advance}
 
 -- what follows a help on a side
 abbrev pub afterHelp : Side → After

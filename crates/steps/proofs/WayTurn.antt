@@ -1,29 +1,26 @@
 -- How far an operation has come after any turn of its own process. The second C4 is where two refreshes are seen to be enough: the block that was written there first reaches
 -- the operation too.
-use Prim.Native.Nat.{ℕ, suc, _+_, _-_, _≤_, _<_}
+use Prim.Native.Nat.{ℕ, suc, _-_, _≤_, _<_}
 use native.Mathlib.Omega.{arith}
 use mathlib.Core.Path.{_≡_, refl, ap, sym, _∙_, subst}
-use mathlib.Core.Logic.{_≢_, inl, inr}
+use mathlib.Core.Logic.{_≢_, inr}
 use mathlib.Core.Bool.{Bool, true, false}
-use Rattle.tree.specs.declared.Block.{Block}
 use Rattle.tree.specs.Shape.{Shape, processes, leafOf, lastPlace}
 use Rattle.tree.specs.Blocks.{absent}
-use Rattle.tree.specs.Memory.{Memory, headOf, block, write, raise}
+use Rattle.tree.specs.Memory.{Memory, headOf, block, raise}
 use Rattle.tree.proofs.Nodes.{Node, Inner, Side, childOf, endOf, onLeft, onRight, child-node, inner-node, leaf-node}
 use Rattle.tree.proofs.Heights.{leaf-places}
-use Rattle.tree.proofs.Presence.{count, Present, present-count}
+use Rattle.tree.proofs.Presence.{Present, present-count}
 use Rattle.tree.proofs.Sound.{Sound, below-head, present-low, place-count}
-use Rattle.tree.proofs.Growth.{present-stays}
 use Rattle.tree.proofs.Writes.{Sized, write-here, raise-past}
 use Rattle.tree.proofs.Ancestors.{ancestor, sideAt, child-at, ancestor-node, ancestor-inner}
 use Rattle.tree.proofs.Reach.{reach, reach-zero, reach-suc}
 use Rattle.steps.specs.declared.Operation.{Operation}
 use Rattle.steps.specs.declared.Visit.{Visit}
-use Rattle.steps.specs.declared.After.{After}
-use Rattle.steps.specs.declared.After.the-variants.{Right, Ends, Again, Up}
+use Rattle.steps.specs.declared.After.the-variants.{Up}
 use Rattle.steps.specs.declared.Built.{Built}
 use Rattle.steps.specs.Rules.{afterRefresh, plusOperation, blockOf}
-use Rattle.steps.proofs.Stages.{Hand, none, made, Stage, resting, adding, advancing, starting, building, answering, afterStage, HasEnd, Holds, none-empty}
+use Rattle.steps.proofs.Stages.{made, Stage, advancing, Holds, none-empty}
 use Rattle.steps.proofs.Turns.{Turn, afterHelp, rests, adds, supers, raises, starts, helps, endsLeft, endsRight, makes, finds, writes, meets, finishes}
 use Rattle.steps.proofs.Progress.{LeafOpen, OwnLeaf, Threshold, Refreshing, Passing, Failed, AfterAdvance, Advancing, Building, Way}
 use Rattle.steps.proofs.Others.{Effect, Registers, hand-below, reached, covered-stable, owed-stable, refreshing-stable, after-stable, way-stable, sound'}

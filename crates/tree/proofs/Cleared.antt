@@ -1,19 +1,17 @@
 -- The cleared memory meets the memory invariant: all words zero, all heads 1.
-use Prim.Native.Nat.{ℕ, zero, suc, _+_, _*_, _≤_, _<_}
+use Prim.Native.Nat.{ℕ, suc, _+_, _*_, _<_}
 use native.Mathlib.Omega.{arith}
 use native.Mathlib.Decide.{decLt}
 use mathlib.Core.Path.{_≡_, refl, ap, _∙_}
-use mathlib.Core.List.{List}
-use lib.ListN.{length, getD, take, drop, replicate, length-take, length-replicate, getD-replicate, List·getD-eq-default}
+use lib.ListN.{getD, take, drop, replicate, length-take, length-replicate, getD-replicate, List·getD-eq-default}
 use lib.Seq.{getD-take, getD-drop}
-use Rattle.tree.specs.declared.Block.{Block}
 use Rattle.tree.specs.Shape.{Shape, processes, leafOf}
 use Rattle.tree.specs.Layout.{blockWords, partStart, partWords, partOf, wordsNeeded}
-use Rattle.tree.specs.Blocks.{wordIn, blockIn, blockAt}
+use Rattle.tree.specs.Blocks.{wordIn, blockAt}
 use Rattle.tree.specs.Memory.{Memory, headOf, block}
 use Rattle.tree.proofs.Presence.{count}
 use Rattle.tree.proofs.Writes.{zeros, block-zeros, Sized}
-use Rattle.tree.proofs.Sound.{NodeSound, Sound}
+use Rattle.tree.proofs.Sound.{Sound}
 
 abbrev pub cleared : Shape → Memory
 cleared s = record { table = replicate (wordsNeeded s) 0; heads = replicate (2 * processes s) 1 }

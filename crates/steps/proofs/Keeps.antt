@@ -1,0 +1,189 @@
+-- The start meets the machine's invariant, and every begin and every step keeps it.
+use Prim.Native.Nat.{ℕ, _+_, _≤_, _<_}
+use native.Mathlib.Omega.{arith}
+use native.Mathlib.Decide.{ℕ-discrete}
+use mathlib.Core.Path.{_≡_, refl, ap, sym, _∙_, subst}
+use mathlib.Core.Logic.{_≢_}
+use lib.ListN.{length, length-set, length-replicate, getD-replicate}
+use lib.Seq.{getD-set-same, getD-set-other}
+use Rattle.tree.specs.Shape.{Shape, processes, leafOf}
+use Rattle.tree.specs.Memory.{Memory}
+use Rattle.tree.proofs.Writes.{Sized}
+use Rattle.tree.proofs.Growth.{sound-grows}
+use Rattle.tree.proofs.Cleared.{cleared, cleared-head, cleared-count, cleared-sized, cleared-sound}
+use Rattle.steps.specs.declared.Operation.{Operation}
+use Rattle.steps.specs.declared.Step.{Step}
+use Rattle.steps.specs.declared.Step.the-variants.{A}
+use Rattle.steps.specs.declared.Status.{Status}
+use Rattle.steps.specs.declared.Status.the-variants.{Idle, Busy}
+use Rattle.steps.specs.declared.Process.{Process}
+use Rattle.steps.specs.Process.{idle}
+use Rattle.steps.specs.Rules.{Stepped, step}
+use Rattle.steps.specs.Machine.{Machine, start, processOf, withProcess, begin, stepFrom, stepOf}
+use Rattle.steps.proofs.Stages.{Stage, stage, stageOf}
+use Rattle.steps.proofs.Turns.{turn}
+use Rattle.steps.proofs.Progress.{LeafDone, LeafOpen, OwnLeaf, Way}
+use Rattle.steps.proofs.Others.{Effect, way-stable}
+use Rattle.steps.proofs.Effects.{still, effect}
+use Rattle.steps.proofs.Leaf.{own-stable, own-turn}
+use Rattle.steps.proofs.WayTurn.{way-turn}
+use Rattle.steps.proofs.Costs.{rest, restOf, rest-step}
+use Rattle.steps.proofs.Invariant.{ProcessSound, holding, Invariant, registers, step-nodes, turn-sized}
+
+-- ---- a machine in which process k has become p
+module _ (s : Shape) (m : Machine) (counted : length (m .processes) ≡ processes s) (k : ℕ) (kp : k < processes s) (p : Process) (n : Memory) where
+  pub process-here : processOf (withProcess m k p n) k ≡ p
+  unfolding processOf withProcess
+  process-here = getD-set-same (m .processes) k p idle (omega arith)
+
+  pub process-other : (j : ℕ) → j ≢ k → processOf (withProcess m k p n) j ≡ processOf m j
+  unfolding processOf withProcess
+  process-other j ne = getD-set-other (m .processes) k j p idle ne
+
+-- ---- a turn of process k, after which it is p: what is known of every process stays known
+module _ (s : Shape) (m : Machine) (inv : Invariant s m) (k : ℕ) (kp : k < processes s) (p : Process) (n : Memory) (o : Operation)
+    (eff : Effect s k o (m .memory) (holding m k) n (stageOf (p .status)))
+  where
+    abbrev after : Machine
+    after = withProcess m k p n
+
+    here : holding after k ≡ stageOf (p .status)
+    here = ap (λ (q : Process). stageOf (q .status)) (process-here s m (inv .counted) k kp p n)
+
+    others : (r : ℕ) → r ≢ k → holding after r ≡ holding m r
+    others r ne = ap (λ (q : Process). stageOf (q .status)) (process-other s m (inv .counted) k kp p n r ne)
+
+    eff' : Effect s k o (m .memory) (holding m k) n (holding after k)
+    eff' = subst (λ (y : Stage). Effect s k o (m .memory) (holding m k) n y) (sym here) eff
+
+    other-sound : (j : ℕ) → j < processes s → j ≢ k → ProcessSound s n (holding after) j (processOf m j)
+    other-sound j jp ne =
+        let q : ProcessSound s (m .memory) (holding m) j (processOf m j) = inv .process j jp in
+        record {
+          within = q .within;
+          leaf = own-stable eff j jp (processOf m j .begun) (λ e. absurd (ne e)) (holding m j) (q .leaf);
+          way = way-stable s (m .memory) n (inv .sound) (holding m) (holding after) k kp o eff' others (registers s m inv) j jp (processOf m j .begun) (holding m j) (q .way);
+          bounded = q .bounded;
+        }
+
+    keeps : Sized s n → ProcessSound s n (holding after) k p → Invariant s after
+    unfolding withProcess
+    keeps sized own =
+        record {
+          sized = sized;
+          counted = length-set (m .processes) k p ∙ inv .counted;
+          sound = sound-grows s (m .memory) n (inv .sound) (eff .grows);
+          process = λ j jp. on j jp (ℕ-discrete j k);
+        }
+      where
+        on : (j : ℕ) → j < processes s → Dec (j ≡ k) → ProcessSound s n (holding after) j (processOf after j)
+        on j jp (yes e) = subst (λ (i : ℕ). ProcessSound s n (holding after) i (processOf after i)) (sym e) (subst (ProcessSound s n (holding after) k) (sym (process-here s m (inv .counted) k kp p n)) own)
+        on j jp (no e) = subst (ProcessSound s n (holding after) j) (sym (process-other s m (inv .counted) k kp p n j e)) (other-sound j jp e)
+
+-- ---- a begin
+module _ (s : Shape) (m : Machine) (inv : Invariant s m) (k : ℕ) (kp : k < processes s) (o : Operation) (rests : processOf m k .status ≡ Idle)
+    (few : processOf m k .begun < s .most)
+  where
+    leaf-open : LeafDone s (m .memory) k (processOf m k .begun) → LeafOpen s (m .memory) k (processOf m k .begun + 1)
+    leaf-open d = record { some = omega arith; ends = λ i l. d .ends i (omega arith); head = d .head }
+
+    pub begin-keeps : Invariant s (begin m k o)
+    unfolding begin
+    begin-keeps =
+        keeps s m inv k kp _ (m .memory) o (still s k o (m .memory) (λ d u h e q. absurd q)) (inv .sized)
+        (record {
+          within = omega arith;
+          leaf = leaf-open (subst (λ (x : Status). OwnLeaf s (m .memory) k (processOf m k .begun) (stageOf x)) rests (inv .process k kp .leaf));
+          way = tt;
+          bounded = omega arith;
+        })
+
+-- ---- a step
+module _ (s : Shape) (tall : 1 ≤ s .height) (m : Machine) (inv : Invariant s m) (k : ℕ) (kp : k < processes s) (o : Operation) (n : Step)
+    (busy : processOf m k .status ≡ Busy o n)
+  where
+    abbrev r : Stepped
+    r = step s k o (m .memory) n
+
+    abbrev p : Process
+    p = processOf m k
+
+    abbrev next : Process
+    next = record { status = r .next; begun = p .begun; steps = p .steps + 1 }
+
+    at : holding m k ≡ stage n
+    at = ap stageOf busy
+
+    own : OwnLeaf s (m .memory) k (p .begun) (stage n)
+    own = subst (OwnLeaf s (m .memory) k (p .begun)) at (inv .process k kp .leaf)
+
+    way : Way s (m .memory) (holding m) k (p .begun) (stage n)
+    way = subst (Way s (m .memory) (holding m) k (p .begun)) at (inv .process k kp .way)
+
+    eff : Effect s k o (m .memory) (stage n) (r .memory) (stageOf (r .next))
+    eff = effect s k o (m .memory) (inv .sized) (inv .sound) kp (p .begun) (inv .process k kp .within) (holding m) (turn s k o (m .memory) n) own way
+
+    pub step-effect : Effect s k o (m .memory) (holding m k) (r .memory) (stageOf (r .next))
+    step-effect = subst (λ (x : Stage). Effect s k o (m .memory) x (r .memory) (stageOf (r .next))) (sym at) eff
+
+    own-sound : ProcessSound s (r .memory) (holding (withProcess m k next (r .memory))) k next
+    own-sound =
+        record {
+          within = inv .process k kp .within;
+          leaf = own-turn s k kp o (m .memory) (inv .sized) (inv .sound) (holding m) (p .begun) (turn s k o (m .memory) n) eff own way;
+          way =
+              way-turn s (m .memory) (inv .sized) (inv .sound) (holding m) (holding (withProcess m k next (r .memory))) k kp o
+              (others s m inv k kp next (r .memory) o step-effect) (registers s m inv) (p .begun) (inv .process k kp .within) (turn s k o (m .memory) n) at
+              (here s m inv k kp next (r .memory) o step-effect) (eff' s m inv k kp next (r .memory) o step-effect) own way;
+          bounded =
+              omega (
+                arith,
+                subst (λ (x : Status). p .steps + restOf s x ≤ rest s A) busy (inv .process k kp .bounded),
+                rest-step s tall k kp o (m .memory) n (step-nodes s (m .memory) (holding m) k kp (p .begun) n way),
+              );
+        }
+
+    stepped : Invariant s (stepFrom s m k (Busy o n))
+    unfolding stepFrom
+    stepped =
+        keeps s m inv k kp next (r .memory) o step-effect
+        (turn-sized s (m .memory) (holding m) k kp (p .begun) (turn s k o (m .memory) n) way (inv .sized)) own-sound
+
+    pub step-keeps : Invariant s (stepOf s m k)
+    unfolding stepOf
+    step-keeps = subst (λ (x : Status). Invariant s (stepFrom s m k x)) (sym busy) stepped
+
+    step-memory : stepFrom s m k (Busy o n) .memory ≡ r .memory
+    unfolding stepFrom withProcess
+    step-memory = refl
+
+    -- the memory that a step leaves
+    pub stepped-memory : stepOf s m k .memory ≡ r .memory
+    unfolding stepOf
+    stepped-memory = ap (λ (x : Status). stepFrom s m k x .memory) busy ∙ step-memory
+
+-- ---- the start
+module _ (s : Shape) where
+  start-process : (k : ℕ) → k < processes s → processOf (start s) k ≡ idle
+  unfolding start processOf
+  start-process k kp = getD-replicate (processes s) k idle idle kp
+
+  idle-sound : (k : ℕ) → ProcessSound s (cleared s) (holding (start s)) k idle
+  unfolding idle
+  idle-sound k =
+      record {
+        within = omega arith;
+        leaf = record { ends = λ i l. cleared-count s (leafOf s k) i; head = cleared-head s (leafOf s k) };
+        way = tt;
+        bounded = omega arith;
+      }
+
+  pub start-invariant : Invariant s (start s)
+  unfolding start
+  start-invariant =
+      record {
+        sized = cleared-sized s;
+        counted = length-replicate (processes s) idle;
+        sound = cleared-sound s;
+        process = λ k kp. subst (ProcessSound s (cleared s) (holding (start s)) k) (sym (start-process k kp)) (idle-sound k);
+      }
