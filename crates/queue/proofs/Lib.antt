@@ -4,3 +4,7 @@ pub mod Played
 pub mod Prefixes
 pub mod Feeding
 pub mod Leaves
+pub mod Agrees
+pub mod Events
+pub mod RecordsStay
+pub mod AfterBegin

@@ -32,11 +32,11 @@ use Rattle.steps.proofs.Invariant.{ProcessSound, holding, Invariant, re
 
 -- ---- a machine in which process k has become p
 module _ (s : Shape) (m : Machine) (counted : length (m .processes) ≡ processes s) (k : ℕ) (kp : k < processes s) (p : Process) (n : Memory) where
-  pub process-here : processOf (withProcess m k p n) k ≡ p
+  process-here : processOf (withProcess m k p n) k ≡ p
   unfolding processOf withProcess
   process-here = getD-set-same (m .processes) k p idle (omega arith)
 
-  pub process-other : (j : ℕ) → j ≢ k → processOf (withProcess m k p n) j ≡ processOf m j
+  process-other : (j : ℕ) → j ≢ k → processOf (withProcess m k p n) j ≡ processOf m j
   unfolding processOf withProcess
   process-other j ne = getD-set-other (m .processes) k j p idle ne
 
@@ -86,6 +86,19 @@ module _ (s : Shape) (m : Machine) (inv : Invariant s m) (k : ℕ) (kp : k < pro
   where
     leaf-open : LeafDone s (m .memory) k (processOf m k .begun) → LeafOpen s (m .memory) k (processOf m k .begun + 1)
     leaf-open d = record { some = omega arith; ends = λ i l. d .ends i (omega arith); head = d .head }
+
+    -- the process, and the others
+    pub begun-here : processOf (begin m k o) k ≡ record { status = Busy o A; begun = processOf m k .begun + 1; steps = 0 }
+    unfolding begin
+    begun-here = process-here s m (inv .counted) k kp _ (m .memory)
+
+    pub begun-other : (j : ℕ) → j ≢ k → processOf (begin m k o) j ≡ processOf m j
+    unfolding begin
+    begun-other j ne = process-other s m (inv .counted) k kp _ (m .memory) j ne
+
+    pub begun-memory : begin m k o .memory ≡ m .memory
+    unfolding begin withProcess
+    begun-memory = refl
 
     pub begin-keeps : Invariant s (begin m k o)
     unfolding begin
@@ -153,14 +166,20 @@ module _ (s : Shape) (tall : 1 ≤ s .height) (m : Machine) (inv : Invariant s m
     unfolding stepOf
     step-keeps = subst (λ (x : Status). Invariant s (stepFrom s m k x)) (sym busy) stepped
 
-    step-memory : stepFrom s m k (Busy o n) .memory ≡ r .memory
-    unfolding stepFrom withProcess
-    step-memory = refl
+    -- what a step leaves: the memory, the process and the others
+    stepped-machine : stepOf s m k ≡ withProcess m k next (r .memory)
+    unfolding stepOf stepFrom
+    stepped-machine = ap (stepFrom s m k) busy
 
-    -- the memory that a step leaves
     pub stepped-memory : stepOf s m k .memory ≡ r .memory
-    unfolding stepOf
-    stepped-memory = ap (λ (x : Status). stepFrom s m k x .memory) busy ∙ step-memory
+    unfolding withProcess
+    stepped-memory = ap (λ (x : Machine). x .memory) stepped-machine
+
+    pub stepped-here : processOf (stepOf s m k) k ≡ next
+    stepped-here = ap (λ (x : Machine). processOf x k) stepped-machine ∙ process-here s m (inv .counted) k kp next (r .memory)
+
+    pub stepped-other : (j : ℕ) → j ≢ k → processOf (stepOf s m k) j ≡ processOf m j
+    stepped-other j ne = ap (λ (x : Machine). processOf x j) stepped-machine ∙ process-other s m (inv .counted) k kp next (r .memory) j ne
 
 -- ---- the start
 module _ (s : Shape) where
