@@ -8,3 +8,8 @@ pub mod Agrees
 pub mod Events
 pub mod RecordsStay
 pub mod AfterBegin
+pub mod StepEvents
+pub mod RootQueue
+pub mod RootAnswers
+pub mod AfterStep
+pub mod Answered

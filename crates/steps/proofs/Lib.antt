@@ -10,3 +10,4 @@ pub mod OwnTurn
 pub mod WayTurn
 pub mod Invariant
 pub mod Keeps
+pub mod Inside
