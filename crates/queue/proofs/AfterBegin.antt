@@ -5,12 +5,12 @@ use native.Mathlib.Decide.{decLe, ℕ-discrete}
 use native.Mathlib.Nat.{le-refl}
 use mathlib.Core.Path.{_≡_, refl, ap, sym, _∙_, subst}
 use mathlib.Core.Logic.{_≢_}
-use mathlib.Core.Bool.{Bool, true, false, _&&_, _||_, and-false, or-false as or-none, or-true as or-one}
+use mathlib.Core.Bool.{Bool, true, false, _&&_, _||_, and-false, or-false as or-none, or-true as or-one, true≢false}
 use mathlib.Core.List.{List, [], _∷_, _++_, map, append-nil}
 use lib.Dec.{leb}
 use borrow.Author.Tests.{le-leb, lt-leb}
 use Rattle.base.specs.Choice.{if_then_else_}
-use Rattle.base.proofs.Cases.{and-true, contradiction}
+use Rattle.base.proofs.Cases.{and-true, or-false}
 use Rattle.record.specs.declared.AnswerRecord.{AnswerRecord}
 use Rattle.tree.specs.Shape.{Shape, processes, leafOf}
 use Rattle.tree.specs.Memory.{block}
@@ -28,13 +28,13 @@ use Rattle.steps.specs.declared.Step.the-variants.{A}
 use Rattle.steps.specs.declared.Status.{Status}
 use Rattle.steps.specs.declared.Status.the-variants.{Idle, Busy}
 use Rattle.steps.specs.declared.Process.{Process}
-use Rattle.steps.specs.Machine.{Machine, processOf, withProcess, begin}
+use Rattle.steps.specs.Machine.{Machine, processOf, withProcess, isIdle, begin}
 use Rattle.steps.proofs.Keeps.{begin-keeps, begun-here, begun-other}
 use Rattle.queue.specs.History.{Event, opens, operation, isOpening, isOwnStep, isFinish, isOpened, isFinished, finishedBefore, ownSteps, does}
 use Rattle.queue.specs.Demand3.{queueRecord, finishing}
 use Rattle.queue.proofs.Histories.{isOpened-snoc, isFinished-snoc, ownSteps-snoc, does-append, finishing-append, finishedBefore-snoc}
 use Rattle.queue.proofs.Leaves.{IsBlockOf, LeavesAre}
-use Rattle.queue.proofs.Agrees.{Doing, Before, Agrees}
+use Rattle.queue.proofs.Agrees.{Doing, Before, Running, Agrees}
 use Rattle.queue.proofs.Events.{does-kept, or-cases}
 use Rattle.queue.proofs.RecordsStay.{leaf-begun, opened-yes, records-kept}
 
@@ -107,6 +107,10 @@ module _ {s : Shape} {m : Machine} {c : ℕ → ℕ} {h : List Event} {log : Lis
             let t : same x y ≡ true = ap (λ (q : OpId). same q y) g ∙ same-refl y in
             rw (a, b, t) (or-one (leb (x .serial) (c (x .process))))
 
+    old-unopened : (x : OpId) → isOpened x h' ≡ false → isOpened x h ≡ false
+    unfolding isOpening
+    old-unopened x e = or-false (isOpened x h) (same x y) (sym (isOpened-snoc x h (opens y o)) ∙ e) .0
+
     new-unfinished : isFinished y h ≡ false
     new-unfinished = on (isFinished y h) refl
       where
@@ -137,6 +141,21 @@ module _ {s : Shape} {m : Machine} {c : ℕ → ℕ} {h : List Event} {log : Lis
               what = does-kept (record { process = j; serial = c j }) h (e ∷ []) (opened-yes ag tall (record { process = j; serial = c j }) (d .some) (le-refl _)) ∙ d .what;
               unfinished = finished-kept (record { process = j; serial = c j }) ∙ d .unfinished;
             })
+
+    -- an operation that was running goes on, and the new one runs
+    unfinished' : (x : OpId) → isOpened x h' ≡ true → isFinished x h' ≡ false → Running s (begin m k o) c' x
+    unfolding isOpening isIdle
+    unfinished' x a b =
+        or-cases (isOpened x h) (same x y) (sym (isOpened-snoc x h e) ∙ a) (λ p. old (ag .unfinished x p (sym (finished-kept x) ∙ b)))
+        (λ p.
+        subst (Running s (begin m k o) c') (sym (same-eq x y p))
+        (record { process = kp; last = sym here; busy = ap (λ (q : Process). isIdle (q .status)) (begun-here s m (ag .invariant) k kp o rests few) }))
+      where
+        old : Running s m c x → Running s (begin m k o) c' x
+        old r = record { process = r .process; last = r .last ∙ sym (there (x .process) other); busy = ap (λ (q : Process). isIdle (q .status)) (begun-other s m (ag .invariant) k kp o rests few (x .process) other) ∙ r .busy }
+          where
+            other : x .process ≢ k
+            other z = true≢false (sym (ap (λ (j : ℕ). isIdle (processOf m j .status)) z ∙ ap isIdle rests) ∙ r .busy)
 
     leaves' : LeavesAre s (m .memory) h'
     unfolding operation
@@ -183,7 +202,7 @@ module _ {s : Shape} {m : Machine} {c : ℕ → ℕ} {h : List Event} {log : Lis
         on : Dec (j ≡ k) → processOf (begin m k o) j .steps ≡ ownSteps (record { process = j; serial = c' j }) h'
         on (yes z) =
             rw (z, here)
-            (ap (λ (p : Process). p .steps) (begun-here s m (ag .invariant) k kp o rests few) ∙ sym (steps-kept y ∙ ag .unstarted y (omega arith)))
+            (ap (λ (p : Process). p .steps) (begun-here s m (ag .invariant) k kp o rests few) ∙ sym (steps-kept y ∙ ag .unstarted y new-unopened))
         on (no z) =
             rw (there j z)
             (ap (λ (p : Process). p .steps) (begun-other s m (ag .invariant) k kp o rests few j z) ∙ ag .current j jp ∙ sym (steps-kept (record { process = j; serial = c j })))
@@ -195,7 +214,8 @@ module _ {s : Shape} {m : Machine} {c : ℕ → ℕ} {h : List Event} {log : Lis
           invariant = begin-keeps s m (ag .invariant) k kp o rests few;
           counts = counts';
           opened = opened';
-          unstarted = λ x l. steps-kept x ∙ ag .unstarted x (omega (arith, rises (x .process)));
+          unstarted = λ x e. steps-kept x ∙ ag .unstarted x (old-unopened x e);
+          unfinished = unfinished';
           few = λ x. omega (arith, steps-kept x, ag .few x);
           current = current';
           doing = doing';

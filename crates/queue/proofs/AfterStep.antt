@@ -5,10 +5,10 @@ use native.Mathlib.Decide.{ℕ-discrete}
 use native.Mathlib.Nat.{le-refl}
 use mathlib.Core.Path.{_≡_, refl, ap, sym, _∙_, subst}
 use mathlib.Core.Logic.{_≢_, _⊎_, inl, inr}
-use mathlib.Core.Bool.{Bool, true, false, _&&_, _||_, and-false}
+use mathlib.Core.Bool.{Bool, true, false, _&&_, _||_, and-false, and-true as and-one}
 use mathlib.Core.List.{List, [], _∷_, _++_, map}
 use Rattle.base.specs.Choice.{if_then_else_}
-use Rattle.base.proofs.Cases.{and-true, contradiction}
+use Rattle.base.proofs.Cases.{and-true, or-false, contradiction}
 use Rattle.record.specs.declared.AnswerRecord.{AnswerRecord}
 use Rattle.tree.specs.declared.Block.{Block}
 use Rattle.tree.specs.Shape.{Shape, processes, root, leafOf}
@@ -33,18 +33,18 @@ use Rattle.steps.specs.declared.Status.{Status}
 use Rattle.steps.specs.declared.Status.the-variants.{Idle, Busy}
 use Rattle.steps.specs.declared.Process.{Process}
 use Rattle.steps.specs.Rules.{plusOperation, step}
-use Rattle.steps.specs.Machine.{Machine, processOf, isQ, stepOf}
+use Rattle.steps.specs.Machine.{Machine, processOf, isIdle, isQ, stepOf}
 use Rattle.steps.proofs.Stages.{Stage, adding, answering, stage, stageOf}
 use Rattle.steps.proofs.Progress.{LeafOpen, OwnLeaf, Rooted, Way}
 use Rattle.steps.proofs.Others.{LeafWrote, Effect}
 use Rattle.steps.proofs.Costs.{rest, restOf}
-use Rattle.steps.proofs.Inside.{is-q, next-busy}
+use Rattle.steps.proofs.Inside.{is-q, next-busy, still-busy}
 use Rattle.steps.proofs.Invariant.{Invariant, holding}
 use Rattle.steps.proofs.Keeps.{step-keeps, step-effect, stepped-memory, stepped-here, stepped-other}
 use Rattle.queue.specs.History.{Event, operation, isOpened, isFinished, ownSteps, does}
 use Rattle.queue.specs.Demand3.{queueRecord, finishing}
 use Rattle.queue.proofs.Leaves.{IsBlockOf, LeavesAre}
-use Rattle.queue.proofs.Agrees.{Doing, Before, Agrees}
+use Rattle.queue.proofs.Agrees.{Doing, Before, Running, Agrees}
 use Rattle.queue.proofs.Events.{does-kept, or-cases}
 use Rattle.queue.proofs.RecordsStay.{leaf-begun, opened-yes, records-kept}
 use Rattle.queue.proofs.StepEvents.{stepEvent, opened-kept, steps-more, finished-more, before-kept}
@@ -114,12 +114,31 @@ module _ {s : Shape} {m : Machine} {c : ℕ → ℕ} {h : List Event} {log : Lis
         on true e = rw (same-eq x y e) (omega (arith, is-mine, ap (λ (p : Process). p .steps) here, inv' .process k kp .bounded))
         on false e = omega (arith, not-mine x e, ag .few x)
 
-    unstarted' : (x : OpId) → c (x .process) < x .serial → ownSteps x h' ≡ 0
+    mine-opened : isOpened y h ≡ true
+    mine-opened = opened-yes ag tall y (mine .some) (le-refl _)
+
+    unstarted' : (x : OpId) → isOpened x h' ≡ false → ownSteps x h' ≡ 0
     unstarted' x l = on (same x y) refl
       where
         on : (b : Bool) → same x y ≡ b → ownSteps x h' ≡ 0
-        on true e = let g : x ≡ y = same-eq x y e in absurd (omega (arith, ap (λ (z : OpId). z .serial) g, ap (λ (z : OpId). c (z .process)) g))
-        on false e = not-mine x e ∙ ag .unstarted x l
+        on true e = contradiction (isOpened y h) mine-opened (ap (λ (z : OpId). isOpened z h) (sym (same-eq x y e)) ∙ sym (opened-kept (isQ n) y h x) ∙ l)
+        on false e = not-mine x e ∙ ag .unstarted x (sym (opened-kept (isQ n) y h x) ∙ l)
+
+    -- an operation that is not finished by this step goes on
+    unfinished' : (x : OpId) → isOpened x h' ≡ true → isFinished x h' ≡ false → Running s (stepOf s m k) c x
+    unfinished' x a b =
+        let f = or-false (isFinished x h) (isQ n && same x y) (sym (finished-more (isQ n) y h x) ∙ b) in
+        old (ag .unfinished x (sym (opened-kept (isQ n) y h x) ∙ a) (f .0)) (f .1)
+      where
+        old : Running s m c x → isQ n && same x y ≡ false → Running s (stepOf s m k) c x
+        old r g = record { process = r .process; last = r .last; busy = on (ℕ-discrete (x .process) k) }
+          where
+            on : Dec (x .process ≡ k) → isIdle (processOf (stepOf s m k) (x .process) .status) ≡ false
+            on (yes z) =
+                let w : x ≡ y = λ i. record { process = z i; serial = (r .last ∙ ap c z) i } in
+                let q : isQ n ≡ false = sym (rw (ap (λ (u : OpId). same u y) w ∙ same-refl y) (and-one (isQ n))) ∙ g in
+                ap (λ (j : ℕ). isIdle (processOf (stepOf s m k) j .status)) z ∙ ap (λ (p : Process). isIdle (p .status)) here ∙ still-busy s k o (m .memory) n q
+            on (no z) = ap (λ (p : Process). isIdle (p .status)) (there (x .process) z) ∙ r .busy
 
     current' : (j : ℕ) → j < processes s → processOf (stepOf s m k) j .steps ≡ ownSteps (record { process = j; serial = c j }) h'
     unfolding operation
@@ -247,6 +266,7 @@ module _ {s : Shape} {m : Machine} {c : ℕ → ℕ} {h : List Event} {log : Lis
           counts = counts';
           opened = λ x. opened-kept (isQ n) y h x ∙ ag .opened x;
           unstarted = unstarted';
+          unfinished = unfinished';
           few = few';
           current = current';
           doing = doing';

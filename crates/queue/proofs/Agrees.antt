@@ -14,7 +14,7 @@ use Rattle.steps.specs.declared.Operation.{Operation}
 use Rattle.steps.specs.declared.Step.{Step}
 use Rattle.steps.specs.declared.Step.the-variants.{A}
 use Rattle.steps.specs.declared.Status.the-variants.{Busy}
-use Rattle.steps.specs.Machine.{Machine, processOf}
+use Rattle.steps.specs.Machine.{Machine, processOf, isIdle}
 use Rattle.steps.proofs.Costs.{rest}
 use Rattle.steps.proofs.Invariant.{Invariant}
 use Rattle.queue.specs.History.{Event, operation, isOpened, isFinished, finishedBefore, ownSteps, does}
@@ -36,12 +36,19 @@ pub record Before (s : Shape) (m : Memory) (x y : OpId) : Type 0 where
   pub first : x .serial ≤ reached s m (x .process) cut
   pub second : reached s m (y .process) cut < y .serial
 
+-- an operation that is not finished is the last of its process, and the process is inside it
+pub record Running (s : Shape) (m : Machine) (c : ℕ → ℕ) (x : OpId) : Type 0 where
+  pub process : x .process < processes s
+  pub last : x .serial ≡ c (x .process)
+  pub busy : isIdle (processOf m (x .process) .status) ≡ false
+
 -- c k is the number of operations that process k has begun
 pub record Agrees (s : Shape) (m : Machine) (c : ℕ → ℕ) (h : List Event) (log : List AnswerRecord) : Type 0 where
   pub invariant : Invariant s m
   pub counts : (k : ℕ) → k < processes s → processOf m k .begun ≡ c k
   pub opened : (x : OpId) → isOpened x h ≡ leb 1 (x .serial) && leb (x .serial) (c (x .process))
-  pub unstarted : (x : OpId) → c (x .process) < x .serial → ownSteps x h ≡ 0
+  pub unstarted : (x : OpId) → isOpened x h ≡ false → ownSteps x h ≡ 0
+  pub unfinished : (x : OpId) → isOpened x h ≡ true → isFinished x h ≡ false → Running s m c x
   pub few : (x : OpId) → ownSteps x h ≤ rest s A
   pub current : (k : ℕ) → k < processes s → processOf m k .steps ≡ ownSteps (operation k (c k)) h
   pub doing : (k : ℕ) → k < processes s → (o : Operation) (n : Step) → processOf m k .status ≡ Busy o n → Doing h (operation k (c k)) o

@@ -13,3 +13,4 @@ pub mod RootQueue
 pub mod RootAnswers
 pub mod AfterStep
 pub mod Answered
+pub mod Runs

@@ -2,7 +2,7 @@
 use Prim.Native.Nat.{ℕ}
 use native.Mathlib.Omega.{arith}
 use mathlib.Core.Path.{_≡_, refl}
-use mathlib.Core.Bool.{Bool, true, false, false≢true}
+use mathlib.Core.Bool.{Bool, true, false, true≢false, false≢true}
 use Rattle.tree.specs.Shape.{Shape}
 use Rattle.tree.specs.Memory.{Memory}
 use Rattle.steps.specs.declared.Operation.{Operation}
@@ -10,7 +10,7 @@ use Rattle.steps.specs.declared.Step.{Step}
 use Rattle.steps.specs.declared.Step.the-variants.{A, V1, V2, V3, R1, R2, R3, R4, R5, C1, C2, C3, C4, Q}
 use Rattle.steps.specs.declared.Status.the-variants.{Idle, Busy}
 use Rattle.steps.specs.Rules.{go, step}
-use Rattle.steps.specs.Machine.{isQ}
+use Rattle.steps.specs.Machine.{isIdle, isQ}
 use Rattle.steps.proofs.Stages.{Stage, answering, stage}
 
 -- the step is Q
@@ -49,6 +49,24 @@ module _ (s : Shape) (k : ℕ) (o : Operation) (m : Memory) where
   next-busy (C3 w l r) o' n' e = (refl, cc)
   next-busy (C4 w n) o' n' e = (refl, cc)
   next-busy Q o' n' e = let z : _≡_ {A = ℕ} 0 1 = cc in absurd (omega arith)
+
+  -- any other step leaves the process busy
+  pub still-busy : (n : Step) → isQ n ≡ false → isIdle (step s k o m n .next) ≡ false
+  unfolding step go isQ isIdle
+  still-busy A e = refl
+  still-busy (V1 w a v h) e = refl
+  still-busy (V2 w a v h x) e = refl
+  still-busy (V3 w a v h) e = refl
+  still-busy (R1 v q) e = refl
+  still-busy (R2 w) e = refl
+  still-busy (R3 w c) e = refl
+  still-busy (R4 w) e = refl
+  still-busy (R5 w c) e = refl
+  still-busy (C1 w) e = refl
+  still-busy (C2 w l) e = refl
+  still-busy (C3 w l r) e = refl
+  still-busy (C4 w n) e = refl
+  still-busy Q e = absurd (true≢false e)
 
   pub q-memory : step s k o m Q .memory ≡ m
   unfolding step

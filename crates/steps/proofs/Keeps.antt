@@ -183,7 +183,7 @@ module _ (s : Shape) (tall : 1 ≤ s .height) (m : Machine) (inv : Invariant s m
 
 -- ---- the start
 module _ (s : Shape) where
-  start-process : (k : ℕ) → k < processes s → processOf (start s) k ≡ idle
+  pub start-process : (k : ℕ) → k < processes s → processOf (start s) k ≡ idle
   unfolding start processOf
   start-process k kp = getD-replicate (processes s) k idle idle kp
 
