@@ -14,3 +14,5 @@ pub mod RootAnswers
 pub mod AfterStep
 pub mod Answered
 pub mod Runs
+pub mod Holds
+pub mod Theorem

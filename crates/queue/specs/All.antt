@@ -10,7 +10,8 @@ use Rattle.queue.specs.CheckLog.{sameBytes, compared, checkRefusal, chec
 use Rattle.queue.specs.PlainQueue.{fed, answers}
 use Rattle.queue.specs.History.{machineAfter, doesQ, begins, operation, event, eventsAfter, history, isOpening, isOwnStep, isFinish, isOpened, isFinished, finishedBefore, ownSteps, does}
 use Rattle.queue.specs.Demand3.{queueAfter, queueAnswer, queueRecord, finishing, stepLimit}
+use Rattle.queue.specs.Linearizable.{response, precedes}
 
 unfoldable pub rules : Unit {0}
-unfolding records trees stepRules margin putNumber valueOf byMargin takeReply replyOf answerOf answersFrom answersOf refusalNumber accepted heightFor shapeFor torn callRefusal beginsWhileBusy stepsWhileIdle beginsAfterAll finishesWithoutRoom recordRefusal operationOf takeRecord recordAnswers atStart taking refusing playRecord play runTurnedDown runPlayed run kindNumber orderRecord orderList playAll listRefusal listed listPlayed listOrder sameBytes compared checkRefusal checkPlayed checkLog fed answers machineAfter doesQ begins operation event eventsAfter history isOpening isOwnStep isFinish isOpened isFinished finishedBefore ownSteps does queueAfter queueAnswer queueRecord finishing stepLimit
+unfolding records trees stepRules margin putNumber valueOf byMargin takeReply replyOf answerOf answersFrom answersOf refusalNumber accepted heightFor shapeFor torn callRefusal beginsWhileBusy stepsWhileIdle beginsAfterAll finishesWithoutRoom recordRefusal operationOf takeRecord recordAnswers atStart taking refusing playRecord play runTurnedDown runPlayed run kindNumber orderRecord orderList playAll listRefusal listed listPlayed listOrder sameBytes compared checkRefusal checkPlayed checkLog fed answers machineAfter doesQ begins operation event eventsAfter history isOpening isOwnStep isFinish isOpened isFinished finishedBefore ownSteps does queueAfter queueAnswer queueRecord finishing stepLimit response precedes
 rules = tt

@@ -3,18 +3,21 @@ use Prim.Native.Nat.{ℕ, _+_, _*_, _≤_, _<_}
 use mathlib.Core.Path.{_≡_}
 use mathlib.Core.Bool.{Bool, true}
 use mathlib.Core.List.{List, [], _∷_, map, foldl}
-use lib.ListN.{length}
+use lib.ListN.{length, take}
 use Rattle.base.specs.Choice.{if_then_else_}
 use Rattle.record.specs.declared.StepRecord.{StepRecord}
 use Rattle.record.specs.declared.Reply.{Reply}
 use Rattle.record.specs.declared.Reply.the-variants.{Nothing}
 use Rattle.record.specs.declared.AnswerRecord.{AnswerRecord}
-use Rattle.record.specs.AnswerRecords.{logBytes}
+use Rattle.record.specs.StepRecords.{stepRecords}
+use Rattle.record.specs.AnswerRecords.{answerSize, logBytes}
 use Rattle.tree.specs.Shape.{Shape, root}
+use Rattle.tree.specs.Layout.{wordsNeeded}
 use Rattle.tree.specs.Blocks.{blockAt}
 use Rattle.tree.specs.Order.{OpId, lastRoot, rootOperations}
 use Rattle.tree.specs.Standing.{same, times, standsIn, rootBlockOf}
 use Rattle.queue.specs.Refusals.{shapeFor}
+use Rattle.queue.specs.Run.{RunLeaves}
 use Rattle.queue.specs.PlainQueue.{fed, answers}
 use Rattle.queue.specs.History.{Event, opens, moves, finishes, history, isOpened, isFinished, finishedBefore, ownSteps, does}
 
@@ -70,3 +73,8 @@ pub record Kept (s : Shape) (h : List Event) (log t : List ℕ) : Type 0 where
 -- Demand 3, on p, L, the records taken, the answer bytes written and the table words left
 abbrev pub Demand3 : ℕ → ℕ → List StepRecord → List ℕ → List ℕ → Type 0
 Demand3 p l taken log t = Kept (shapeFor p l) (history (shapeFor p l) taken) log t
+
+-- Demand 3 of a call of Run on some records: of those that it took, the bytes that it wrote and the needed words that it left
+abbrev pub RunKeeps : ℕ → ℕ → List ℕ → RunLeaves → Type 0
+RunKeeps p l records e =
+    Demand3 p l (take (e .taken) (stepRecords records)) (take (answerSize * e .answered) (e .answers)) (take (wordsNeeded (shapeFor p l)) (e .table))

@@ -6,5 +6,6 @@ pub mod CheckLog
 pub mod PlainQueue
 pub mod History
 pub mod Demand3
+pub mod Linearizable
 pub mod All
 pub mod KnownRuns

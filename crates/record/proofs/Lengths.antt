@@ -1,0 +1,23 @@
+-- How many bytes a number, an answer record and a log have.
+use Prim.Native.Nat.{ℕ, zero, suc, _+_, _*_}
+use native.Mathlib.Omega.{arith}
+use mathlib.Core.Path.{_≡_, refl, ap, _∙_}
+use mathlib.Core.List.{List, [], _∷_, flatMap}
+use lib.ListN.{length, length-append}
+use Rattle.record.specs.declared.AnswerRecord.{AnswerRecord}
+use Rattle.record.specs.Bytes.{bytesOf}
+use Rattle.record.specs.AnswerRecords.{answerSize, answerBytes, logBytes}
+
+bytes-length : (n x : ℕ) → length (bytesOf n x) ≡ n
+unfolding bytesOf
+bytes-length zero x = refl
+bytes-length (suc n) x = ap suc (bytes-length n _)
+
+pub answer-length : (a : AnswerRecord) → length (answerBytes a) ≡ answerSize
+unfolding answerBytes answerSize
+answer-length a = simp (length-append, bytes-length)
+
+pub log-length : (xs : List AnswerRecord) → length (logBytes xs) ≡ answerSize * length xs
+unfolding logBytes flatMap answerSize
+log-length [] = refl
+log-length (x ∷ xs) = length-append (answerBytes x) (logBytes xs) ∙ omega (arith, answer-length x, log-length xs)
