@@ -2,7 +2,7 @@
 use Prim.Native.Nat.{ℕ, suc, _+_, _-_, _≤_, _<_}
 use native.Mathlib.Omega.{arith}
 use native.Mathlib.Decide.{decLt}
-use mathlib.Core.Path.{_≡_, refl, sym}
+use mathlib.Core.Path.{_≡_, refl, sym, _∙_}
 use mathlib.Core.Logic.{_⊎_, inl, inr}
 use mathlib.Core.Bool.{true}
 use Rattle.tree.specs.declared.Block.{Block}
@@ -23,10 +23,9 @@ use Rattle.steps.specs.declared.Operation.{Operation}
 use Rattle.steps.specs.declared.Operation.the-variants.{Put, Take}
 use Rattle.steps.specs.declared.Visit.{Visit}
 use Rattle.steps.specs.declared.After.{After}
-use Rattle.steps.specs.declared.After.the-variants.{Up}
 use Rattle.steps.specs.declared.Built.{Built}
 use Rattle.steps.specs.Rules.{plusOperation, joined, built, blockOf}
-use Rattle.steps.proofs.Stages.{Hand, none, one, two, made, Stage, adding, advancing, building, HasEnd, Holds, none-empty, after-empty}
+use Rattle.steps.proofs.Stages.{Hand, none, one, two, made, Stage, adding, advancing, building, HasEnd, Holds, none-empty, above-empty, after-empty}
 use Rattle.steps.proofs.Turns.{Turn, rests, adds, supers, raises, starts, helps, endsLeft, endsRight, makes, finds, writes, meets, finishes}
 use Rattle.steps.proofs.Progress.{LeafOpen, OwnLeaf, Building, Way}
 use Rattle.steps.proofs.Others.{LeafWrote, InnerWrote, Effect}
@@ -235,15 +234,15 @@ module _ (s : Shape) (k : ℕ) (o : Operation) (m : Memory) where
       inner-of w x p = rw (p .refreshing .node) (ancestor-inner s k kp (p .refreshing .level) (p .refreshing .low))
 
       -- C1 and C2 gain the end that they read
-      gains-left : (w : Visit) (d : Side) (u h e : ℕ) → Holds d (building w (one (headOf m (leftOf (w .node)) - 1))) u h e
+      gains-left : (w : Visit) (l : ℕ) → l ≡ headOf m (leftOf (w .node)) - 1 → (d : Side) (u h e : ℕ) → Holds d (building w (one l)) u h e
           → Holds d (building w none) u h e ⊎ (e ≡ headOf m (childOf d u) - 1)
-      gains-left w onLeft u h e q = inr (rw (← q .0) (sym (q .2)))
-      gains-left w onRight u h e q = absurd (q .2)
+      gains-left w l f onLeft u h e q = inr (rw (← q .0) (sym (q .2) ∙ f))
+      gains-left w l f onRight u h e q = absurd (q .2)
 
-      gains-right : (w : Visit) (l : ℕ) (d : Side) (u h e : ℕ) → Holds d (building w (two l (headOf m (rightOf (w .node)) - 1))) u h e
+      gains-right : (w : Visit) (l r : ℕ) → r ≡ headOf m (rightOf (w .node)) - 1 → (d : Side) (u h e : ℕ) → Holds d (building w (two l r)) u h e
           → Holds d (building w (one l)) u h e ⊎ (e ≡ headOf m (childOf d u) - 1)
-      gains-right w l onLeft u h e q = inl q
-      gains-right w l onRight u h e q = inr (rw (← q .0) (sym (q .2)))
+      gains-right w l r f onLeft u h e q = inl q
+      gains-right w l r f onRight u h e q = inr (rw (← q .0) (sym (q .2) ∙ f))
 
       pub effect : {x : Stage} {n : Memory} {y : Stage} → Turn s k o m x n y → OwnLeaf s m k b x → Way s m hold k b x → Effect s k o m x n y
       effect (rests x) own p = still (λ d u h e q. inl q)
@@ -255,10 +254,10 @@ module _ (s : Shape) (k : ℕ) (o : Operation) (m : Memory) where
       effect (raises w a v h) own p = raising w a v h (p .present) (λ d u g e q. after-empty a w d u g e q)
       effect (starts v q) own p = still (λ d u h e z. absurd (none-empty d e (z .2)))
       effect (helps w d c f) own p = still (λ d' u h e q. absurd q)
-      effect (endsLeft w) own p = still (gains-left w)
-      effect (endsRight w l) own p = still (gains-right w l)
+      effect (endsLeft w l f) own p = still (gains-left w l f)
+      effect (endsRight w l r f) own p = still (gains-right w l r f)
       effect (makes w l r f) own p = still (λ d u h e q. inl (q .0, q .1, made-ends s m w l r d e (q .2)))
-      effect (finds w l r f) own p = still (λ d u h e q. absurd (after-empty Up w d u h e q))
+      effect (finds w l r f) own p = still (λ d u h e q. absurd (above-empty (w .node) d u h e q))
       effect (writes w c f) own p =
           writing sized (building w (made c)) _ (w .node) (w .head) (blockOf c) (inner-node s (w .node) (inner-of w (made c) p)) (w .head - 1) (omega (arith, p .refreshing .first))
           (absent-count (block s m (w .node) (w .head)) f) (build-fresh hold w c p (inner-of w (made c) p) f) (λ iv d. (refl, refl, made-has c d))

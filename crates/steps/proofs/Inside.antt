@@ -2,16 +2,15 @@
 use Prim.Native.Nat.{ℕ}
 use native.Mathlib.Omega.{arith}
 use mathlib.Core.Path.{_≡_, refl}
-use mathlib.Core.Bool.{Bool, true, false, true≢false, false≢true}
+use mathlib.Core.Bool.{true, false, true≢false, false≢true}
 use Rattle.tree.specs.Shape.{Shape}
 use Rattle.tree.specs.Memory.{Memory}
 use Rattle.steps.specs.declared.Operation.{Operation}
 use Rattle.steps.specs.declared.Step.{Step}
 use Rattle.steps.specs.declared.Step.the-variants.{A, V1, V2, V3, R1, R2, R3, R4, R5, C1, C2, C3, C4, Q}
-use Rattle.steps.specs.declared.Status.the-variants.{Idle, Busy}
+use Rattle.steps.specs.declared.Status.the-variants.{Busy}
 use Rattle.steps.specs.Rules.{go, step}
 use Rattle.steps.specs.Machine.{isIdle, isQ}
-use Rattle.steps.proofs.Stages.{Stage, answering, stage}
 
 -- the step is Q
 pub is-q : (n : Step) → isQ n ≡ true → n ≡ Q

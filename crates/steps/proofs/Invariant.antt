@@ -92,8 +92,8 @@ module _ (s : Shape) (m : Memory) (hold : ℕ → Stage) (k : ℕ) (kp : k < pro
   turn-sized (raises w a v h) p sz = raise-sized m v h s sz
   turn-sized (starts v q) p sz = sz
   turn-sized (helps w d c f) p sz = sz
-  turn-sized (endsLeft w) p sz = sz
-  turn-sized (endsRight w l) p sz = sz
+  turn-sized (endsLeft w l f) p sz = sz
+  turn-sized (endsRight w l r f) p sz = sz
   turn-sized (makes w l r f) p sz = sz
   turn-sized (finds w l r f) p sz = sz
   turn-sized (writes w c f) p sz = write-sized s m (w .node) (w .head) _ sz (inner-node s (w .node) (refresh-inner s m hold k kp b w (p .refreshing)))

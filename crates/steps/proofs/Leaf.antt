@@ -16,7 +16,9 @@ use Rattle.steps.specs.declared.Operation.{Operation}
 use Rattle.steps.specs.declared.Visit.{Visit}
 use Rattle.steps.specs.declared.After.{After}
 use Rattle.steps.specs.declared.After.the-variants.{Right, Ends, Again, Up}
-use Rattle.steps.proofs.Stages.{Hand, made, Stage, resting, adding, advancing, starting, building, answering, afterStage}
+use Rattle.steps.specs.declared.Step.{Step}
+use Rattle.steps.specs.Rules.{above, resume}
+use Rattle.steps.proofs.Stages.{stage, aboveStage, Hand, made, Stage, resting, adding, advancing, starting, building, answering, afterStage}
 use Rattle.steps.proofs.Turns.{Turn, rests, adds, supers, raises, starts, helps, endsLeft, endsRight, makes, finds, writes, meets, finishes}
 use Rattle.steps.proofs.Progress.{LeafEnds, LeafDone, LeafOpen, LeafMoving, OwnLeaf, Way}
 use Rattle.steps.proofs.Others.{LeafWrote, Effect}
@@ -85,11 +87,16 @@ module _ {s : Shape} {m n : Memory} {a : ℕ} {o : Operation} {x y : Stage} (eff
     own-stable answering d = done-stays d
 
 -- ---- its own turn
+own-above : {s : Shape} {m : Memory} {k b : ℕ} (v : ℕ) → LeafDone s m k b → OwnLeaf s m k b (aboveStage v)
+unfolding above
+own-above {s} {m} {k} {b} v d = both (λ (n : Step). OwnLeaf s m k b (stage n)) (eqb v root) d d
+
 own-after : {s : Shape} {m : Memory} {k b : ℕ} (a : After) (w : Visit) → LeafDone s m k b → OwnLeaf s m k b (afterStage a w)
+unfolding resume
 own-after Right w d = d
 own-after Ends w d = d
 own-after Again w d = d
-own-after {s} {m} {k} {b} Up w d = both (OwnLeaf s m k b) (eqb (w .node) root) d d
+own-after Up w d = own-above (w .node) d
 
 moving : {s : Shape} {m : Memory} {k b v h : ℕ} → LeafDone s m k b → LeafMoving s m k b v h
 moving d = record { ends = d .ends; head = inl (d .head) }
@@ -141,10 +148,10 @@ module _ (s : Shape) (k : ℕ) (kp : k < processes s) (o : Operation) (m : Memor
   own-turn (raises w a v h) eff d p = own-after a w (raised w a v h eff (p .present) (p .node) d)
   own-turn (starts v q) eff d p = d
   own-turn (helps w z c f) eff d p = moving d
-  own-turn (endsLeft w) eff d p = d
-  own-turn (endsRight w l) eff d p = d
+  own-turn (endsLeft w l f) eff d p = d
+  own-turn (endsRight w l r f) eff d p = d
   own-turn (makes w l r f) eff d p = d
-  own-turn (finds w l r f) eff d p = own-after Up w d
+  own-turn (finds w l r f) eff d p = own-above (w .node) d
   own-turn (writes w c f) eff d p = moving (own-stable eff k kp b (λ e. not-adding′) (building w (made c)) d)
   own-turn (meets w c f) eff d p = moving d
   own-turn finishes eff d p = d

@@ -19,8 +19,9 @@ use Rattle.steps.specs.declared.Operation.{Operation}
 use Rattle.steps.specs.declared.Visit.{Visit}
 use Rattle.steps.specs.declared.After.{After}
 use Rattle.steps.specs.declared.After.the-variants.{Right, Ends, Again, Up}
-use Rattle.steps.specs.Rules.{built, sameTotals}
-use Rattle.steps.proofs.Stages.{Hand, none, one, two, made, Stage, aboveStage, afterStage, HasEnd, Holds, none-empty}
+use Rattle.steps.specs.Rules.{above, resume, built, sameTotals}
+use Rattle.steps.specs.declared.Step.{Step}
+use Rattle.steps.proofs.Stages.{stage, Hand, none, one, two, made, Stage, aboveStage, afterStage, HasEnd, Holds, none-empty}
 use Rattle.steps.proofs.Progress.{Covered, Owed, Refreshing, Starting, Passing, AfterAdvance, EndOk, HandOk, Building, Way}
 use Rattle.steps.proofs.Others.{Effect, Registers, owed-stable, make-building}
 use Rattle.steps.proofs.Builds.{built-follows, built-joins, same-ends}
@@ -38,10 +39,10 @@ module _ (s : Shape) (n : Memory) (sound : Sound s n) (hold : ℕ → Stage) (k 
 
   -- the parent's refresh begins, or Q
   pub go-up : (w : Visit) (v i : ℕ) → Passing s n k b w v i → i < headOf n v → Way s n hold k b (aboveStage (w .node))
-  unfolding root
+  unfolding root above
   go-up w v i p l =
       let cov : Covered s n k b (p .level) = covered-by (p .level) (p .low) i (subst (λ (u : ℕ). i < headOf n u) (p .same ∙ p .node) l) (p .got) in
-      cases (Way s n hold k b) (eqb (w .node) 1)
+      cases (λ (x : Step). Way s n hold k b (stage x)) (eqb (w .node) 1)
       (λ f.
       let z : p .level ≡ s .height = root-height s k kp (p .level) (p .low) (sym (p .node) ∙ eqb-true (w .node) 1 f) in
       let c : Covered s n k b (s .height) = rw z at cov in
@@ -60,6 +61,7 @@ module _ (s : Shape) (n : Memory) (sound : Sound s n) (hold : ℕ → Stage) (k 
 
   -- what follows an advance begins
   pub resumed : (w : Visit) (a : After) (v h : ℕ) → h < headOf n v → AfterAdvance s n hold k b w a v h → Way s n hold k b (afterStage a w)
+  unfolding resume
   resumed w Right v h l p = bare w p
   resumed w Ends v h l p = bare w p
   resumed w Again v h l p =
@@ -144,22 +146,20 @@ module _ (s : Shape) (m : Memory) (sound : Sound s m) (hold hold' : ℕ → Stag
           let y : headOf m (ancestor s k (r .level)) - 1 ≡ e = subst (λ (u : ℕ). headOf m u - 1 ≡ e) z q in
           rw (← y) (r .covered)
 
-      pub read-left : Building s m hold' k b w (one (headOf m (leftOf (w .node)) - 1))
-      read-left = keep w (one (headOf m (leftOf (w .node)) - 1)) r (read-end onLeft) (on (sideAt s k (r .level)) refl)
+      pub read-left : (l : ℕ) → l ≡ headOf m (leftOf (w .node)) - 1 → Building s m hold' k b w (one l)
+      read-left l f = keep w (one l) r (subst (EndOk s m w onLeft) (sym f) (read-end onLeft)) (on (sideAt s k (r .level)) refl)
         where
-          on : (d : Side) → sideAt s k (r .level) ≡ d → (e : ℕ) → HasEnd d (one (headOf m (leftOf (w .node)) - 1)) e → b ≤ reach s m k (r .level) e
-          on onLeft de e q = read-mine onLeft de e q
+          on : (d : Side) → sideAt s k (r .level) ≡ d → (e : ℕ) → HasEnd d (one l) e → b ≤ reach s m k (r .level) e
+          on onLeft de e q = read-mine onLeft de e (sym f ∙ q)
           on onRight de e q = absurd q
 
-    pub read-right : (w : Visit) (l : ℕ) → Building s m hold k b w (one l) → Building s m hold' k b w (two l (headOf m (rightOf (w .node)) - 1))
-    read-right w l p = keep w (two l (headOf m (rightOf (w .node)) - 1)) r (p .hand, read-end w r onRight) (on (sideAt s k (r .level)) refl)
+    pub read-right : (w : Visit) (l r : ℕ) → r ≡ headOf m (rightOf (w .node)) - 1 → Building s m hold k b w (one l) → Building s m hold' k b w (two l r)
+    read-right w l r f p =
+        keep w (two l r) (p .refreshing) (p .hand, subst (EndOk s m w onRight) (sym f) (read-end w (p .refreshing) onRight)) (on (sideAt s k (p .refreshing .level)) refl)
       where
-        r : Refreshing s m hold k b w
-        r = p .refreshing
-
-        on : (d : Side) → sideAt s k (p .refreshing .level) ≡ d → (e : ℕ) → HasEnd d (two l (headOf m (rightOf (w .node)) - 1)) e → b ≤ reach s m k (p .refreshing .level) e
+        on : (d : Side) → sideAt s k (p .refreshing .level) ≡ d → (e : ℕ) → HasEnd d (two l r) e → b ≤ reach s m k (p .refreshing .level) e
         on onLeft de e q = p .mine e (rw de q)
-        on onRight de e q = read-mine w (p .refreshing) onRight de e q
+        on onRight de e q = read-mine w (p .refreshing) onRight de e (sym f ∙ q)
 
     -- C3
     module _ (w : Visit) (l r : ℕ) (p : Building s m hold k b w (two l r)) where

@@ -1,11 +1,10 @@
 -- The stage of an operation that a step is in, with what the process holds there. Used by proofs; no promise cites it.
 use Prim.Native.Nat.{ℕ}
 use mathlib.Core.Path.{_≡_, refl}
-use mathlib.Core.Bool.{Bool, true, false}
+use mathlib.Core.Bool.{Bool}
 use lib.Dec.{eqb}
-use Rattle.base.specs.Choice.{if_then_else_}
 use Rattle.base.proofs.Cases.{both}
-use Rattle.tree.specs.Shape.{root, parentOf}
+use Rattle.tree.specs.Shape.{root}
 use Rattle.tree.proofs.Nodes.{Side, onLeft, onRight}
 use Rattle.steps.specs.declared.Visit.{Visit}
 use Rattle.steps.specs.declared.After.{After}
@@ -54,28 +53,10 @@ stageOf (Busy o n) = stage n
 
 -- the stage after the last refresh of v, and after an advance
 abbrev pub aboveStage : ℕ → Stage
-aboveStage v = if eqb v root then answering else starting (parentOf v) false
+aboveStage v = stage (above v)
 
 abbrev pub afterStage : After → Visit → Stage
-afterStage Right w = building w none
-afterStage Ends w = building w none
-afterStage Again w = starting (w .node) true
-afterStage Up w = aboveStage (w .node)
-
-pub stage-above : (v : ℕ) → stage (above v) ≡ aboveStage v
-unfolding above
-stage-above v = on (eqb v root)
-  where
-    on : (b : Bool) → stage (if b then Q else R1 (parentOf v) false) ≡ (if b then answering else starting (parentOf v) false)
-    on true = refl
-    on false = refl
-
-pub stage-resume : (a : After) (w : Visit) → stage (resume a w) ≡ afterStage a w
-unfolding resume
-stage-resume Right w = refl
-stage-resume Ends w = refl
-stage-resume Again w = refl
-stage-resume Up w = stage-above (w .node)
+afterStage a w = stage (resume a w)
 
 pub stage-advance : (w : Visit) (a : After) (v h : ℕ) → stage (advance w a v h) ≡ advancing w a v h
 unfolding advance
@@ -105,11 +86,13 @@ Holds d (starting v second) u h e = ⊥
 Holds d (building w x) u h e = (w .node ≡ u) × (w .head ≡ h) × HasEnd d x e
 Holds d answering u h e = ⊥
 
+pub above-empty : (v : ℕ) (d : Side) (u h e : ℕ) → Holds d (aboveStage v) u h e → ⊥
+unfolding above
+above-empty v d u h e = both (λ (n : Step). Holds d (stage n) u h e → ⊥) (eqb v root) (λ q. q) (λ q. q)
+
 pub after-empty : (a : After) (w : Visit) (d : Side) (u h e : ℕ) → Holds d (afterStage a w) u h e → ⊥
+unfolding resume
 after-empty Right w d u h e p = none-empty d e (p .2)
 after-empty Ends w d u h e p = none-empty d e (p .2)
 after-empty Again w d u h e p = p
-after-empty Up w d u h e p = above-empty (w .node) p
-  where
-    above-empty : (v : ℕ) → Holds d (aboveStage v) u h e → ⊥
-    above-empty v = both (λ (x : Stage). Holds d x u h e → ⊥) (eqb v root) (λ q. q) (λ q. q)
+after-empty Up w d u h e p = above-empty (w .node) d u h e p

@@ -16,7 +16,7 @@ use Rattle.steps.specs.declared.Built.{Built}
 use Rattle.steps.specs.declared.Step.{Step}
 use Rattle.steps.specs.declared.Step.the-variants.{A, V1, V2, V3, R1, R2, R3, R4, R5, C1, C2, C3, C4, Q}
 use Rattle.steps.specs.Rules.{resume, afterRefresh, help, plusOperation, built, sameTotals, blockOf, go, step}
-use Rattle.steps.proofs.Stages.{none, one, two, made, Stage, resting, adding, advancing, starting, building, answering, stage, stageOf, aboveStage, afterStage, stage-above, stage-resume, stage-advance}
+use Rattle.steps.proofs.Stages.{none, one, two, made, Stage, resting, adding, advancing, starting, building, answering, stage, stageOf, aboveStage, afterStage, stage-advance}
 
 -- what follows a help on a side
 abbrev pub afterHelp : Side → After
@@ -40,9 +40,9 @@ pub data Turn (s : Shape) (k : ℕ) (o : Operation) (m : Memory) : Stage → Mem
   -- R3 and R5 that find a block
   helps : (w : Visit) (d : Side) (c : ℕ) → absent (block s m (childOf d (w .node)) c) ≡ false
       → Turn s k o m (building w none) m (advancing w (afterHelp d) (childOf d (w .node)) c)
-  -- C1, C2
-  endsLeft : (w : Visit) → Turn s k o m (building w none) m (building w (one (headOf m (leftOf (w .node)) - 1)))
-  endsRight : (w : Visit) (l : ℕ) → Turn s k o m (building w (one l)) m (building w (two l (headOf m (rightOf (w .node)) - 1)))
+  -- C1, C2: the end is the place before the child's head
+  endsLeft : (w : Visit) (l : ℕ) → l ≡ headOf m (leftOf (w .node)) - 1 → Turn s k o m (building w none) m (building w (one l))
+  endsRight : (w : Visit) (l r : ℕ) → r ≡ headOf m (rightOf (w .node)) - 1 → Turn s k o m (building w (one l)) m (building w (two l r))
   -- C3: other totals, or equal ones
   makes : (w : Visit) (l r : ℕ) → sameTotals (built s m w l r) (block s m (w .node) (w .head - 1)) ≡ false
       → Turn s k o m (building w (two l r)) m (building w (made (built s m w l r)))
@@ -72,21 +72,21 @@ module _ (s : Shape) (k : ℕ) (o : Operation) (m : Memory) where
   write-turn w n false e = rw e (meets w n e)
 
   pub turn : (n : Step) → Turn s k o m (stage n) (step s k o m n .memory) (stageOf (step s k o m n .next))
-  unfolding step go
+  unfolding step go resume
   turn A = rw (stage-advance _ Up (leafOf s k) (headOf m (leafOf s k))) adds
   turn (V1 w a v h) = rests (advancing w a v h)
   turn (V2 w a v h x) = supers w a v h x
-  turn (V3 w a v h) = rw (stage-resume a w) (raises w a v h)
+  turn (V3 w a v h) = raises w a v h
   turn (R1 v q) = starts v q
   turn (R2 w) = rests (building w none)
-  turn (R3 w c) = help-turn w onLeft c (stage-resume Right w)
+  turn (R3 w c) = help-turn w onLeft c refl
   turn (R4 w) = rests (building w none)
-  turn (R5 w c) = help-turn w onRight c (stage-resume Ends w)
-  turn (C1 w) = endsLeft w
-  turn (C2 w l) = endsRight w l
+  turn (R5 w c) = help-turn w onRight c refl
+  turn (C1 w) = endsLeft w _ refl
+  turn (C2 w l) = endsRight w l _ refl
   turn (C3 w l r) =
       cases (λ (n : Step). Turn s k o m (building w (two l r)) m (stage n)) (sameTotals (built s m w l r) (block s m (w .node) (w .head - 1)))
-      (λ e. rw (stage-above (w .node)) (finds w l r e)) (λ e. makes w l r e)
+      (λ e. finds w l r e) (λ e. makes w l r e)
   turn (C4 w n) =
       rw (stage-advance w (afterRefresh (w .second) (absent (block s m (w .node) (w .head)))) (w .node) (w .head))
       (write-turn w n (absent (block s m (w .node) (w .head))) refl)

@@ -134,8 +134,8 @@ module _ (s : Shape) (m : Memory) (sized : Sized s m) (sound : Sound s m) (hold 
         helped : (d : Side) → Refreshing s m hold' k b w → AfterAdvance s m hold' k b w (afterHelp d) (childOf d (w .node)) c
         helped onLeft r = r
         helped onRight r = r
-    way-turn (endsLeft w) e f eff own p = read-left s m sound hold hold' k kp o eff others regs b w (p .refreshing)
-    way-turn (endsRight w l) e f eff own p = read-right s m sound hold hold' k kp o eff others regs b w l p
+    way-turn (endsLeft w l g) e f eff own p = read-left s m sound hold hold' k kp o eff others regs b w (p .refreshing) l g
+    way-turn (endsRight w l r g) e f eff own p = read-right s m sound hold hold' k kp o eff others regs b w l r g p
     way-turn (makes w l r g) e f eff own p = made-block s m sound hold hold' k kp o eff others regs b w l r p g
     way-turn (finds w l r g) e f eff own p = nothing-new s m sound hold hold' k kp o eff others regs b w l r p g
     way-turn (writes w c g) e f eff own p =
