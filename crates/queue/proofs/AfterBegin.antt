@@ -1,5 +1,5 @@
 -- A begin keeps the agreement of history and machine.
-use Prim.Native.Nat.{ℕ, suc, _+_, _-_, _≤_, _<_}
+use Prim.Native.Nat.{ℕ, suc, _+_, _≤_, _<_}
 use native.Mathlib.Omega.{arith}
 use native.Mathlib.Decide.{decLe, ℕ-discrete}
 use native.Mathlib.Nat.{le-refl}
@@ -9,14 +9,12 @@ use mathlib.Core.Bool.{Bool, true, false, _&&_, _||_, and-false, or-false as or-
 use mathlib.Core.List.{List, [], _∷_, _++_, map, append-nil}
 use lib.Dec.{leb}
 use borrow.Author.Tests.{le-leb, lt-leb}
-use Rattle.base.specs.Choice.{if_then_else_}
 use Rattle.base.proofs.Cases.{and-true, or-false}
 use Rattle.record.specs.declared.AnswerRecord.{AnswerRecord}
 use Rattle.tree.specs.Shape.{Shape, processes, leafOf}
 use Rattle.tree.specs.Memory.{block}
 use Rattle.tree.specs.Order.{OpId, lastRoot}
 use Rattle.tree.specs.Standing.{same}
-use Rattle.tree.proofs.Presence.{Present}
 use Rattle.tree.proofs.Later.{later-refl}
 use Rattle.tree.proofs.LastRoot.{last-written}
 use Rattle.tree.proofs.Names.{same-refl, same-eq, other-process, other-serial}
@@ -25,7 +23,6 @@ use Rattle.tree.proofs.Once.{Found}
 use Rattle.steps.specs.declared.Operation.{Operation}
 use Rattle.steps.specs.declared.Step.{Step}
 use Rattle.steps.specs.declared.Step.the-variants.{A}
-use Rattle.steps.specs.declared.Status.{Status}
 use Rattle.steps.specs.declared.Status.the-variants.{Idle, Busy}
 use Rattle.steps.specs.declared.Process.{Process}
 use Rattle.steps.specs.Machine.{Machine, processOf, withProcess, isIdle, begin}

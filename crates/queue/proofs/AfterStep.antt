@@ -4,40 +4,37 @@ use native.Mathlib.Omega.{arith}
 use native.Mathlib.Decide.{ℕ-discrete}
 use native.Mathlib.Nat.{le-refl}
 use mathlib.Core.Path.{_≡_, refl, ap, sym, _∙_, subst}
-use mathlib.Core.Logic.{_≢_, _⊎_, inl, inr}
-use mathlib.Core.Bool.{Bool, true, false, _&&_, _||_, and-false, and-true as and-one}
+use mathlib.Core.Logic.{_≢_, inl, inr}
+use mathlib.Core.Bool.{Bool, true, false, _&&_, and-false, and-true as and-one}
 use mathlib.Core.List.{List, [], _∷_, _++_, map}
-use Rattle.base.specs.Choice.{if_then_else_}
 use Rattle.base.proofs.Cases.{and-true, or-false, contradiction}
 use Rattle.record.specs.declared.AnswerRecord.{AnswerRecord}
 use Rattle.tree.specs.declared.Block.{Block}
 use Rattle.tree.specs.Shape.{Shape, processes, root, leafOf}
 use Rattle.tree.specs.Memory.{Memory, headOf, block}
-use Rattle.tree.specs.Order.{OpId, lastRoot, rootOperations}
-use Rattle.tree.specs.Standing.{same, times}
+use Rattle.tree.specs.Order.{OpId, lastRoot}
+use Rattle.tree.specs.Standing.{same}
 use Rattle.tree.proofs.Nodes.{Node, leaf-node}
-use Rattle.tree.proofs.Presence.{Present}
-use Rattle.tree.proofs.Sound.{Sound, NodeSound, below-head, before-written, present-low}
-use Rattle.tree.proofs.Growth.{Same, Grows}
+use Rattle.tree.proofs.Sound.{NodeSound, below-head, before-written}
+use Rattle.tree.proofs.Growth.{Same}
 use Rattle.tree.proofs.Later.{Later, later-refl, later-grows}
-use Rattle.tree.proofs.LastRoot.{last-written, head-last, root-written}
-use Rattle.tree.proofs.Names.{same-refl, same-eq, other-process, other-serial}
-use Rattle.tree.proofs.Reached.{reached, reached-rises}
+use Rattle.tree.proofs.LastRoot.{last-written, head-last}
+use Rattle.tree.proofs.Names.{same-refl, same-eq, other-process}
+use Rattle.tree.proofs.Reached.{reached-rises}
 use Rattle.tree.proofs.Once.{Found}
 use Rattle.tree.proofs.OrderGrows.{last-grows, reached-stays, reached-grows}
 use Rattle.steps.specs.declared.Operation.{Operation}
 use Rattle.steps.specs.declared.Operation.the-variants.{Put, Take}
 use Rattle.steps.specs.declared.Step.{Step}
-use Rattle.steps.specs.declared.Step.the-variants.{A, Q}
-use Rattle.steps.specs.declared.Status.{Status}
-use Rattle.steps.specs.declared.Status.the-variants.{Idle, Busy}
+use Rattle.steps.specs.declared.Step.the-variants.{A}
+use Rattle.steps.specs.declared.Status.the-variants.{Busy}
 use Rattle.steps.specs.declared.Process.{Process}
 use Rattle.steps.specs.Rules.{plusOperation, step}
 use Rattle.steps.specs.Machine.{Machine, processOf, isIdle, isQ, stepOf}
-use Rattle.steps.proofs.Stages.{Stage, adding, answering, stage, stageOf}
+use Rattle.steps.proofs.Stages.{answering, stage, stageOf}
 use Rattle.steps.proofs.Progress.{LeafOpen, OwnLeaf, Rooted, Way}
 use Rattle.steps.proofs.Others.{LeafWrote, Effect}
-use Rattle.steps.proofs.Costs.{rest, restOf}
+use Rattle.steps.proofs.Costs.{rest}
 use Rattle.steps.proofs.Inside.{is-q, next-busy, still-busy}
 use Rattle.steps.proofs.Invariant.{Invariant, holding}
 use Rattle.steps.proofs.Keeps.{step-keeps, step-effect, stepped-memory, stepped-here, stepped-other}
@@ -46,7 +43,7 @@ use Rattle.queue.specs.Demand3.{queueRecord, finishing}
 use Rattle.queue.proofs.Leaves.{IsBlockOf, LeavesAre}
 use Rattle.queue.proofs.Agrees.{Doing, Before, Running, Agrees}
 use Rattle.queue.proofs.Events.{does-kept, or-cases}
-use Rattle.queue.proofs.RecordsStay.{leaf-begun, opened-yes, records-kept}
+use Rattle.queue.proofs.RecordsStay.{leaf-begun, opened-yes}
 use Rattle.queue.proofs.StepEvents.{stepEvent, opened-kept, steps-more, finished-more, before-kept}
 
 -- a leaf's block stays an operation's as it stays the same, and one that was just added is the operation's

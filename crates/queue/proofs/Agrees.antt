@@ -1,7 +1,7 @@
 -- The history, the counts and the answers agree with the machine that the records left. This is the invariant of a run. Used by proofs; no promise cites it.
 use Prim.Native.Nat.{ℕ, _≤_, _<_}
 use mathlib.Core.Path.{_≡_}
-use mathlib.Core.Bool.{Bool, true, false, _&&_}
+use mathlib.Core.Bool.{true, false, _&&_}
 use mathlib.Core.List.{List, map}
 use lib.Dec.{leb}
 use Rattle.record.specs.declared.AnswerRecord.{AnswerRecord}

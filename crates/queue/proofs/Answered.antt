@@ -1,14 +1,13 @@
 -- The answer given at Q is the plain queue's, and a step keeps all answers so.
-use Prim.Native.Nat.{ℕ, _+_, _≤_, _<_}
+use Prim.Native.Nat.{ℕ, _≤_, _<_}
 use native.Mathlib.Omega.{arith}
 use native.Mathlib.Nat.{le-refl}
 use mathlib.Core.Path.{_≡_, refl, ap, sym, _∙_}
-use mathlib.Core.Bool.{Bool, true, false, _&&_, _||_}
-use mathlib.Core.List.{List, [], _∷_, _++_, map, append-nil}
+use mathlib.Core.Bool.{Bool, true, false, _||_}
+use mathlib.Core.List.{List, [], _∷_, _++_, map}
 use Rattle.base.specs.Choice.{if_then_else_}
 use Rattle.base.proofs.Cases.{contradiction}
 use Rattle.record.specs.declared.AnswerRecord.{AnswerRecord}
-use Rattle.record.specs.declared.Reply.{Reply}
 use Rattle.tree.specs.Shape.{Shape, processes}
 use Rattle.tree.specs.Memory.{Memory}
 use Rattle.tree.specs.Order.{OpId, rootOperations}
@@ -17,14 +16,13 @@ use Rattle.tree.proofs.Names.{same-refl, same-eq}
 use Rattle.tree.proofs.Once.{Found, stands-once}
 use Rattle.steps.specs.declared.Operation.{Operation}
 use Rattle.steps.specs.declared.Step.{Step}
-use Rattle.steps.specs.declared.Step.the-variants.{Q}
 use Rattle.steps.specs.declared.Status.the-variants.{Busy}
 use Rattle.steps.specs.Rules.{step}
 use Rattle.steps.specs.Machine.{Machine, processOf, isQ, stepOf}
 use Rattle.steps.proofs.Inside.{is-q, q-memory}
 use Rattle.steps.proofs.Keeps.{stepped-memory}
 use Rattle.queue.specs.Answer.{replyOf, answerOf}
-use Rattle.queue.specs.History.{Event, isFinished, ownSteps, does}
+use Rattle.queue.specs.History.{Event, isFinished, ownSteps}
 use Rattle.queue.specs.Demand3.{queueAnswer, queueRecord, finishing}
 use Rattle.queue.proofs.Agrees.{Agrees}
 use Rattle.queue.proofs.RecordsStay.{records-kept}

@@ -1,14 +1,14 @@
 -- What one more event keeps: what an operation does, and which operations have finished. Lists of operations by what holds of each.
-use Prim.Native.Nat.{ℕ, suc, _+_, _≤_}
+use Prim.Native.Nat.{suc, _≤_}
 use native.Mathlib.Omega.{arith}
-use mathlib.Core.Path.{_≡_, refl, ap, sym, _∙_}
-use mathlib.Core.Bool.{Bool, true, false, _||_, false≢true}
+use mathlib.Core.Path.{_≡_, refl, _∙_}
+use mathlib.Core.Bool.{Bool, true, false, _||_}
 use mathlib.Core.List.{List, [], _∷_, _++_, map}
 use Rattle.base.specs.Choice.{if_then_else_}
 use Rattle.base.proofs.All.{All}
 use Rattle.tree.specs.Order.{OpId}
 use Rattle.tree.specs.Standing.{same, times}
-use Rattle.tree.proofs.Names.{same-refl, same-eq}
+use Rattle.tree.proofs.Names.{same-refl}
 use Rattle.queue.specs.History.{Event, opens, moves, finishes, isFinish, isOpened, isFinished, does}
 use Rattle.queue.specs.Demand3.{finishing}
 use Rattle.queue.proofs.Histories.{does-append}

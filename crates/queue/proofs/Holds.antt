@@ -1,9 +1,8 @@
 -- Demand 3 holds wherever history and machine agree: clause by clause.
-use Prim.Native.Nat.{ℕ, _+_, _*_, _-_, _≤_, _<_}
+use Prim.Native.Nat.{ℕ, _-_, _≤_, _<_}
 use native.Mathlib.Omega.{arith}
 use native.Mathlib.Decide.{decLe}
 use mathlib.Core.Path.{_≡_, ap}
-use mathlib.Core.Bool.{Bool, true}
 use mathlib.Core.List.{List, []}
 use lib.ListN.{length}
 use Rattle.record.specs.declared.AnswerRecord.{AnswerRecord}
@@ -12,14 +11,14 @@ use Rattle.tree.specs.Shape.{Shape, root}
 use Rattle.tree.specs.Memory.{Memory, block}
 use Rattle.tree.specs.Blocks.{blockAt}
 use Rattle.tree.specs.Order.{OpId, lastRoot, rootOperations}
-use Rattle.tree.specs.Standing.{times, standsIn}
+use Rattle.tree.specs.Standing.{standsIn}
 use Rattle.tree.proofs.Sound.{Sound}
 use Rattle.tree.proofs.LastRoot.{root-written}
-use Rattle.tree.proofs.Reached.{reached, reached-rises}
+use Rattle.tree.proofs.Reached.{reached-rises}
 use Rattle.tree.proofs.Once.{InBlock, stands-most, in-block}
 use Rattle.steps.specs.Machine.{Machine}
 use Rattle.steps.proofs.Costs.{rest-first}
-use Rattle.queue.specs.History.{Event, finishedBefore, ownSteps}
+use Rattle.queue.specs.History.{Event, ownSteps}
 use Rattle.queue.specs.Demand3.{queueAfter, stepLimit, Kept}
 use Rattle.queue.proofs.Agrees.{Before, Agrees}
 use Rattle.queue.proofs.RecordsStay.{standing-opened, finished-stands}

@@ -16,3 +16,6 @@ pub mod Answered
 pub mod Runs
 pub mod Holds
 pub mod Theorem
+pub mod Linearized
+pub mod WaitFree
+pub mod Corollaries

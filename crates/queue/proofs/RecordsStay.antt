@@ -1,19 +1,15 @@
 -- The answer records of finished operations stay as the memory grows and events are added.
-use Prim.Native.Nat.{ℕ, suc, _≤_, _<_}
+use Prim.Native.Nat.{ℕ, _≤_, _<_}
 use native.Mathlib.Omega.{arith}
-use mathlib.Core.Path.{_≡_, refl, ap, sym, _∙_}
-use mathlib.Core.Bool.{Bool, true, false, _&&_}
-use mathlib.Core.List.{List, [], _∷_, _++_, map, flatMap}
-use lib.Dec.{leb}
+use mathlib.Core.Path.{_≡_, ap, _∙_}
+use mathlib.Core.Bool.{true}
+use mathlib.Core.List.{List, [], _++_, map}
 use borrow.Author.Tests.{le-leb}
-use Rattle.base.specs.Between.{between}
-use Rattle.base.proofs.All.{All}
 use Rattle.record.specs.declared.AnswerRecord.{AnswerRecord}
-use Rattle.record.specs.declared.Reply.{Reply}
 use Rattle.tree.specs.Shape.{Shape, processes, leafOf}
 use Rattle.tree.specs.Memory.{Memory}
-use Rattle.tree.specs.Order.{OpId, lastRoot, blockOrder, rootOrder, rootOperations}
-use Rattle.tree.specs.Standing.{times, rootBlockOf}
+use Rattle.tree.specs.Order.{OpId, lastRoot, rootOrder, rootOperations}
+use Rattle.tree.specs.Standing.{times}
 use Rattle.tree.proofs.Presence.{Present}
 use Rattle.tree.proofs.Sound.{Sound}
 use Rattle.tree.proofs.Later.{Later}
@@ -25,7 +21,7 @@ use Rattle.tree.proofs.OrderGrows.{order-grows, root-block-grows}
 use Rattle.steps.specs.Machine.{Machine, processOf}
 use Rattle.steps.proofs.Leaf.{leaf-within}
 use Rattle.steps.proofs.Invariant.{holding}
-use Rattle.queue.specs.History.{Event, operation, isOpened, isFinished, ownSteps, does}
+use Rattle.queue.specs.History.{Event, isOpened, isFinished, ownSteps}
 use Rattle.queue.specs.Demand3.{queueAnswer, queueRecord, finishing}
 use Rattle.queue.proofs.Feeding.{answer-in, answer-same}
 use Rattle.queue.proofs.Agrees.{Agrees}

@@ -6,19 +6,17 @@ use mathlib.Core.Path.{_≡_, refl, ap, sym, _∙_, subst, fun-ext}
 use mathlib.Core.Logic.{_≢_}
 use mathlib.Core.Bool.{Bool, true, false, _&&_, true≢false, false≢true}
 use mathlib.Core.List.{List, [], _∷_, _++_, append-nil}
-use lib.Dec.{eqb, leb}
+use lib.Dec.{leb}
 use borrow.Author.Tests.{eq-eqb, ne-eqb, lt-leb}
 use lib.Seq.{append-snoc}
 use Rattle.base.specs.Choice.{if_then_else_}
-use Rattle.base.proofs.Cases.{cases}
 use Rattle.record.specs.declared.StepRecord.{StepRecord}
 use Rattle.record.specs.declared.AnswerRecord.{AnswerRecord}
 use Rattle.record.specs.StepRecords.{isStep, isBegin}
 use Rattle.tree.specs.Shape.{Shape, processes, leafOf}
-use Rattle.tree.specs.Memory.{Memory}
 use Rattle.tree.specs.Order.{OpId}
 use Rattle.tree.proofs.Later.{Later, later-refl, later-trans}
-use Rattle.tree.proofs.Cleared.{cleared, cleared-count}
+use Rattle.tree.proofs.Cleared.{cleared-count}
 use Rattle.steps.specs.declared.Operation.{Operation}
 use Rattle.steps.specs.declared.Step.{Step}
 use Rattle.steps.specs.declared.Status.{Status}
@@ -26,11 +24,10 @@ use Rattle.steps.specs.declared.Status.the-variants.{Idle, Busy}
 use Rattle.steps.specs.declared.Process.{Process}
 use Rattle.steps.specs.Process.{idle}
 use Rattle.steps.specs.Machine.{Machine, start, processOf, withProcess, isIdle, isQ, atQ, begin, stepOf}
-use Rattle.steps.proofs.Costs.{rest}
 use Rattle.steps.proofs.Keeps.{start-invariant, start-process}
 use Rattle.queue.specs.Answer.{answerOf, answersFrom, answersOf}
 use Rattle.queue.specs.Run.{operationOf, takeRecord, recordAnswers}
-use Rattle.queue.specs.History.{Event, opens, machineAfter, doesQ, begins, operation, event, eventsAfter, history, isOpened, isFinished, finishedBefore, ownSteps, does}
+use Rattle.queue.specs.History.{Event, opens, machineAfter, doesQ, begins, operation, event, eventsAfter, history, isOpened, isFinished, finishedBefore, ownSteps}
 use Rattle.queue.specs.Demand3.{finishing}
 use Rattle.queue.proofs.Legal.{Accepted, Legal, none, more, answersAfter, answersAlong, not-step, not-begin}
 use Rattle.queue.proofs.Prefixes.{legal-prefix, legal-accepted}

@@ -1,5 +1,5 @@
 -- The event of a step record: a step of the operation, which finishes it if the step is Q.
-use Prim.Native.Nat.{ℕ, _+_}
+use Prim.Native.Nat.{_+_}
 use mathlib.Core.Path.{_≡_, refl, ap, _∙_}
 use mathlib.Core.Bool.{Bool, true, false, _&&_, _||_, and-false, or-false as or-none}
 use mathlib.Core.List.{List, [], _∷_, _++_}

@@ -1,14 +1,13 @@
 -- THE theorem: demand 3 holds of what Run leaves, for every p, L, list of bytes, table and answer buffer; and of every list of records, for general H.
-use Prim.Native.Nat.{ℕ, suc, _+_, _*_, _≤_}
+use Prim.Native.Nat.{ℕ, _*_, _≤_}
 use native.Mathlib.Omega.{arith}
 use native.Mathlib.Nat.{le-refl}
 use mathlib.Core.Path.{_≡_, refl, ap, sym, _∙_, subst}
-use mathlib.Core.Bool.{Bool, true, false}
-use mathlib.Core.List.{List, [], _∷_, _++_, flatMap}
-use lib.ListN.{length, take, drop, length-append}
+use mathlib.Core.Bool.{true}
+use mathlib.Core.List.{List}
+use lib.ListN.{length, take, drop}
 use lib.Seq.{take-at}
 use lib.Dec.{eqb}
-use Rattle.base.specs.Choice.{if_then_else_}
 use Rattle.base.proofs.Cases.{both}
 use Rattle.record.specs.declared.StepRecord.{StepRecord}
 use Rattle.record.specs.declared.AnswerRecord.{AnswerRecord}
@@ -17,13 +16,11 @@ use Rattle.record.specs.AnswerRecords.{answerSize, logBytes}
 use Rattle.record.proofs.Lengths.{log-length}
 use Rattle.tree.specs.Shape.{Shape}
 use Rattle.tree.specs.Layout.{wordsNeeded}
-use Rattle.tree.proofs.Writes.{Sized}
 use Rattle.steps.specs.Machine.{Machine}
 use Rattle.queue.specs.Refusals.{accepted, heightFor, shapeFor, callRefusal}
 use Rattle.queue.specs.Run.{Played, play, runPlayed, run}
 use Rattle.queue.specs.History.{machineAfter, history}
 use Rattle.queue.specs.Demand3.{Kept, Demand3, RunKeeps}
-use Rattle.queue.proofs.Legal.{answersAlong}
 use Rattle.queue.proofs.Played.{played-machine, played-answers, played-legal}
 use Rattle.queue.proofs.Runs.{Run, runs}
 use Rattle.queue.proofs.Holds.{kept}

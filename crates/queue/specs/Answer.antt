@@ -7,7 +7,7 @@ use Rattle.base.specs.Choice.{if_then_else_}
 use Rattle.record.specs.declared.Reply.{Reply}
 use Rattle.record.specs.declared.Reply.the-variants.{Done, Value, Nothing}
 use Rattle.record.specs.declared.AnswerRecord.{AnswerRecord}
-use Rattle.tree.specs.declared.Kind.the-variants.{Puts, Takes}
+use Rattle.tree.specs.declared.Kind.the-variants.{Takes}
 use Rattle.tree.specs.Shape.{Shape, root, leafOf}
 use Rattle.tree.specs.Blocks.{blockAt}
 use Rattle.tree.specs.Order.{OpId, inRoot, rootPuts}

@@ -1,7 +1,7 @@
 -- Demand 3: what holds of the answer bytes and of the table words that a run leaves, whatever the order of its steps.
 use Prim.Native.Nat.{ℕ, _+_, _*_, _≤_, _<_}
 use mathlib.Core.Path.{_≡_}
-use mathlib.Core.Bool.{Bool, true}
+use mathlib.Core.Bool.{true}
 use mathlib.Core.List.{List, [], _∷_, map, foldl}
 use lib.ListN.{length, take}
 use Rattle.base.specs.Choice.{if_then_else_}

@@ -1,6 +1,6 @@
 -- The history of a run: what each record that was taken did, as an event of an operation.
-use Prim.Native.Nat.{ℕ, zero, suc, _+_}
-use mathlib.Core.Bool.{Bool, true, false, _&&_, _||_}
+use Prim.Native.Nat.{ℕ, suc, _+_}
+use mathlib.Core.Bool.{Bool, false, _&&_, _||_}
 use mathlib.Core.List.{List, [], _∷_, _++_, foldl}
 use lib.Dec.{eqb}
 use Rattle.base.specs.Choice.{if_then_else_}
@@ -10,7 +10,7 @@ use Rattle.tree.specs.Shape.{Shape}
 use Rattle.tree.specs.Order.{OpId}
 use Rattle.tree.specs.Standing.{same}
 use Rattle.steps.specs.declared.Operation.{Operation}
-use Rattle.steps.specs.declared.Operation.the-variants.{Put, Take}
+use Rattle.steps.specs.declared.Operation.the-variants.{Take}
 use Rattle.steps.specs.Machine.{Machine, start, processOf, atQ}
 use Rattle.queue.specs.Run.{operationOf, takeRecord}
 

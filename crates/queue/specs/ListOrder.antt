@@ -1,6 +1,5 @@
 -- List the order: the order records of the root order that a list of step records leaves.
 use Prim.Native.Nat.{ℕ, _*_}
-use mathlib.Core.Bool.{Bool, true, false}
 use mathlib.Core.List.{List, [], _++_, flatMap}
 use lib.ListN.{length, drop}
 use lib.Dec.{ltb}

@@ -1,6 +1,6 @@
 -- What each call turns down: the refusals, their numbers, and the order of the tests.
 use Prim.Native.Nat.{ℕ, _%_}
-use mathlib.Core.Bool.{Bool, true, false, not, _&&_, _||_}
+use mathlib.Core.Bool.{Bool, not, _&&_}
 use lib.Dec.{ltb, leb, eqb}
 use Rattle.base.specs.Choice.{if_then_else_}
 use Rattle.record.specs.declared.StepRecord.{StepRecord}

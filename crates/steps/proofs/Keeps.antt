@@ -2,7 +2,7 @@
 use Prim.Native.Nat.{ℕ, _+_, _≤_, _<_}
 use native.Mathlib.Omega.{arith}
 use native.Mathlib.Decide.{ℕ-discrete}
-use mathlib.Core.Path.{_≡_, refl, ap, sym, _∙_, subst}
+use mathlib.Core.Path.{_≡_, ap, sym, _∙_, subst}
 use mathlib.Core.Logic.{_≢_}
 use lib.ListN.{length, length-set, length-replicate, getD-replicate}
 use lib.Seq.{getD-set-same, getD-set-other}
@@ -95,10 +95,6 @@ module _ (s : Shape) (m : Machine) (inv : Invariant s m) (k : ℕ) (kp : k < pro
     pub begun-other : (j : ℕ) → j ≢ k → processOf (begin m k o) j ≡ processOf m j
     unfolding begin
     begun-other j ne = process-other s m (inv .counted) k kp _ (m .memory) j ne
-
-    pub begun-memory : begin m k o .memory ≡ m .memory
-    unfolding begin withProcess
-    begun-memory = refl
 
     pub begin-keeps : Invariant s (begin m k o)
     unfolding begin

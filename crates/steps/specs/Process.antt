@@ -1,9 +1,9 @@
 -- A process at the start, and the limits.
 use Prim.Native.Nat.{ℕ}
-use mathlib.Core.Bool.{Bool, true, false, _&&_, _||_}
+use mathlib.Core.Bool.{Bool, _&&_, _||_}
 use lib.Dec.{leb, eqb}
 use Rattle.steps.specs.declared.Process.{Process}
-use Rattle.steps.specs.declared.Status.the-variants.{Idle, Busy}
+use Rattle.steps.specs.declared.Status.the-variants.{Idle}
 
 -- idle, with no operations begun
 unfoldable pub idle : Process

@@ -45,10 +45,6 @@ unfoldable pub ofKind : Shape → Memory → Kind → ℕ → ℕ → Bool
 ofKind s m κ k i = ltb (total κ (block s m (leafOf s k) (i - 1))) (total κ (block s m (leafOf s k) i))
 
 module _ (s : Shape) (m : Memory) where
-  pub kind-yes : (κ : Kind) (k i : ℕ) → total κ (block s m (leafOf s k) (i - 1)) < total κ (block s m (leafOf s k) i) → ofKind s m κ k i ≡ true
-  unfolding ofKind
-  kind-yes κ k i l = lt-ltb _ _ l
-
   pub kind-no : (κ : Kind) (k i : ℕ) → total κ (block s m (leafOf s k) i) ≤ total κ (block s m (leafOf s k) (i - 1)) → ofKind s m κ k i ≡ false
   unfolding ofKind
   kind-no κ k i l = le-ltb _ _ l

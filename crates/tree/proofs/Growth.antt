@@ -63,10 +63,6 @@ module _ {s : Shape} {m n : Memory} (g : Grows s m n) where
   pub present-stays : (u i : ℕ) → Node s u → Present s m u i → Present s n u i
   present-stays u i nu f = let e = g .stays u i nu (inr f) in omega (arith, e .puts, e .takes)
 
-  pub written-stays : (u i : ℕ) → Node s u → Written s m u i → Written s n u i
-  written-stays u i nu (inl e) = inl e
-  written-stays u i nu (inr f) = inr (present-stays u i nu f)
-
 -- ---- what holds of two neighbours holds of blocks that are the same
 pub follows-same : (b c b' c' : Block) → Same b' b → Same c' c → Follows b c → Follows b' c'
 follows-same b c b' c' p q f =

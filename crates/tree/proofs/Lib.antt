@@ -21,3 +21,4 @@ pub mod Reached
 pub mod Once
 pub mod RootBlock
 pub mod OrderGrows
+pub mod OpenedBetween

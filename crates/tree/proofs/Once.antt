@@ -13,15 +13,15 @@ use Rattle.base.proofs.Gather.{gather-measure}
 use Rattle.tree.specs.declared.Kind.{Kind}
 use Rattle.tree.specs.declared.Kind.the-variants.{Puts, Takes}
 use Rattle.tree.specs.Shape.{Shape, processes, root, leafOf}
-use Rattle.tree.specs.Memory.{Memory, block}
-use Rattle.tree.specs.Order.{OpId, total, inRoot, lastRoot, rootOperations}
+use Rattle.tree.specs.Memory.{Memory}
+use Rattle.tree.specs.Order.{OpId, inRoot, lastRoot, rootOperations}
 use Rattle.tree.specs.Standing.{times, standsIn}
 use Rattle.tree.proofs.Presence.{Present}
 use Rattle.tree.proofs.Sound.{Sound}
 use Rattle.tree.proofs.Levels.{level-root}
 use Rattle.tree.proofs.Opening.{opened-zero}
 use Rattle.tree.proofs.Names.{times-append}
-use Rattle.tree.proofs.Counting.{mark, ofKind, kind-zero, kind-yes, kind-no, kinds-one, held, held-opened, held-start, held-outside, held-path}
+use Rattle.tree.proofs.Counting.{mark, ofKind, kind-zero, kinds-one, held, held-opened, held-start, held-outside, held-path}
 use Rattle.tree.proofs.LastRoot.{last-written, root-present, root-written}
 use Rattle.tree.proofs.Operations.{root-times}
 use Rattle.tree.proofs.Reached.{reached, ancestor-top, reached-rises, reached-present}
@@ -82,19 +82,6 @@ module _ (s : Shape) (m : Memory) (sound : Sound s m) where
     pub kind-count : x .process < processes s → (b : ℕ) → b ≤ lastRoot s t
         → times x (flatMap (inRoot s t κ) (between 0 b)) ≡ mark (leb (x .serial) (reached s m (x .process) b) && ofKind s m κ (x .process) (x .serial))
     kind-count kp b l = roots-held b l ∙ held-reached kp b
-
-    -- so once if its leaf's block adds one of the kind, and never if not
-    pub kind-some : x .process < processes s → total κ (block s m (leafOf s (x .process)) (x .serial - 1)) < total κ (block s m (leafOf s (x .process)) (x .serial)) → (b : ℕ) → b ≤ lastRoot s t
-        → x .serial ≤ reached s m (x .process) b → times x (flatMap (inRoot s t κ) (between 0 b)) ≡ 1
-    kind-some kp h b l r = kind-count kp b l ∙ rw (le-leb (x .serial) (reached s m (x .process) b) r, kind-yes s m κ (x .process) (x .serial) h)
-
-    pub kind-none : total κ (block s m (leafOf s (x .process)) (x .serial)) ≤ total κ (block s m (leafOf s (x .process)) (x .serial - 1)) → (b : ℕ) → b ≤ lastRoot s t
-        → times x (flatMap (inRoot s t κ) (between 0 b)) ≡ 0
-    kind-none h b l = roots-held b l ∙ on (decLt (x .process) (processes s))
-      where
-        on : Dec (x .process < processes s) → heldTo b ≡ 0
-        on (yes kp) = held-other kp b (kind-no s m κ (x .process) (x .serial) h)
-        on (no out) = held-nowhere (omega arith) b
 
   -- ---- both kinds
   module _ (x : OpId) where

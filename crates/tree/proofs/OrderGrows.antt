@@ -20,9 +20,7 @@ use Rattle.tree.proofs.Sound.{Sound}
 use Rattle.tree.proofs.Later.{Later, later-present, reach-later}
 use Rattle.tree.proofs.Levels.{level-root}
 use Rattle.tree.proofs.Opening.{opened-stays}
-use Rattle.tree.proofs.Names.{times-append}
 use Rattle.tree.proofs.LastRoot.{node-root, last-written, last-most, root-present, root-written}
-use Rattle.tree.proofs.Operations.{opsOf, ops-append}
 use Rattle.tree.proofs.Reached.{reached, reached-rises, ancestor-top}
 use Rattle.tree.proofs.RootBlock.{first-append, first-same, root-block}
 
@@ -42,9 +40,6 @@ module _ (s : Shape) (m n : Memory) (sm : Sound s m) (sn : Sound s n) (later : L
   unfolding inRoot
   inRoot-stays κ b l = opened-stays s m n sm later κ (s .height) root (level-root s) b (root-present s m sm b l)
 
-  pub inRoots-stay : (κ : Kind) (b : ℕ) → b ≤ lastRoot s (m .table) → flatMap (inRoot s (n .table) κ) (between 0 b) ≡ flatMap (inRoot s (m .table) κ) (between 0 b)
-  inRoots-stay κ b l = gather-same (inRoot s (n .table) κ) (inRoot s (m .table) κ) 0 b (omega arith) (λ c p q. inRoot-stays κ c (omega arith))
-
   pub blockOrder-stays : (b : ℕ) → b < lastRoot s (m .table) → blockOrder s (n .table) (suc b) ≡ blockOrder s (m .table) (suc b)
   unfolding blockOrder
   blockOrder-stays b l = ap₂ (λ p q. map (placed Puts (suc b)) p ++ map (placed Takes (suc b)) q) (inRoot-stays Puts b l) (inRoot-stays Takes b l)
@@ -60,18 +55,6 @@ module _ (s : Shape) (m n : Memory) (sm : Sound s m) (sn : Sound s n) (later : L
       gather-split (blockOrder s (n .table)) 0 old (lastRoot s (n .table)) (omega arith) last-grows
       ∙ ap (λ l. l ++ flatMap (blockOrder s (n .table)) (between old (lastRoot s (n .table))))
       (gather-same (blockOrder s (n .table)) (blockOrder s (m .table)) 0 old (omega arith) (λ b p q. blockOrder-stays b q))
-
-  -- so what stands in the order stays
-  pub times-grow : (x : OpId) → times x (rootOperations s (m .table)) ≤ times x (rootOperations s (n .table))
-  unfolding rootOperations
-  times-grow x =
-      let new = flatMap (blockOrder s (n .table)) (between old (lastRoot s (n .table))) in
-      omega (
-        arith,
-        ap (λ l. times x (opsOf l)) order-grows,
-        ap (times x) (ops-append (rootOrder s (m .table)) new),
-        times-append x (opsOf (rootOrder s (m .table))) (opsOf new),
-      )
 
   pub root-block-grows : (x : OpId) → 1 ≤ times x (rootOperations s (m .table)) → rootBlockOf s (n .table) x ≡ rootBlockOf s (m .table) x
   unfolding rootBlockOf
