@@ -4,6 +4,8 @@ use native.Mathlib.Omega.{arith}
 use native.Mathlib.Nat.{le-refl, zero-add, add-zero, add-suc, suc-add, sub-self}
 use mathlib.Core.Path.{_≡_, refl, ap, sym, _∙_}
 use mathlib.Core.List.{List, [], _∷_, _++_, flatMap, append-nil, append-assoc}
+use lib.ListN.{length, getD, List·getD-append}
+use lib.Seq.{getD-append-add}
 use Rattle.base.specs.Between.{following, between}
 use Rattle.base.proofs.All.{All, all-append}
 
@@ -66,6 +68,18 @@ module _ {A : Type 0} where
     -- the first numbers, then one, then the rest
     pub gather-at : (i j k : ℕ) → i ≤ j → j < k → flatMap f (between i k) ≡ flatMap f (between i j) ++ (f (suc j) ++ flatMap f (between (suc j) k))
     gather-at i j k p q = gather-split i j k p (omega arith) ∙ ap (λ l. flatMap f (between i j) ++ l) (gather-first j k q)
+
+    -- an element past what is gathered up to j, and within what the next number gives, is there
+    pub gather-get : (x : A) (i j k n : ℕ) → i ≤ j → j < k → length (flatMap f (between i j)) ≤ n → n < length (flatMap f (between i j)) + length (f (suc j))
+        → getD (flatMap f (between i k)) n x ≡ getD (f (suc j)) (n - length (flatMap f (between i j))) x
+    gather-get x i j k n p q low high =
+        let before : List A = flatMap f (between i j) in
+        let after : List A = flatMap f (between (suc j) k) in
+        let e : n ≡ length before + (n - length before) = omega arith in
+        ap (λ (l : List A). getD l n x) (gather-at i j k p q)
+        ∙ ap (λ (a : ℕ). getD (before ++ (f (suc j) ++ after)) a x) e
+        ∙ getD-append-add before (f (suc j) ++ after) (n - length before) x
+        ∙ List·getD-append (f (suc j)) after x (n - length before) (omega arith)
 
   pub gather-same : (f g : ℕ → List A) (i j : ℕ) → i ≤ j → ((b : ℕ) → i ≤ b → b < j → f (suc b) ≡ g (suc b)) → flatMap f (between i j) ≡ flatMap g (between i j)
   unfolding flatMap

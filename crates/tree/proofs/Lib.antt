@@ -22,3 +22,8 @@ pub mod Once
 pub mod RootBlock
 pub mod OrderGrows
 pub mod OpenedBetween
+pub mod Climb
+pub mod OpenedOnce
+pub mod SideTotals
+pub mod Rank
+pub mod Find

@@ -1,14 +1,17 @@
 -- Operations in lists: whether two are the same, how often one is there, and its number.
-use Prim.Native.Nat.{suc, _+_, _≤_}
+use Prim.Native.Nat.{ℕ, suc, _+_, _≤_, _<_}
 use native.Mathlib.Omega.{arith}
 use native.Mathlib.Nat.{le-refl}
-use mathlib.Core.Path.{_≡_, refl}
+use mathlib.Core.Path.{_≡_, refl, ap, _∙_}
 use mathlib.Core.Bool.{Bool, true, false, and-false}
-use mathlib.Core.List.{List, [], _∷_, _++_}
+use mathlib.Core.List.{List, [], _∷_, _++_, flatMap}
+use lib.ListN.{length}
 use lib.Dec.{eqb}
 use borrow.Author.Tests.{eqb-true, eq-eqb, ne-eqb}
 use Rattle.base.specs.Choice.{if_then_else_}
+use Rattle.base.specs.Between.{between}
 use Rattle.base.proofs.Cases.{and-true}
+use Rattle.base.proofs.Gather.{gather-at}
 use Rattle.tree.specs.Order.{OpId}
 use Rattle.tree.specs.Standing.{same, times, rankIn}
 
@@ -63,3 +66,35 @@ module _ (x : OpId) where
           → 1 ≤ (if b then 1 else if eqb (rankIn x ys) 0 then 0 else suc (rankIn x ys))
       on true h ih = le-refl _
       on false h ih = let l = ih h in rw (ne-eqb (rankIn x ys) 0 (λ e. omega arith)) (omega arith)
+
+  -- its number where two lists meet: past the first list if it is only in the second
+  pub rank-left : (xs ys : List OpId) → 1 ≤ times x xs → rankIn x (xs ++ ys) ≡ rankIn x xs
+  unfolding times rankIn
+  rank-left [] ys h = absurd (omega arith)
+  rank-left (y ∷ xs) ys h = on (same x y) h (rank-left xs ys)
+    where
+      on : (b : Bool) → 1 ≤ (if b then suc (times x xs) else times x xs) → (1 ≤ times x xs → rankIn x (xs ++ ys) ≡ rankIn x xs)
+          → (if b then 1 else if eqb (rankIn x (xs ++ ys)) 0 then 0 else suc (rankIn x (xs ++ ys)))
+          ≡ (if b then 1 else if eqb (rankIn x xs) 0 then 0 else suc (rankIn x xs))
+      on true h ih = refl
+      on false h ih = rw (ih h)
+
+  pub rank-right : (xs ys : List OpId) → times x xs ≡ 0 → 1 ≤ times x ys → rankIn x (xs ++ ys) ≡ length xs + rankIn x ys
+  unfolding times rankIn
+  rank-right [] ys none h = omega arith
+  rank-right (y ∷ xs) ys none h = on (same x y) none (λ e. rank-right xs ys e h) (rank-some ys h)
+    where
+      on : (b : Bool) → (if b then suc (times x xs) else times x xs) ≡ 0 → (times x xs ≡ 0 → rankIn x (xs ++ ys) ≡ length xs + rankIn x ys) → 1 ≤ rankIn x ys
+          → (if b then 1 else if eqb (rankIn x (xs ++ ys)) 0 then 0 else suc (rankIn x (xs ++ ys))) ≡ suc (length xs) + rankIn x ys
+      on true none ih l = absurd (omega arith)
+      on false none ih l = let e = ih none in rw (ne-eqb (rankIn x (xs ++ ys)) 0 (λ z. omega arith)) (omega arith)
+
+  -- its number in what is gathered, if it is in what suc j gives and in nothing before
+  pub rank-gather : (f : ℕ → List OpId) (i j k : ℕ) → i ≤ j → j < k → times x (flatMap f (between i j)) ≡ 0 → 1 ≤ times x (f (suc j))
+      → rankIn x (flatMap f (between i k)) ≡ length (flatMap f (between i j)) + rankIn x (f (suc j))
+  rank-gather f i j k p q none h =
+      let before : List OpId = flatMap f (between i j) in
+      let after : List OpId = flatMap f (between (suc j) k) in
+      ap (rankIn x) (gather-at f i j k p q)
+      ∙ rank-right before (f (suc j) ++ after) none (omega (arith, times-append (f (suc j)) after))
+      ∙ ap (λ (n : ℕ). length before + n) (rank-left (f (suc j)) after h)
