@@ -33,9 +33,12 @@ pub record HasPlace (starts table : List ℕ) (v i : ℕ) : Type 0 where
   pub part : HasPart starts table v
   pub place : 6 * i + 6 ≤ getD starts (v + 1) 0 - getD starts v 0
 
--- node v's block at place i, by the starts
+-- node v's part by the starts, and its block at place i
+unfoldable pub nodePart : List ℕ → List ℕ → ℕ → List ℕ
+nodePart starts table v = take (getD starts (v + 1) 0 - getD starts v 0) (drop (getD starts v 0) table)
+
 unfoldable pub nodeBlock : List ℕ → List ℕ → ℕ → ℕ → Block
-nodeBlock starts table v i = blockIn (take (getD starts (v + 1) 0 - getD starts v 0) (drop (getD starts v 0) table)) i
+nodeBlock starts table v i = blockIn (nodePart starts table v) i
 
 -- ---- what the steps need
 

@@ -8,9 +8,9 @@ ghost use Prim.Native.Nat.{_<_};
 ghost use lib.ListN.{getD};
 ghost use Rattle.base.specs.Choice.{if_then_else_};
 ghost use Rattle.tree.specs.Shape.{Shape};
-ghost use Rattle.tree.specs.Blocks.{blockAt, withBlockAt, absent as absentOf};
+ghost use Rattle.tree.specs.Blocks.{wordIn, blockAt, withBlockAt, absent as absentOf};
 ghost use Rattle.tree.specs.Memory.{withSuper};
-ghost use Rattle.steps.specs.Ready.{Begins, HasPart, HasPlace, nodeBlock};
+ghost use Rattle.steps.specs.Ready.{Begins, HasPart, HasPlace, nodePart, nodeBlock};
 
 // Where node v's part begins, which is where that of the node before it ends.
 fn start_of(starts: &[usize; 17], v: u32) -> usize
@@ -30,17 +30,22 @@ pub fn block_at(words: &[u32], starts: &[usize; 17], v: u32, i: u32) -> Block
     blocks::block_in(&words[from..to], wide(i))
 }
 
-// Whether node v's block at place i is absent, at any place: one past the last it is, and there a child is looked at whose places are all filled.
+// One word of node v's block at any place. One past the last it is 0: there a child is looked at whose places are all filled.
+fn word_at(words: &[u32], starts: &[usize; 17], v: u32, i: u32, word: usize) -> u32
+    requires { ⌜ HasPart (now starts) (now words) v × (word < 6) ⌝ }
+    ensures { λ r. ⌜ r ≡ wordIn (nodePart (now (starts .entry)) (now (words .entry)) v) i word ⌝ }
+{
+    let from = start_of(starts, v);
+    let to = start_of(starts, v + 1);
+    blocks::word_or_zero(&words[from..to], 6 * wide(i) + word)
+}
+
+// Whether node v's block at place i is absent.
 pub fn absent_at(words: &[u32], starts: &[usize; 17], v: u32, i: u32) -> bool
     requires { ⌜ HasPart (now starts) (now words) v ⌝ }
     ensures { λ r. ⌜ r ≡ absentOf (nodeBlock (now (starts .entry)) (now (words .entry)) v i) ⌝ }
 {
-    let from = start_of(starts, v);
-    let to = start_of(starts, v + 1);
-    let at = 6 * wide(i);
-    let puts = blocks::word_or_zero(&words[from..to], at);
-    let takes = blocks::word_or_zero(&words[from..to], at + 1);
-    puts == 0 && takes == 0
+    word_at(words, starts, v, i, 0) == 0 && word_at(words, starts, v, i, 1) == 0
 }
 
 // Block b at place i of node v.

@@ -1,5 +1,5 @@
 -- `nodes::block_at` meets its contract. Assumes nothing.
-use Rattle.steps.specs.Ready.{nodeBlock}
+use Rattle.steps.specs.Ready.{nodePart, nodeBlock}
 use borrow.Author.Needs.{needs}
 use Rattle.steps.proofs.nodes.block_at.Statement.{statement}
 use Rattle.steps.proofs.nodes.block_at.Tie as tie
@@ -32,7 +32,7 @@ block-in-requires : tie.Need-block-in-requires
 block-in-requires c κs = search needs
 
 returns : tie.Need-returns
-unfolding nodeBlock
+unfolding nodeBlock nodePart
 returns c = rw (c .block-in .ensures, c .before .wide .ensures, c .before .before .before .start-of2 .ensures, c .before .before .before .before .start-of .ensures)
 
 pub block-at-spec : {M : Type 1} → statement M
