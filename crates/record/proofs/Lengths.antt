@@ -1,5 +1,5 @@
 -- How many bytes a number, an answer record and a log have.
-use Prim.Native.Nat.{ℕ, zero, suc, _*_}
+use Prim.Native.Nat.{ℕ, zero, suc, _+_, _*_}
 use native.Mathlib.Omega.{arith}
 use mathlib.Core.Path.{_≡_, refl, ap, _∙_}
 use mathlib.Core.List.{List, [], _∷_, flatMap}
@@ -8,7 +8,7 @@ use Rattle.record.specs.declared.AnswerRecord.{AnswerRecord}
 use Rattle.record.specs.Bytes.{bytesOf}
 use Rattle.record.specs.AnswerRecords.{answerSize, answerBytes, logBytes}
 
-bytes-length : (n x : ℕ) → length (bytesOf n x) ≡ n
+pub bytes-length : (n x : ℕ) → length (bytesOf n x) ≡ n
 unfolding bytesOf
 bytes-length zero x = refl
 bytes-length (suc n) x = ap suc (bytes-length n _)

@@ -1,1 +1,3 @@
 pub mod Lengths
+pub mod Numbers
+pub mod Stores

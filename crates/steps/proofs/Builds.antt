@@ -62,7 +62,7 @@ module _ (s : Shape) (m : Memory) (sound : Sound s m) (w : Visit) (iv : Inner s 
         let n = sound .node (childOf d (w .node)) (child-node s d (w .node) iv) in counts-rise n (endOf d old) e (ok .rises) (below-head n e (ok .below))
 
     -- the totals are the sums at the ends, in the new block and in the old
-    new-sums : (κ : Kind) → total κ (blockOf new) ≡ total κ (block s m (childOf onLeft (w .node)) l) + total κ (block s m (childOf onRight (w .node)) r)
+    pub new-sums : (κ : Kind) → total κ (blockOf new) ≡ total κ (block s m (childOf onLeft (w .node)) l) + total κ (block s m (childOf onRight (w .node)) r)
     unfolding built joined blockOf total
     new-sums Puts = refl
     new-sums Takes = refl
@@ -70,7 +70,7 @@ module _ (s : Shape) (m : Memory) (sound : Sound s m) (w : Visit) (iv : Inner s 
     old-sums : (κ : Kind) → total κ old ≡ total κ (block s m (childOf onLeft (w .node)) (old .left)) + total κ (block s m (childOf onRight (w .node)) (old .right))
     old-sums κ = sums-at sound (w .node) iv (w .head - 1) before κ
 
-    totals-grow : (κ : Kind) → total κ old ≤ total κ (blockOf new)
+    pub totals-grow : (κ : Kind) → total κ old ≤ total κ (blockOf new)
     totals-grow κ = omega (arith, new-sums κ, old-sums κ, total-side onLeft l lo κ, total-side onRight r ro κ)
 
     count-grows : sameTotals new old ≡ false → total Puts old ≤ total Puts (blockOf new) → total Takes old ≤ total Takes (blockOf new) → count old < count (blockOf new)

@@ -1,3 +1,5 @@
+pub mod Entries
+pub mod NodeReads
 pub mod Stages
 pub mod Turns
 pub mod Progress
@@ -11,3 +13,5 @@ pub mod WayTurn
 pub mod Invariant
 pub mod Keeps
 pub mod Inside
+pub mod Places
+pub mod Readiness

@@ -2,3 +2,5 @@ pub mod Process
 pub mod Rules
 pub mod Machine
 pub mod All
+pub mod Ready
+pub mod Settled

@@ -1,4 +1,11 @@
 // Processes and their named steps. This crate knows nothing of records.
+pub mod blocks;
+pub mod build;
+pub mod dispatch;
+pub mod heads;
+pub mod nodes;
+pub mod order;
+
 ghost use mathlib.Core.Path.{_≡_};
 ghost use Rattle.steps.specs.Process.{idle, processesAllowed, operationsAllowed};
 

@@ -1,0 +1,55 @@
+-- `blocks::step_a` meets its contract. Assumes nothing.
+use Rattle.tree.specs.Memory.{headOf, block, write}
+use Rattle.steps.specs.Rules.{step, go}
+use Rattle.steps.proofs.NodeReads.{node-read}
+use borrow.Author.Needs.{needs}
+use Rattle.steps.proofs.blocks.step_a.Statement.{statement}
+use Rattle.steps.proofs.blocks.step_a.Tie as tie
+
+head-of-requires : tie.Need-head-of-requires
+head-of-requires c κs = search needs
+
+sub-block-at : tie.Need-sub-block-at
+sub-block-at c = search needs
+
+block-at-requires : tie.Need-block-at-requires
+block-at-requires c κs = search needs
+
+plus-operation-requires : tie.Need-plus-operation-requires
+plus-operation-requires c κs = rw (c .before .block-at .ensures, c .before .before .before .head-of .ensures) (c .before .before .before .before .before .before .pre .puts, c .before .before .before .before .before .before .pre .takes)
+
+write-at-requires : tie.Need-write-at-requires
+write-at-requires c κs = search needs
+
+advance-requires : tie.Need-advance-requires
+advance-requires c κs = search needs
+
+same-length : tie.Need-same-length
+same-length c = search needs
+
+returns : tie.Need-returns
+unfolding step go headOf write block
+returns c = λ s k e n.
+    let a = c .before .before .before .before .before .before .before .before .before .before .before .args in
+    rw (
+      ← e,
+      c .advance .ensures,
+      c .before .before .before .write-at .ensures s n,
+      c .before .before .before .before .plus-operation .ensures,
+      c .before .before .before .before .before .before .block-at .ensures,
+      node-read s (a .starts .now) (a .table .now) (a .leaf) _ n,
+      c .before .before .before .before .before .before .before .before .head-of .ensures,
+    )
+
+pub step-a-spec : {M : Type 1} → statement M
+step-a-spec =
+    tie.close
+    (tie.spec
+    head-of-requires
+    sub-block-at
+    block-at-requires
+    plus-operation-requires
+    write-at-requires
+    advance-requires
+    same-length
+    returns)

@@ -1,0 +1,29 @@
+-- `blocks::step_r5` meets its contract. Assumes nothing.
+use Rattle.tree.specs.Shape.{rightOf}
+use Rattle.tree.specs.Memory.{block}
+use Rattle.steps.specs.Rules.{help, step, go}
+use Rattle.steps.proofs.NodeReads.{node-read}
+use borrow.Author.Needs.{needs}
+use Rattle.steps.proofs.blocks.step_r5.Statement.{statement}
+use Rattle.steps.proofs.blocks.step_r5.Tie as tie
+
+mul-child : tie.Need-mul-child
+mul-child c = search needs
+
+add-child : tie.Need-add-child
+add-child c = search needs
+
+absent-at-requires : tie.Need-absent-at-requires
+absent-at-requires c κs = search needs
+
+help-requires : tie.Need-help-requires
+help-requires c κs = search needs
+
+returns : tie.Need-returns
+unfolding step go help block rightOf
+returns c = λ s k o heads n.
+    let a = c .before .before .before .before .args in
+    rw (c .help .ensures, c .before .absent-at .ensures, node-read s (a .starts .now) (a .table .now) _ (a .c) n)
+
+pub step-r5-spec : {M : Type 1} → statement M
+step-r5-spec = tie.close (tie.spec mul-child add-child absent-at-requires help-requires returns)

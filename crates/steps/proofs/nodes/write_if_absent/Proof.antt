@@ -1,0 +1,37 @@
+-- `nodes::write_if_absent` meets its contract. Assumes nothing.
+use borrow.Author.Needs.{needs}
+use Rattle.steps.proofs.nodes.write_if_absent.Statement.{statement}
+use Rattle.steps.proofs.nodes.write_if_absent.Tie as tie
+
+block-at-requires : tie.Need-block-at-requires
+block-at-requires c κs = search needs
+
+absent-requires : tie.Need-absent-requires
+absent-requires c κs = search needs
+
+write-at-requires : tie.Need-write-at-requires
+write-at-requires c κs = search needs
+
+same-length : tie.Need-same-length
+same-length c = search needs
+
+returns : tie.Need-returns
+returns c = (rw (← c .before .before .before .before .before .before .block-at .ensures) (c .before .before .before .before .before .absent .ensures), λ s n. rw (c .before .before .before .before .if1 .taken) (c .before .before .write-at .ensures s n))
+
+same-length-2 : tie.Need-same-length-2
+same-length-2 c = search needs
+
+returns-2 : tie.Need-returns-2
+returns-2 c = (rw (← c .before .before .block-at .ensures) (c .before .absent .ensures), λ s n. rw (c .if1 .left))
+
+pub write-if-absent-spec : {M : Type 1} → statement M
+write-if-absent-spec =
+    tie.close
+    (tie.spec
+    block-at-requires
+    absent-requires
+    write-at-requires
+    same-length
+    returns
+    same-length-2
+    returns-2)

@@ -1,0 +1,151 @@
+// The named steps that read or write blocks. Where no head is read, they hold whatever the heads are.
+use crate::After;
+use crate::Built;
+use crate::Operation;
+use crate::Step;
+use crate::Visit;
+use crate::build::block_of;
+use crate::build::joined;
+use crate::build::plus_operation;
+use crate::build::same_totals;
+use crate::heads::head_of;
+use crate::nodes::absent_at;
+use crate::nodes::block_at;
+use crate::nodes::set_super_at;
+use crate::nodes::write_at;
+use crate::nodes::write_if_absent;
+use crate::order::above;
+use crate::order::advance;
+use crate::order::after_refresh;
+use crate::order::resume;
+use tree::Block;
+ghost use mathlib.Core.Path.{_≡_};
+ghost use mathlib.Core.List.{List};
+ghost use Prim.Native.Nat.{ℕ, _+_, _*_};
+ghost use Rattle.base.specs.Choice.{if_then_else_};
+ghost use Rattle.tree.specs.Shape.{Shape, leafOf};
+ghost use Rattle.tree.specs.Memory.{Memory};
+ghost use Rattle.steps.specs.Rules.{above as aboveOf, resume as resumeOf, advance as advanceOf, sameTotals, step, go};
+ghost use Rattle.steps.specs.Ready.{Begins, HasPart, HasPlace, Adds, Builds};
+
+// A: the operation's block at the head of its own leaf, where no other process writes.
+pub fn step_a(
+    heads: &[u32],
+    table: &mut [u32],
+    starts: &[usize; 17],
+    leaf: u32,
+    o: Operation,
+) -> Step
+    requires { ⌜ Adds (now starts) (now heads) (now table) leaf ⌝ }
+    ensures { λ r. ⌜ ((s : Shape) (k : ℕ) → leaf ≡ leafOf s k → Begins s (now (starts .entry)) leaf →
+        let m : Memory = record { table = now (table .entry); heads = now (heads .entry) } in
+        step s k o m Step.A ≡ go s k o m (record { table = now (table .exit); heads = now (heads .entry) }) r) ⌝ }
+{
+    let h = head_of(heads, leaf);
+    let old = block_at(table, starts, leaf, h - 1);
+    write_at(table, starts, leaf, h, plus_operation(o, old));
+    let w = Visit {
+        node: leaf,
+        second: false,
+        head: h,
+    };
+    advance(w, After::Up, leaf, h)
+}
+
+// V2: v's block gets its superblock, if it has none yet. x is the parent's head as it was read.
+pub fn step_v2(
+    table: &mut [u32],
+    starts: &[usize; 17],
+    w: Visit,
+    a: After,
+    v: u32,
+    h: u32,
+    x: u32,
+) -> Step
+    requires { ⌜ HasPlace (now starts) (now table) v h ⌝ }
+    ensures { λ r. ⌜ ((s : Shape) (k : ℕ) (o : Operation) (heads : List ℕ) → Begins s (now (starts .entry)) v →
+        let m : Memory = record { table = now (table .entry); heads = heads } in
+        step s k o m (Step.V2 w a v h x) ≡ go s k o m (record { table = now (table .exit); heads = heads }) r) ⌝ }
+{
+    set_super_at(table, starts, v, h, x);
+    Step::V3 {
+        visit: w,
+        after: a,
+        node: v,
+        place: h,
+    }
+}
+
+// A block that is present at the child's head is advanced before the visit goes on, so that no refresh leaves it behind.
+fn help(missing: bool, w: Visit, a: After, child: u32, c: u32) -> Step
+    ensures { λ r. ⌜ r ≡ (if missing then resumeOf a w else advanceOf w a child c) ⌝ }
+{
+    if missing {
+        return resume(a, w);
+    }
+    advance(w, a, child, c)
+}
+
+// R3: the left child's block at the head that was read is looked at.
+pub fn step_r3(table: &[u32], starts: &[usize; 17], w: Visit, c: u32) -> Step
+    requires { ⌜ HasPart (now starts) (now table) (2 * w .node) ⌝ }
+    ensures { λ r. ⌜ ((s : Shape) (k : ℕ) (o : Operation) (heads : List ℕ) → Begins s (now (starts .entry)) (2 * w .node) →
+        let m : Memory = record { table = now (table .entry); heads = heads } in
+        step s k o m (Step.R3 w c) ≡ go s k o m m r) ⌝ }
+{
+    let child = 2 * w.node;
+    help(
+        absent_at(table, starts, child, c),
+        w,
+        After::Right,
+        child,
+        c,
+    )
+}
+
+// R5: the same of the right child.
+pub fn step_r5(table: &[u32], starts: &[usize; 17], w: Visit, c: u32) -> Step
+    requires { ⌜ HasPart (now starts) (now table) (2 * w .node + 1) ⌝ }
+    ensures { λ r. ⌜ ((s : Shape) (k : ℕ) (o : Operation) (heads : List ℕ) → Begins s (now (starts .entry)) (2 * w .node + 1) →
+        let m : Memory = record { table = now (table .entry); heads = heads } in
+        step s k o m (Step.R5 w c) ≡ go s k o m m r) ⌝ }
+{
+    let child = 2 * w.node + 1;
+    help(absent_at(table, starts, child, c), w, After::Ends, child, c)
+}
+
+// A block that would add nothing is not written: the operation is in a block of the node already.
+fn settle(w: Visit, n: Built, old: Block) -> Step
+    ensures { λ r. ⌜ r ≡ (if sameTotals n old then aboveOf (w .node) else Step.C4 w n) ⌝ }
+{
+    if same_totals(n, old) {
+        return above(w.node);
+    }
+    Step::C4 { visit: w, built: n }
+}
+
+// C3: the block is made of the children's blocks at the ends l and r.
+pub fn step_c3(table: &[u32], starts: &[usize; 17], w: Visit, l: u32, r: u32) -> Step
+    requires { ⌜ Builds (now starts) (now table) w l r ⌝ }
+    ensures { λ n. ⌜ ((s : Shape) (k : ℕ) (o : Operation) (heads : List ℕ) →
+        Begins s (now (starts .entry)) (w .node) → Begins s (now (starts .entry)) (2 * w .node) → Begins s (now (starts .entry)) (2 * w .node + 1) →
+        let m : Memory = record { table = now (table .entry); heads = heads } in
+        step s k o m (Step.C3 w l r) ≡ go s k o m m n) ⌝ }
+{
+    let v = w.node;
+    let old = block_at(table, starts, v, w.head - 1);
+    let x = block_at(table, starts, 2 * v, l);
+    let y = block_at(table, starts, 2 * v + 1, r);
+    settle(w, joined(v, old, x, y, l, r), old)
+}
+
+// C4: the block is written if its place is still empty. The refresh has then succeeded.
+pub fn step_c4(table: &mut [u32], starts: &[usize; 17], w: Visit, n: Built) -> Step
+    requires { ⌜ HasPlace (now starts) (now table) (w .node) (w .head) ⌝ }
+    ensures { λ r. ⌜ ((s : Shape) (k : ℕ) (o : Operation) (heads : List ℕ) → Begins s (now (starts .entry)) (w .node) →
+        let m : Memory = record { table = now (table .entry); heads = heads } in
+        step s k o m (Step.C4 w n) ≡ go s k o m (record { table = now (table .exit); heads = heads }) r) ⌝ }
+{
+    let success = write_if_absent(table, starts, w.node, w.head, block_of(n));
+    advance(w, after_refresh(w.second, success), w.node, w.head)
+}

@@ -1,0 +1,38 @@
+// A node's part of the table, from word `from` up to word `to`, handed to the rules about a part alone. All other words of the table stay.
+use crate::Block;
+use crate::blocks;
+ghost use mathlib.Core.Path.{_≡_};
+ghost use mathlib.Core.List.{_++_};
+ghost use Prim.Native.Nat.{_+_, _*_, _-_, _≤_, _<_};
+ghost use lib.ListN.{length, take, drop};
+ghost use Rattle.tree.specs.Blocks.{blockIn, withBlock};
+ghost use Rattle.tree.specs.Memory.{withSuper};
+
+// The node's block at place i, all zero past the part's end.
+pub fn node_block(table: &[u32], from: usize, to: usize, i: usize) -> Block
+    requires { ⌜ (from ≤ to) × (to ≤ length (now table)) × (i < 65536) ⌝ }
+    ensures { λ r. ⌜ r ≡ blockIn (take (to - from) (drop from (now (table .entry)))) i ⌝ }
+{
+    blocks::block_or_zeros(&table[from..to], i)
+}
+
+// Block b at place i of the node.
+pub fn node_write(table: &mut [u32], from: usize, to: usize, i: usize, b: Block)
+    requires { ⌜ (from ≤ to) × (to ≤ length (now table)) × (6 * i + 6 ≤ to - from) ⌝ }
+    ensures { λ _.
+        let t = now (table .entry) in
+        ⌜ now (table .exit) ≡ take from t ++ withBlock (take (to - from) (drop from t)) i b ++ drop to t ⌝ }
+{
+    blocks::write_block(&mut table[from..to], i, b);
+}
+
+// The superblock of the node's block at place i set to x, if it is 0.
+pub fn node_set_super(table: &mut [u32], from: usize, to: usize, i: usize, x: u32)
+    requires { ⌜ (from ≤ to) × (to ≤ length (now table)) × (6 * i + 6 ≤ to - from) ⌝ }
+    ensures { λ _.
+        let t = now (table .entry) in
+        let part = take (to - from) (drop from t) in
+        ⌜ now (table .exit) ≡ take from t ++ withBlock part i (withSuper (blockIn part i) x) ++ drop to t ⌝ }
+{
+    blocks::set_super(&mut table[from..to], i, x);
+}
