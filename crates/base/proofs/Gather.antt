@@ -3,7 +3,7 @@ use Prim.Native.Nat.{ℕ, zero, suc, _+_, _-_, _≤_, _<_}
 use native.Mathlib.Omega.{arith}
 use native.Mathlib.Nat.{le-refl, zero-add, add-zero, add-suc, suc-add, sub-self}
 use mathlib.Core.Path.{_≡_, refl, ap, sym, _∙_}
-use mathlib.Core.List.{List, [], _∷_, _++_, flatMap, append-nil, append-assoc}
+use mathlib.Core.List.{List, [], _∷_, _++_, map, flatMap, append-nil, append-assoc}
 use lib.ListN.{length, getD, List·getD-append}
 use lib.Seq.{getD-append-add}
 use Rattle.base.specs.Between.{following, between}
@@ -42,12 +42,23 @@ between-all P j none more i le = go (j - i) i (omega arith)
     go (suc n) i e = rw (between-first i j (omega arith)) (more i (between (suc i) j) (omega arith) (go n (suc i) (omega arith)))
 
 -- ---- what is gathered
-module _ {A : Type 0} where
-  flatMap-append : (f : ℕ → List A) (xs ys : List ℕ) → flatMap f (xs ++ ys) ≡ flatMap f xs ++ flatMap f ys
-  unfolding flatMap
-  flatMap-append f [] ys = refl
-  flatMap-append f (x ∷ xs) ys = ap (λ l. f x ++ l) (flatMap-append f xs ys) ∙ sym (append-assoc (f x) (flatMap f xs) (flatMap f ys))
+pub flatMap-append : {A B : Type 0} (f : B → List A) (xs ys : List B) → flatMap f (xs ++ ys) ≡ flatMap f xs ++ flatMap f ys
+unfolding flatMap
+flatMap-append f [] ys = refl
+flatMap-append f (x ∷ xs) ys = ap (λ l. f x ++ l) (flatMap-append f xs ys) ∙ sym (append-assoc (f x) (flatMap f xs) (flatMap f ys))
 
+-- gathered in two rounds, or in one
+pub flatMap-twice : {A B C : Type 0} (f : B → List A) (g : C → List B) (xs : List C) → flatMap f (flatMap g xs) ≡ flatMap (λ x. flatMap f (g x)) xs
+unfolding flatMap
+flatMap-twice f g [] = refl
+flatMap-twice f g (x ∷ xs) = flatMap-append f (g x) (flatMap g xs) ∙ ap (λ l. flatMap f (g x) ++ l) (flatMap-twice f g xs)
+
+pub flatMap-map : {A B C : Type 0} (f : B → List A) (g : C → B) (xs : List C) → flatMap f (map g xs) ≡ flatMap (λ x. f (g x)) xs
+unfolding flatMap
+flatMap-map f g [] = refl
+flatMap-map f g (x ∷ xs) = ap (λ l. f (g x) ++ l) (flatMap-map f g xs)
+
+module _ {A : Type 0} where
   module _ (f : ℕ → List A) where
     pub gather-none : (i : ℕ) → flatMap f (between i i) ≡ []
     unfolding flatMap

@@ -3,3 +3,4 @@ pub mod All
 pub mod Splice
 pub mod Stores
 pub mod Gather
+pub mod Repeats

@@ -1,12 +1,14 @@
--- How many bytes a number, an answer record and a log have.
+-- How many bytes a number, an answer record, a log and an order record have.
 use Prim.Native.Nat.{ℕ, zero, suc, _+_, _*_}
 use native.Mathlib.Omega.{arith}
 use mathlib.Core.Path.{_≡_, refl, ap, _∙_}
 use mathlib.Core.List.{List, [], _∷_, flatMap}
 use lib.ListN.{length, length-append}
 use Rattle.record.specs.declared.AnswerRecord.{AnswerRecord}
+use Rattle.record.specs.declared.OrderRecord.{OrderRecord}
 use Rattle.record.specs.Bytes.{bytesOf}
 use Rattle.record.specs.AnswerRecords.{answerSize, answerBytes, logBytes}
+use Rattle.record.specs.OrderRecords.{orderBytes}
 
 pub bytes-length : (n x : ℕ) → length (bytesOf n x) ≡ n
 unfolding bytesOf
@@ -21,3 +23,7 @@ pub log-length : (xs : List AnswerRecord) → length (logBytes xs) ≡ answerSiz
 unfolding logBytes flatMap answerSize
 log-length [] = refl
 log-length (x ∷ xs) = length-append (answerBytes x) (logBytes xs) ∙ omega (arith, answer-length x, log-length xs)
+
+pub order-record-length : (x : OrderRecord) → length (orderBytes x) ≡ 8
+unfolding orderBytes
+order-record-length x = simp (length-append, bytes-length)

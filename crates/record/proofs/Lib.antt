@@ -1,3 +1,4 @@
 pub mod Lengths
 pub mod Numbers
 pub mod Stores
+pub mod Cuts

@@ -13,7 +13,7 @@ use Rattle.record.specs.AnswerRecords.{replyKind, replyValue, answerByte
 use Rattle.record.specs.OrderRecords.{orderBytes}
 use Rattle.record.proofs.Lengths.{bytes-length}
 
-runs : (l xs ys : List ℕ) (i j : ℕ) → i + length xs ≡ j → sets (sets l i xs) j ys ≡ sets l i (xs ++ ys)
+pub runs : (l xs ys : List ℕ) (i j : ℕ) → i + length xs ≡ j → sets (sets l i xs) j ys ≡ sets l i (xs ++ ys)
 runs l [] ys i j e = ap (λ (k : ℕ). sets l k ys) (omega arith)
 runs l (x ∷ xs) ys i j e = runs (set l i x) xs ys (suc i) j (omega arith)
 

@@ -13,7 +13,7 @@ ghost use Rattle.tree.specs.Memory.{withSuper};
 ghost use Rattle.steps.specs.Ready.{Begins, HasPart, HasPlace, nodePart, nodeBlock};
 
 // Where node v's part begins, which is where that of the node before it ends.
-fn start_of(starts: &[usize; 17], v: u32) -> usize
+pub fn start_of(starts: &[usize; 17], v: u32) -> usize
     requires { ⌜ v < 17 ⌝ }
     ensures { λ r. ⌜ r ≡ getD (now (starts .entry)) v 0 ⌝ }
 {

@@ -97,7 +97,7 @@ module _ (μ : List OpId → ℕ) (nil : μ [] ≡ 0) (app : (xs ys : List OpId)
             (λ b p q. ih b (subblock-present sound v iv i f d b q))
 
 -- ---- how many
-at-most-one : (κ : Kind) (x y : Block) → Follows x y → AddsOne x y → total κ y ≤ total κ x + 1
+pub at-most-one : (κ : Kind) (x y : Block) → Follows x y → AddsOne x y → total κ y ≤ total κ x + 1
 unfolding total
 at-most-one Puts x y f a = omega (arith, f .rises Takes, a .one)
 at-most-one Takes x y f a = omega (arith, f .rises Puts, a .one)

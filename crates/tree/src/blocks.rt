@@ -1,10 +1,12 @@
 // Blocks in a node's part alone: read, tested and written.
 use crate::Block;
+use crate::Kind;
 ghost use mathlib.Core.Path.{_≡_};
 ghost use Prim.Native.Nat.{_+_, _*_, _≤_, _<_};
 ghost use lib.ListN.{length, getD};
 ghost use Rattle.tree.specs.Blocks.{blockIn, withBlock, absent as absentOf};
 ghost use Rattle.tree.specs.Memory.{withSuper};
+ghost use Rattle.tree.specs.Order.{total as totalOf};
 
 // The block at place i, whose six words the part has.
 pub fn block_in(part: &[u32], i: usize) -> Block
@@ -53,6 +55,16 @@ pub fn absent(b: Block) -> bool
     ensures { λ r. ⌜ r ≡ absentOf b ⌝ }
 {
     b.puts == 0 && b.takes == 0
+}
+
+// A block's total of a kind.
+pub fn total(kind: Kind, b: Block) -> u32
+    ensures { λ r. ⌜ r ≡ totalOf kind b ⌝ }
+{
+    match kind {
+        Kind::Puts => b.puts,
+        Kind::Takes => b.takes,
+    }
 }
 
 // Block b at place i, whose six words the part has. No other word changes.

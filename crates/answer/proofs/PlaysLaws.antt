@@ -1,0 +1,30 @@
+-- What is known of a process that is being played. Used by proofs; no promise cites it.
+use Prim.Native.Nat.{ℕ, _≤_}
+use native.Mathlib.Omega.{arith}
+use mathlib.Core.Path.{_≡_, ap, _∙_}
+use mathlib.Core.Bool.{false}
+use mathlib.Core.List.{List}
+use Rattle.tree.specs.Shape.{Shape, leafOf}
+use Rattle.steps.specs.declared.Operation.{Operation}
+use Rattle.steps.specs.declared.Step.{Step}
+use Rattle.steps.specs.declared.Status.the-variants.{Busy}
+use Rattle.steps.specs.declared.Process.{Process}
+use Rattle.steps.specs.Machine.{isQ}
+use Rattle.steps.specs.Ready.{Ready}
+use Rattle.steps.proofs.Costs.{rest-first}
+use Rattle.steps.proofs.Readiness.{ready}
+use Rattle.answer.specs.Playing.{machineOf, Plays}
+
+module _ (s : Shape) (ps : List Process) (starts heads table : List ℕ) (k : ℕ) (q : Process) (plays : Plays s ps starts heads table k q) where
+  -- its own steps and the operations that it has begun are few
+  pub steps-small : q .steps ≤ 109
+  steps-small =
+      omega (arith, plays .keeps .process k (plays .low) .bounded, ap (λ (x : Process). x .steps) (plays .here), rest-first s (plays .inner), plays .tall)
+
+  pub begun-small : q .begun ≤ 500
+  begun-small = omega (arith, plays .keeps .process k (plays .low) .within, ap (λ (x : Process). x .begun) (plays .here), plays .few)
+
+  -- a busy process that is not at Q can take its step
+  pub plays-ready : (o : Operation) (n : Step) → q .status ≡ Busy o n → isQ n ≡ false → Ready starts heads table (leafOf s k) n
+  plays-ready o n e z =
+      ready s (machineOf table heads ps) (plays .keeps) (plays .tall) (plays .few) starts (plays .laid) k (plays .low) o n (ap (λ (x : Process). x .status) (plays .here) ∙ e) z

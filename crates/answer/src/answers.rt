@@ -1,0 +1,54 @@
+// The answer record of an operation whose next step is Q.
+use crate::replies::reply_of;
+use record::AnswerRecord;
+use refusals::sooner::height_for;
+use search::climb::standing;
+use steps::Operation;
+use steps::Process;
+use tree::Kind;
+ghost use mathlib.Core.Path.{_≡_};
+ghost use mathlib.Core.List.{List};
+ghost use Prim.Native.Nat.{_<_};
+ghost use Rattle.tree.specs.Shape.{Shape, processes};
+ghost use Rattle.steps.specs.declared.Process.{Process as Proc};
+ghost use Rattle.steps.specs.declared.Status.the-variants.{Busy};
+ghost use Rattle.steps.specs.declared.Step.the-variants.{Q};
+ghost use Rattle.rules.specs.Answer.{answerOf};
+ghost use Rattle.answer.specs.Playing.{machineOf, Plays, Playing};
+ghost use Rattle.answer.specs.Answering.{kindOf};
+
+// The kind of an operation.
+fn kind_of(o: Operation) -> Kind
+    ensures { λ r. ⌜ r ≡ kindOf o ⌝ }
+{
+    match o {
+        Operation::Put(_) => Kind::Puts,
+        Operation::Take => Kind::Takes,
+    }
+}
+
+// The answer of operation o of process k, which is q. Its leaf is node p + k, and Q is one more own step.
+pub fn answer_of(
+    heads: &[u32],
+    table: &[u32],
+    starts: &[usize; 17],
+    p: u32,
+    k: u32,
+    q: Process,
+    o: Operation,
+) -> AnswerRecord
+    requires { ⌜ Playing p (now starts) (now heads) (now table) k q × (q .status ≡ Busy o Q) ⌝ }
+    ensures record { λ r. ⌜ ((s : Shape) (ps : List Proc) → processes s ≡ p → Plays s ps (now (starts .entry)) (now (heads .entry)) (now (table .entry)) k q →
+        r ≡ answerOf s (machineOf (now (table .entry)) (now (heads .entry)) ps) k o) ⌝ }
+    ensures bounds { λ r. ⌜ (r .process < 256) × (r .steps < 65536) ⌝ }
+{
+    let at = standing(heads, table, starts, p + k, q.begun, kind_of(o));
+    let reply = reply_of(table, starts, height_for(p), o, at);
+    AnswerRecord {
+        process: k,
+        reply: reply,
+        steps: q.steps + 1,
+        serial: q.begun,
+        block: at.block,
+    }
+}

@@ -1,0 +1,89 @@
+-- The equal records at the beginning of two logs, when one of them gets more records.
+use Prim.Native.Nat.{ℕ, suc, _+_, _*_, _/_, _≤_, _<_, zero-le}
+use native.Mathlib.Nat.{suc-add}
+use native.Mathlib.Omega.{arith}
+use mathlib.Core.Bool.{Bool, true, false}
+use mathlib.Core.Path.{_≡_, refl, ap, sym, _∙_}
+use mathlib.Core.List.{List, [], _∷_, _++_, map, map-append}
+use lib.ListN.{length, take, drop, length-map, drop-of-length-le}
+use lib.Seq.{drop-cons}
+use Rattle.base.specs.Choice.{if_then_else_}
+use Rattle.base.proofs.Cases.{both}
+use Rattle.record.specs.declared.AnswerRecord.{AnswerRecord}
+use Rattle.record.specs.AnswerRecords.{answerSize, answerBytes}
+use Rattle.rules.specs.CheckLog.{sameBytes}
+use Rattle.log.specs.Leading.{leading, leadingOf}
+use Rattle.record.proofs.Cuts.{cut-at}
+use Rattle.log.proofs.Cuts.{recordsOf, records-length}
+
+-- a record counts, and those after it, only if it is equal
+pub counts : (b : Bool) (r n : ℕ) → (if b then suc r else 0) ≡ suc n → (b ≡ true) × (r ≡ n)
+counts true r n e = (refl, omega arith)
+counts false r n e = absurd (omega arith)
+
+leading-most : (xs ys : List (List ℕ)) → leading xs ys ≤ length xs
+unfolding leading
+leading-most [] ys = zero-le
+leading-most (x ∷ xs) [] = zero-le
+leading-most (x ∷ xs) (y ∷ ys) = let ih = leading-most xs ys in both (λ n. n ≤ suc (length xs)) (sameBytes x y) (omega arith) zero-le
+
+-- after a difference more records count no more
+leading-stopped : (xs zs ys : List (List ℕ)) → (leading xs ys ≡ length xs → ⊥) → leading (xs ++ zs) ys ≡ leading xs ys
+unfolding leading
+leading-stopped [] zs ys h = absurd (h refl)
+leading-stopped (x ∷ xs) zs [] h = refl
+leading-stopped (x ∷ xs) zs (y ∷ ys) h = on (sameBytes x y) (λ g. leading-stopped xs zs ys g) h
+  where
+    on : (b : Bool) → ((leading xs ys ≡ length xs → ⊥) → leading (xs ++ zs) ys ≡ leading xs ys)
+        → ((if b then suc (leading xs ys) else 0) ≡ suc (length xs) → ⊥)
+        → (if b then suc (leading (xs ++ zs) ys) else 0) ≡ (if b then suc (leading xs ys) else 0)
+    on true ih h = ap suc (ih (λ e. h (ap suc e)))
+    on false ih h = refl
+
+-- while all are equal, more records count as they stand against the rest of the other log
+leading-goes-on : (xs zs ys : List (List ℕ)) → leading xs ys ≡ length xs → leading (xs ++ zs) ys ≡ length xs + leading zs (drop (length xs) ys)
+unfolding leading
+leading-goes-on [] zs ys e = omega arith
+leading-goes-on (x ∷ xs) zs [] e = absurd (omega arith)
+leading-goes-on (x ∷ xs) zs (y ∷ ys) e =
+    let c = counts (sameBytes x y) (leading xs ys) (length xs) e in
+    rw (c .0, suc-add) (ap suc (leading-goes-on xs zs ys (c .1)))
+
+-- ---- the same of answers and of the bytes of a log
+pub leading-none : (log : List ℕ) → leadingOf [] log ≡ 0
+unfolding leadingOf leading
+leading-none log = refl
+
+pub leading-within : (xs : List AnswerRecord) (log : List ℕ) → leadingOf xs log ≤ length xs
+unfolding leadingOf
+leading-within xs log = omega (arith, leading-most (map answerBytes xs) (recordsOf log), length-map xs answerBytes)
+
+module _ (xs : List AnswerRecord) (a : AnswerRecord) (log : List ℕ) where
+  -- after a difference one more answer counts no more
+  pub leading-stays : (leadingOf xs log ≡ length xs → ⊥) → leadingOf (xs ++ (a ∷ [])) log ≡ leadingOf xs log
+  unfolding leadingOf
+  leading-stays h =
+      rw (map-append answerBytes xs (a ∷ [])) (leading-stopped (map answerBytes xs) (answerBytes a ∷ []) (recordsOf log) (λ e. h (e ∙ length-map xs answerBytes)))
+
+  module _ (e : leadingOf xs log ≡ length xs) where
+    goes-on : leadingOf (xs ++ (a ∷ [])) log ≡ length xs + leading (answerBytes a ∷ []) (drop (length xs) (recordsOf log))
+    unfolding leadingOf
+    goes-on =
+        rw (map-append answerBytes xs (a ∷ []), ← length-map xs answerBytes)
+        (leading-goes-on (map answerBytes xs) (answerBytes a ∷ []) (recordsOf log) (e ∙ sym (length-map xs answerBytes)))
+
+    -- where the log has no record left, none is equal
+    pub leading-ended : length log < answerSize * length xs + answerSize → leadingOf (xs ++ (a ∷ [])) log ≡ length xs
+    unfolding answerSize leading
+    leading-ended h =
+        let past : length (recordsOf log) ≤ length xs = omega (arith, records-length log) in
+        goes-on ∙ rw (drop-of-length-le (recordsOf log) past) (omega arith)
+
+    -- where it has one, that record decides
+    pub leading-next : answerSize * length xs + answerSize ≤ length log
+        → leadingOf (xs ++ (a ∷ [])) log ≡ length xs + (if sameBytes (answerBytes a) (take answerSize (drop (answerSize * length xs) log)) then 1 else 0)
+    unfolding answerSize leading
+    leading-next h =
+        let within : length xs < length log / answerSize = omega arith in
+        let there : length xs < length (recordsOf log) = omega (arith, records-length log) in
+        goes-on ∙ rw (drop-cons (recordsOf log) (length xs) [] there, cut-at answerSize (length log / answerSize) (length xs) log within)

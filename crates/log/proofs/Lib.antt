@@ -1,0 +1,4 @@
+pub mod Cuts
+pub mod Counted
+pub mod Compared
+pub mod Written

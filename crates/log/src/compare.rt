@@ -1,0 +1,65 @@
+// A log that grows, compared with another: how many records at the beginning are equal, and the verdict at the end.
+use record::AnswerRecord;
+ghost use mathlib.Core.Bool.{false};
+ghost use mathlib.Core.Path.{_≡_};
+ghost use mathlib.Core.List.{List, [], _∷_, _++_, map};
+ghost use Prim.Native.Nat.{ℕ, _+_, _*_, _/_, _≤_, _<_};
+ghost use lib.ListN.{length, take, drop};
+ghost use Rattle.record.specs.Bytes.{cut};
+ghost use Rattle.record.specs.AnswerRecords.{answerSize, answerBytes};
+ghost use Rattle.record.specs.declared.AnswerRecord.{AnswerRecord as Answer};
+ghost use Rattle.rules.specs.Refusals.{torn};
+ghost use Rattle.rules.specs.CheckLog.{sameBytes, compared};
+ghost use Rattle.log.specs.Leading.{leadingOf};
+
+// Whether sixteen bytes are those from an index on.
+fn same_sixteen(bytes: &[u8], log: &[u8], at: usize) -> bool
+    requires { ⌜ (length (now bytes) ≡ 16) × (at + 16 ≤ length (now log)) ⌝ }
+    ensures { λ r. ⌜ r ≡ sameBytes (now (bytes .entry)) (take 16 (drop at (now (log .entry)))) ⌝ }
+{
+    let mut i: usize = 0;
+    while i < 16 {
+        if bytes[i] != log[at + i] {
+            return false;
+        }
+        i = i + 1;
+    }
+    true
+}
+
+// How many records at the beginning of two logs are equal, when the one with n answers gets another, a. Once they differ, later records count no more.
+pub fn equal_after(log: &[u8], n: usize, equal: usize, a: AnswerRecord) -> usize
+    requires { ⌜ (16 * n + 16 < 18446744073709551616) × (a .process < 256) × (a .steps < 65536) ⌝ }
+    ensures { λ r. ⌜ ((xs : List Answer) → n ≡ length xs → equal ≡ leadingOf xs (now (log .entry))
+        → r ≡ leadingOf (xs ++ (a ∷ [])) (now (log .entry))) ⌝ }
+{
+    if equal != n {
+        return equal;
+    }
+    let at = 16 * n;
+    if log.len() < at + 16 {
+        return equal;
+    }
+    let mut bytes = [0u8; 16];
+    record::answers::put_answer(&mut bytes, 0, a);
+    if same_sixteen(&bytes, log, at) {
+        return equal + 1;
+    }
+    equal
+}
+
+// What checking a log of so many bytes finds, when `equal` records at the beginning are those of the answers: the same log, if these are all records of both. A log has whole
+// records here, so its bytes tell how many they are.
+pub fn verdict(equal: usize, answers: usize, bytes: usize) -> rules::Verdict
+    requires { ⌜ 16 * answers < 18446744073709551616 ⌝ }
+    ensures { λ r. ⌜ ((xs : List Answer) (log : List ℕ) → answers ≡ length xs → equal ≡ leadingOf xs log → bytes ≡ length log
+        → torn answerSize (length log) ≡ false → r ≡ compared 0 (map answerBytes xs) (cut answerSize (length log / answerSize) log)) ⌝ }
+{
+    if equal != answers {
+        return rules::Verdict::Differs(equal as u64);
+    }
+    if 16 * answers != bytes {
+        return rules::Verdict::Differs(equal as u64);
+    }
+    rules::Verdict::Same
+}

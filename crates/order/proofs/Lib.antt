@@ -1,0 +1,7 @@
+pub mod Storing
+pub mod Reading
+pub mod Subblocks
+pub mod LeafRecords
+pub mod RootRecords
+pub mod LastBlock
+pub mod WholeList

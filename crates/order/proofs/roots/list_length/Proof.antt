@@ -1,0 +1,35 @@
+-- `roots::list_length` meets its contract. Assumes nothing.
+use borrow.Author.Needs.{needs}
+use native.Mathlib.Omega.{arith}
+use Rattle.order.proofs.LastBlock.{root-small, last-place, last-counts}
+use Rattle.order.proofs.roots.list_length.Statement.{statement}
+use Rattle.order.proofs.roots.list_length.Tie as tie
+
+block-at-requires : tie.Need-block-at-requires
+block-at-requires c κs = let g = c .before .pre in rw (g .last) (last-place (g .settles))
+
+wide-requires : tie.Need-wide-requires
+wide-requires c κs = search needs
+
+wide-requires-2 : tie.Need-wide-requires-2
+wide-requires-2 c κs = search needs
+
+add-result : tie.Need-add-result
+add-result c = search needs
+
+mul-result : tie.Need-mul-result
+mul-result c = search needs
+
+returns : tie.Need-returns
+returns c =
+    let e = c .before .before .block-at .ensures in
+    let a = c .before .before .before .before .args in
+    let g = c .before .before .before .before .pre in (
+      rw (c .wide2 .ensures, c .before .wide .ensures, e) (omega (arith, root-small (g .settles) (a .last))),
+      λ s heads q l. rw (c .wide2 .ensures, c .before .wide .ensures, e, l, last-counts q),
+    )
+
+pub list-length-spec : {M : Type 1} → statement M
+list-length-spec =
+    tie.close
+    (tie.spec block-at-requires wide-requires wide-requires-2 add-result mul-result returns)

@@ -1,0 +1,58 @@
+-- A call that is not turned down plays its records from the start. Used by proofs; no promise cites it.
+use Prim.Native.Nat.{ℕ, _+_, _*_, _≤_}
+use native.Mathlib.Omega.{arith}
+use mathlib.Core.Path.{_≡_, refl, ap, sym, _∙_, subst}
+use mathlib.Core.List.{List, _++_}
+use lib.ListN.{length, take, drop, getD, replicate, length-replicate}
+use lib.Seq.{take-at, drop-at}
+use Rattle.tree.specs.Shape.{Shape, processes}
+use Rattle.tree.specs.Layout.{partStart, wordsNeeded}
+use Rattle.rules.specs.Refusals.{heightFor, shapeFor}
+use Rattle.rules.specs.Run.{Played}
+use Rattle.rules.proofs.Theorem.{tall-for}
+use Rattle.refusals.proofs.Limits.{allowed-most, allowed-width, shape-is, needed-for, short-for}
+use Rattle.player.specs.declared.Outcome.{Outcome}
+use Rattle.player.specs.Playing.{Callable, Starts, Leaves}
+
+module _ (p l : ℕ) (heads : List ℕ) (words room bytes : ℕ) (k : Callable p l heads words room bytes) (h w needed : ℕ) (eh : h ≡ heightFor p) (ew : w ≡ l)
+    (en : needed ≡ wordsNeeded (record { height = h; most = w }))
+  where
+    abbrev s : Shape
+    s = shapeFor p l
+
+    needed-is : needed ≡ wordsNeeded s
+    needed-is = en ∙ needed-for p l h w eh ew
+
+    pub call-fits : needed ≤ words
+    call-fits = omega (arith, needed-is, k .enough)
+
+    pub call-starts : (firsts rest : List ℕ) → ((v : ℕ) → v ≤ 2 * processes (record { height = h; most = w }) → getD firsts v 0 ≡ partStart (record { height = h; most = w }) v)
+        → Starts s firsts heads (take needed (replicate needed 0 ++ rest)) room bytes
+    unfolding shapeFor
+    call-starts firsts rest parts =
+        let width : processes s ≡ p = allowed-width p l (k .some) in
+        record {
+          inner = tall-for p l;
+          tall = short-for p l;
+          few = allowed-most l (k .most) .1;
+          laid =
+              record {
+                parts = subst (λ (x : Shape). (v : ℕ) → v ≤ 2 * processes x → getD firsts v 0 ≡ partStart x v) (shape-is p l h w eh ew) parts;
+                nodes = ap length (k .ones) ∙ length-replicate (2 * p) 1 ∙ ap (λ (x : ℕ). 2 * x) (sym width);
+              };
+          words = take-at (replicate needed 0) rest needed (length-replicate needed 0) ∙ ap (λ (n : ℕ). replicate n 0) needed-is;
+          ones = k .ones ∙ ap (λ (x : ℕ). replicate (2 * x) 1) (sym width);
+          bounded = k .bounded;
+        }
+
+    -- the words that were played, and those past them
+    pub call-words : (part rest : List ℕ) → length part ≡ needed → take (wordsNeeded s) (part ++ rest) ≡ part
+    call-words part rest e = take-at part rest (wordsNeeded s) (e ∙ needed-is)
+
+    pub call-rest : (part cleared table : List ℕ) → length part ≡ needed → cleared ≡ replicate needed 0 ++ drop needed table
+        → drop (wordsNeeded s) (part ++ drop needed cleared) ≡ drop (wordsNeeded s) table
+    call-rest part cleared table e f =
+        drop-at part (drop needed cleared) (wordsNeeded s) (e ∙ needed-is)
+        ∙ ap (drop needed) f
+        ∙ drop-at (replicate needed 0) (drop needed table) needed (length-replicate needed 0)
+        ∙ ap (λ (n : ℕ). drop n table) needed-is

@@ -1,0 +1,83 @@
+-- A run of some records and one more, by what that one does. Used by proofs; no promise cites it.
+use Prim.Native.Nat.{ℕ, suc, _+_, _*_, _-_, _≤_, _<_}
+use native.Mathlib.Omega.{arith}
+use mathlib.Core.Path.{_≡_, refl, ap, sym, _∙_, subst}
+use mathlib.Core.Bool.{true, false}
+use mathlib.Core.List.{List, [], _∷_, _++_, foldl, append-nil}
+use lib.ListN.{length, take, drop, getD, take-append-drop}
+use lib.Seq.{take-suc, take-add}
+use Rattle.record.specs.declared.StepRecord.{StepRecord}
+use Rattle.record.specs.declared.AnswerRecord.{AnswerRecord}
+use Rattle.record.specs.AnswerRecords.{answerSize}
+use Rattle.tree.specs.Shape.{Shape}
+use Rattle.tree.specs.Memory.{Memory}
+use Rattle.steps.specs.declared.Operation.{Operation}
+use Rattle.steps.specs.declared.Process.{Process}
+use Rattle.steps.specs.Machine.{Machine, processOf, withProcess}
+use Rattle.rules.specs.declared.Refusal.{Refusal}
+use Rattle.rules.specs.declared.Refusal.the-variants.{None}
+use Rattle.rules.specs.Answer.{answerOf}
+use Rattle.rules.specs.Refusals.{refusalNumber, accepted, recordRefusal}
+use Rattle.rules.specs.Run.{Played, takeRecord, recordAnswers, taking, refusing, playRecord, play}
+use Rattle.rules.specs.History.{begins, history}
+use Rattle.rules.proofs.Agrees.{Agrees}
+use Rattle.rules.proofs.Legal.{answersAlong}
+use Rattle.rules.proofs.Played.{played-machine, played-legal, over-stays, play-append}
+use Rattle.rules.proofs.Runs.{runs}
+use Rattle.player.specs.declared.Turn.the-variants.{Refused, Moved, Finished}
+use Rattle.player.specs.Turns.{rested, TurnOf}
+
+-- what the records that a run took did agrees with the machine that it left
+abbrev pub PlayedAs : Shape → List StepRecord → Machine → Type 0
+PlayedAs s took m = Agrees s m (λ k. begins k took) (history s took) (answersAlong s took)
+
+pub played-agrees : (s : Shape) → 1 ≤ s .height → (room : ℕ) (rs : List StepRecord) → PlayedAs s (take (play s room rs .taken) rs) (play s room rs .machine)
+played-agrees s tall room rs =
+    subst (PlayedAs s (take (play s room rs .taken) rs)) (sym (played-machine s room rs)) (runs s tall (played-legal s room rs))
+
+module _ (s : Shape) (room : ℕ) (rs : List StepRecord) (going : play s room rs .refusal ≡ None) (r : StepRecord) where
+  abbrev g : Played
+  g = play s room rs
+
+  -- the answer bytes left
+  abbrev pub leftOf : ℕ
+  leftOf = room - 16 * length (g .answers)
+
+  one-more : play s room (rs ++ (r ∷ [])) ≡ playRecord s room g r
+  one-more = play-append s room rs (r ∷ [])
+
+  pub play-refused : (n : Memory) (x : Refusal) → TurnOf s leftOf (g .machine) r n (Refused x) → play s room (rs ++ (r ∷ [])) ≡ refusing g x
+  unfolding playRecord answerSize accepted refusalNumber
+  play-refused n x t = one-more ∙ rw (going, t .0) (rw (t .1))
+
+  -- a record that is accepted: the machine and the answers are those that it leaves
+  taken-as : accepted (recordRefusal s leftOf (processOf (g .machine) (r .process)) r) ≡ true → (m : Machine) → takeRecord s (g .machine) r ≡ m
+      → (xs : List AnswerRecord) → recordAnswers s (g .machine) r ≡ xs
+      → play s room (rs ++ (r ∷ [])) ≡ record { machine = m; answers = g .answers ++ xs; taken = g .taken + 1; refusal = None }
+  unfolding playRecord answerSize accepted refusalNumber taking
+  taken-as ok m em xs ea =
+      one-more
+      ∙ rw (going, ok)
+      (ap (λ (x : Machine). record { machine = x; answers = g .answers ++ recordAnswers s (g .machine) r; taken = g .taken + 1; refusal = None }) em
+      ∙ ap (λ (x : List AnswerRecord). record { machine = m; answers = g .answers ++ x; taken = g .taken + 1; refusal = None }) ea)
+
+  pub play-moved : (n : Memory) (q : Process) → TurnOf s leftOf (g .machine) r n (Moved q)
+      → play s room (rs ++ (r ∷ [])) ≡ record { machine = withProcess (g .machine) (r .process) q n; answers = g .answers; taken = g .taken + 1; refusal = None }
+  play-moved n q t =
+      taken-as (t .0) _ (t .2) [] (t .1)
+      ∙ ap (λ (x : List AnswerRecord). record { machine = withProcess (g .machine) (r .process) q n; answers = x; taken = g .taken + 1; refusal = None }) (append-nil (g .answers))
+
+  pub play-finished : (n : Memory) (o : Operation) → TurnOf s leftOf (g .machine) r n (Finished o)
+      → play s room (rs ++ (r ∷ []))
+      ≡ record {
+        machine = withProcess (g .machine) (r .process) (rested (processOf (g .machine) (r .process))) n;
+        answers = g .answers ++ (answerOf s (g .machine) (r .process) o ∷ []);
+        taken = g .taken + 1;
+        refusal = None;
+      }
+  play-finished n o t = taken-as (t .0) _ (t .2) _ (t .1)
+
+-- records of which one was refused: those after it change nothing
+pub play-over : (s : Shape) (room : ℕ) (rs : List StepRecord) (i : ℕ) → accepted (play s room (take i rs) .refusal) ≡ false → play s room rs ≡ play s room (take i rs)
+play-over s room rs i e =
+    ap (play s room) (sym (take-append-drop i rs)) ∙ play-append s room (take i rs) (drop i rs) ∙ over-stays s room (play s room (take i rs)) e (drop i rs)

@@ -1,0 +1,48 @@
+-- What a step record does, told of the process as it is given. Used by proofs; no promise cites it.
+use Prim.Native.Nat.{ℕ, _+_}
+use mathlib.Core.Path.{_≡_, ap, _∙_, subst}
+use mathlib.Core.Bool.{true, false}
+use mathlib.Core.List.{List}
+use lib.Dec.{ltb}
+use borrow.Author.Tests.{ltb-true, ltb-false}
+use Rattle.record.specs.declared.StepRecord.{StepRecord}
+use Rattle.record.specs.StepRecords.{isStep, illFormed}
+use Rattle.tree.specs.Shape.{Shape, processes}
+use Rattle.tree.specs.Memory.{Memory}
+use Rattle.steps.specs.declared.Operation.{Operation}
+use Rattle.steps.specs.declared.Step.{Step}
+use Rattle.steps.specs.declared.Status.the-variants.{Busy}
+use Rattle.steps.specs.declared.Process.{Process}
+use Rattle.steps.specs.Rules.{step, go}
+use Rattle.steps.specs.Machine.{Machine, processOf, isIdle, isQ}
+use Rattle.rules.specs.declared.Refusal.the-variants.{StepWhileIdle, AnswersFull}
+use Rattle.answer.specs.Playing.{machineOf, Plays}
+use Rattle.player.specs.declared.Turn.the-variants.{Refused, Moved, Finished}
+use Rattle.player.specs.Turns.{TurnOf}
+use Rattle.player.proofs.TurnLaws.{refused-idle, refused-full, turn-finishes, turn-moves}
+
+module _ (s : Shape) (room : ℕ) (ps : List Process) (starts heads table : List ℕ) (r : StepRecord) (q : Process) (plays : Plays s ps starts heads table (r .process) q)
+    (formed : illFormed (processes s) r ≡ false)
+    (steps : isStep r ≡ true)
+  where
+    abbrev m : Machine
+    m = machineOf table heads ps
+
+    pub idle-turn : isIdle (q .status) ≡ true → TurnOf s room m r (m .memory) (Refused StepWhileIdle)
+    idle-turn e = refused-idle s room m r formed steps (ap (λ (x : Process). isIdle (x .status)) (plays .here) ∙ e)
+
+    module _ (o : Operation) (n : Step) (busy : q .status ≡ Busy o n) where
+      is-busy : processOf m (r .process) .status ≡ Busy o n
+      is-busy = ap (λ (x : Process). x .status) (plays .here) ∙ busy
+
+      pub full-turn : isQ n ≡ true → ltb room 16 ≡ true → TurnOf s room m r (m .memory) (Refused AnswersFull)
+      full-turn z e = refused-full s room m r formed steps o n is-busy z (ltb-true room 16 e)
+
+      pub last-turn : isQ n ≡ true → ltb room 16 ≡ false → TurnOf s room m r (m .memory) (Finished o)
+      last-turn z e = turn-finishes s room m r formed steps o n is-busy z (ltb-false room 16 e)
+
+      pub next-turn : isQ n ≡ false → (after : Memory) (x : Step) → step s (r .process) o (m .memory) n ≡ go s (r .process) o (m .memory) after x
+          → TurnOf s room m r after (Moved (record { status = Busy o x; begun = q .begun; steps = q .steps + 1 }))
+      next-turn z after x e =
+          subst (λ (y : Process). TurnOf s room m r after (Moved (record { status = Busy o x; begun = y .begun; steps = y .steps + 1 }))) (plays .here)
+          (turn-moves s room m r formed steps o n is-busy z after x e)

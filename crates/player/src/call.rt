@@ -1,0 +1,53 @@
+// The records of a call, played from the start: the needed words of the table cleared, and each head 1.
+use crate::Outcome;
+use crate::play::play;
+use refusals::sooner::height_for;
+use steps::heads::wide;
+use tree::layout::clear;
+use tree::layout::starts;
+use tree::layout::words_needed;
+ghost use mathlib.Core.Path.{_≡_};
+ghost use mathlib.Core.Logic.{_⊎_};
+ghost use mathlib.Core.Bool.{true};
+ghost use Prim.Native.Nat.{_*_, _≤_};
+ghost use lib.ListN.{length, take, drop, replicate};
+ghost use Rattle.record.specs.StepRecords.{stepRecords};
+ghost use Rattle.tree.specs.Layout.{wordsNeeded};
+ghost use Rattle.steps.specs.Process.{processesAllowed, operationsAllowed};
+ghost use Rattle.rules.specs.Refusals.{shapeFor};
+ghost use Rattle.rules.specs.Run.{play as played};
+ghost use Rattle.player.specs.Playing.{Callable, Leaves};
+
+// Plays the records of a call with p and l, which are allowed, and a table that is long enough. Table words past those needed stay.
+pub fn play_call(
+    p: u32,
+    l: u32,
+    records: &[u8],
+    heads: &mut [u32],
+    table: &mut [u32],
+    room: usize,
+    out: &mut [u8],
+    log: &[u8],
+) -> Outcome
+    requires { ⌜ Callable p l (now heads) (length (now table)) room (length (now out)) ⌝ }
+    ensures leaves { λ r. ⌜ Leaves (played (shapeFor p l) room (stepRecords (now (records .entry)))) (now (log .entry)) (now (out .entry)) r
+        (take (wordsNeeded (shapeFor p l)) (now (table .exit))) (now (heads .exit)) (now (out .exit)) ⌝ }
+    ensures rest { λ _. ⌜ drop (wordsNeeded (shapeFor p l)) (now (table .exit)) ≡ drop (wordsNeeded (shapeFor p l)) (now (table .entry)) ⌝ }
+{
+    let height = height_for(p);
+    let most = wide(l);
+    let needed = words_needed(height, most);
+    clear(table, needed);
+    let firsts = starts(height, most);
+    play(
+        p,
+        l,
+        &firsts,
+        records,
+        heads,
+        &mut table[..needed],
+        room,
+        out,
+        log,
+    )
+}

@@ -1,0 +1,129 @@
+-- What list the order leaves, by whether the call is turned down, a record refused, or the list longer than the output. Used by proofs; no promise cites it.
+use Prim.Native.Nat.{ℕ, _*_, _≤_, _<_}
+use native.Mathlib.Omega.{arith}
+use mathlib.Core.Path.{_≡_, refl, ap, sym, _∙_, subst}
+use mathlib.Core.Bool.{Bool, true, false}
+use mathlib.Core.List.{List, [], _++_}
+use lib.ListN.{length, take, drop, getD}
+use lib.Seq.{take-at}
+use lib.Dec.{ltb}
+use borrow.Author.Tests.{lt-ltb, le-ltb}
+use Rattle.base.specs.Choice.{if_then_else_}
+use Rattle.record.specs.StepRecords.{stepRecords}
+use Rattle.tree.specs.Shape.{Shape, processes}
+use Rattle.tree.specs.Layout.{partStart, wordsNeeded}
+use Rattle.tree.specs.Memory.{Memory}
+use Rattle.tree.proofs.Writes.{Sized}
+use Rattle.tree.proofs.Sound.{Sound}
+use Rattle.steps.specs.Settled.{Settles}
+use Rattle.steps.proofs.Invariant.{Invariant}
+use Rattle.rules.specs.declared.Refusal.{Refusal}
+use Rattle.rules.specs.declared.Refusal.the-variants.{None, OutputShort}
+use Rattle.rules.specs.Refusals.{refusalNumber, accepted, heightFor, shapeFor, callRefusal}
+use Rattle.rules.specs.Run.{Played, play}
+use Rattle.rules.specs.ListOrder.{ListLeaves, orderList, playAll, listRefusal, listed, listPlayed, listOrder}
+use Rattle.rules.proofs.Theorem.{tall-for}
+use Rattle.refusals.proofs.Limits.{allowed-most, shape-is, short-for}
+use Rattle.player.specs.declared.Outcome.{Outcome}
+use Rattle.player.specs.Playing.{Leaves}
+use Rattle.player.proofs.PlayLaws.{played-agrees}
+use Rattle.queue.specs.declared.Listed.{Listed}
+use Rattle.queue.specs.Left.{listLeft}
+use Rattle.queue.specs.Listing.{Listing, listFrom}
+use Rattle.queue.proofs.Accepted.{accepted-whole, accepted-processes, accepted-operations}
+use Rattle.queue.proofs.PlayAll.{plays-all, table-left}
+
+-- ---- the list of a played table
+
+-- its parts begin at the starts that are worked out
+pub listing-settles : (p l : ℕ) (heads table : List ℕ) → Listing p l heads table → (h w : ℕ) → h ≡ heightFor p → w ≡ l → (firsts : List ℕ)
+    → ((v : ℕ) → v ≤ 2 * processes (record { height = h; most = w }) → getD firsts v 0 ≡ partStart (record { height = h; most = w }) v)
+    → Settles (shapeFor p l) firsts heads table
+unfolding shapeFor
+listing-settles p l heads table k h w eh ew firsts parts =
+    record {
+      inner = tall-for p l;
+      tall = short-for p l;
+      few = allowed-most l (k .most) .1;
+      laid =
+          record {
+            parts = subst (λ (x : Shape). (v : ℕ) → v ≤ 2 * processes x → getD firsts v 0 ≡ partStart x v) (shape-is p l h w eh ew) parts;
+            nodes = k .sized .heads;
+          };
+      sized = k .sized;
+      sound = k .sound;
+    }
+
+pub listing-height : (p l h : ℕ) → h ≡ heightFor p → h ≡ shapeFor p l .height
+unfolding shapeFor
+listing-height p l h e = e
+
+-- longer than the output, or written
+pub list-short : (s : Shape) (t table output : List ℕ) → length output < length (orderList s t)
+    → listLeft (record { refusal = OutputShort; length = 0 }) table output ≡ listFrom s t table output
+unfolding listLeft listFrom listRefusal listed accepted refusalNumber
+list-short s t table output h = rw (lt-ltb _ _ h)
+
+pub list-written : (s : Shape) (t table output output' : List ℕ) (n : ℕ) → n ≡ length (orderList s t) → length (orderList s t) ≤ length output
+    → output' ≡ orderList s t ++ drop (length (orderList s t)) output
+    → listLeft (record { refusal = None; length = n }) table output' ≡ listFrom s t table output
+unfolding listLeft listFrom listRefusal listed accepted refusalNumber
+list-written s t table output output' n e h f = rw (le-ltb _ _ h) (λ i. record { refusal = None; length = e i; table = table; output = f i })
+
+-- ---- the call
+module _ (p l : ℕ) (records table output : List ℕ) where
+  abbrev s : Shape
+  s = shapeFor p l
+
+  abbrev n : Refusal
+  n = callRefusal p l (length table) (length records)
+
+  pub list-down : accepted n ≡ false → listLeft (record { refusal = n; length = 0 }) table output ≡ listOrder p l records table output
+  unfolding listLeft listOrder listed
+  list-down e = rw e
+
+  module _ (ok : accepted n ≡ true) where
+    abbrev g : Played
+    g = play s (2 * length records) (stepRecords records)
+
+    is-listed : listPlayed s g table output ≡ listOrder p l records table output
+    unfolding listOrder
+    is-listed = ap (λ (x : Played). listPlayed s x table output) (plays-all s records (accepted-whole p l (length table) (length records) ok)) ∙ rw ok
+
+    module _ (o : Outcome) (log before table' heads' out' : List ℕ) (leaves : Leaves g log before o (take (wordsNeeded s) table') heads' out')
+        (rest : drop (wordsNeeded s) table' ≡ drop (wordsNeeded s) table)
+      where
+        left : table' ≡ g .machine .memory .table ++ drop (wordsNeeded s) table
+        left = table-left g log before o (wordsNeeded s) table table' heads' out' leaves rest
+
+        pub list-refused : accepted (o .refusal) ≡ false → listLeft (record { refusal = o .refusal; length = 0 }) table' output ≡ listOrder p l records table output
+        unfolding listLeft listPlayed listRefusal listed
+        list-refused e =
+            let z : accepted (g .refusal) ≡ false = ap accepted (sym (leaves .refusal)) ∙ e in
+            (λ i. record { refusal = leaves .refusal i; length = 0; table = left i; output = output })
+            ∙ (rw (z, z))
+            ∙ is-listed
+
+        -- the table and the heads are a sound memory
+        pub list-listing : Listing p l heads' (take (wordsNeeded s) table')
+        list-listing =
+            let keeps : Invariant s (g .machine) = played-agrees s (tall-for p l) (2 * length records) (stepRecords records) .invariant in
+            let same : _≡_ {A = Memory} (g .machine .memory) (record { table = take (wordsNeeded s) table'; heads = heads' }) =
+            λ i. record { table = sym (leaves .words) i; heads = sym (leaves .nodes) i }
+            in
+            record {
+              some = accepted-processes p l (length table) (length records) ok;
+              most = accepted-operations p l (length table) (length records) ok;
+              sized = subst (Sized s) same (keeps .sized);
+              sound = subst (Sound s) same (keeps .sound);
+            }
+
+        pub list-left : (r : Listed) (output' : List ℕ) → accepted (o .refusal) ≡ true
+            → ((y : List ℕ) → listLeft r y output' ≡ listFrom s (take (wordsNeeded s) table') y output) → listLeft r table' output' ≡ listOrder p l records table output
+        unfolding listPlayed listRefusal listFrom accepted refusalNumber
+        list-left r output' e f =
+            f table'
+            ∙ ap (λ (x : List ℕ). listFrom s x table' output) (leaves .words)
+            ∙ ap (λ (x : List ℕ). listFrom s (g .machine .memory .table) x output) left
+            ∙ (rw (ap accepted (sym (leaves .refusal)) ∙ e))
+            ∙ is-listed

@@ -1,0 +1,57 @@
+-- What Run leaves, by whether the call is turned down. Used by proofs; no promise cites it.
+use Prim.Native.Nat.{ℕ, _*_}
+use mathlib.Core.Path.{_≡_, refl, ap, sym, _∙_, subst}
+use mathlib.Core.Bool.{true, false}
+use mathlib.Core.List.{List, _++_}
+use lib.ListN.{length, take, drop}
+use Rattle.record.specs.AnswerRecords.{answerSize, logBytes}
+use Rattle.record.specs.StepRecords.{stepRecords}
+use Rattle.tree.specs.Shape.{Shape}
+use Rattle.tree.specs.Layout.{wordsNeeded}
+use Rattle.rules.specs.Refusals.{accepted, shapeFor, callRefusal}
+use Rattle.rules.specs.Run.{Played, play, runTurnedDown, runPlayed, run}
+use Rattle.rules.specs.Demand3.{Demand3, RunKeeps}
+use Rattle.rules.proofs.Played.{played-room}
+use Rattle.rules.proofs.Theorem.{demand3-run}
+use Rattle.log.proofs.Written.{written-fits}
+use Rattle.player.specs.declared.Outcome.{Outcome}
+use Rattle.player.specs.Playing.{Leaves}
+use Rattle.queue.specs.declared.Ran.{Ran}
+use Rattle.queue.specs.Left.{runLeft}
+use Rattle.queue.proofs.PlayAll.{table-left}
+
+module _ (p l : ℕ) (records table answers : List ℕ) where
+  abbrev s : Shape
+  s = shapeFor p l
+
+  abbrev g : Played
+  g = play s (length answers) (stepRecords records)
+
+  -- turned down
+  pub run-down : accepted (callRefusal p l (length table) (length records)) ≡ false
+      → runLeft (record { refusal = callRefusal p l (length table) (length records); taken = 0; answers = 0 }) table answers ≡ run p l records table answers
+  unfolding runLeft run runTurnedDown
+  run-down e = rw e
+
+  -- played
+  module _ (ok : accepted (callRefusal p l (length table) (length records)) ≡ true) (o : Outcome) (log table' heads' answers' : List ℕ)
+      (leaves : Leaves g log answers o (take (wordsNeeded s) table') heads' answers')
+      (rest : drop (wordsNeeded s) table' ≡ drop (wordsNeeded s) table)
+    where
+      pub run-left : runLeft (record { refusal = o .refusal; taken = o .taken; answers = o .answers }) table' answers' ≡ run p l records table answers
+      unfolding runLeft run runPlayed
+      run-left =
+          rw ok
+          (λ i.
+          record {
+            refusal = leaves .refusal i;
+            taken = leaves .taken i;
+            answered = leaves .answered i;
+            table = table-left g log answers o (wordsNeeded s) table table' heads' answers' leaves rest i;
+            answers = (leaves .bytes ∙ written-fits answers (g .answers) (played-room s (length answers) (stepRecords records))) i;
+          })
+
+      -- demand 3, on what it leaves
+      pub run-keeps : Demand3 p l (take (o .taken) (stepRecords records)) (take (answerSize * o .answers) answers') (take (wordsNeeded s) table')
+      unfolding runLeft
+      run-keeps = subst (RunKeeps p l records) (sym run-left) (demand3-run p l records table answers ok)

@@ -1,0 +1,22 @@
+-- `exports::otq_check_log` meets its contract. Assumes nothing.
+use borrow.Author.Needs.{needs}
+use Rattle.queue.proofs.Exporting.{check-export}
+use Rattle.queue.proofs.exports.otq_check_log.Statement.{statement}
+use Rattle.queue.proofs.exports.otq_check_log.Tie as tie
+
+check-log-requires : tie.Need-check-log-requires
+check-log-requires c κs = search needs
+
+checked-requires : tie.Need-checked-requires
+checked-requires c κs = search needs
+
+same-length : tie.Need-same-length
+same-length c = search needs
+
+returns : tie.Need-returns
+returns c =
+    let r = c .before .before .before .check-log in
+    check-export (r .result) _ _ _ (r .ensures) (c .checked .ensures)
+
+pub otq-check-log-spec : {M : Type 1} → statement M
+otq-check-log-spec = tie.close (tie.spec check-log-requires checked-requires same-length returns)

@@ -1,0 +1,3 @@
+pub mod Left
+pub mod Listing
+pub mod Exported

@@ -1,0 +1,25 @@
+-- Listing the root order of a table that was played: what it needs, and what it leaves. Used by private contracts only.
+use Prim.Native.Nat.{ℕ}
+use mathlib.Core.Path.{_≡_}
+use mathlib.Core.Bool.{true}
+use mathlib.Core.List.{List}
+use lib.ListN.{length}
+use Rattle.tree.specs.Shape.{Shape, processes}
+use Rattle.tree.specs.Memory.{Memory}
+use Rattle.tree.proofs.Writes.{Sized}
+use Rattle.tree.proofs.Sound.{Sound}
+use Rattle.steps.specs.Process.{processesAllowed, operationsAllowed}
+use Rattle.rules.specs.declared.Refusal.the-variants.{None}
+use Rattle.rules.specs.Refusals.{shapeFor}
+use Rattle.rules.specs.ListOrder.{ListLeaves, orderList, listRefusal, listed}
+
+-- p and l are allowed, and the table and the heads are a sound memory of their tree
+pub record Listing (p l : ℕ) (heads table : List ℕ) : Type 0 where
+  pub some : processesAllowed p ≡ true
+  pub most : operationsAllowed l ≡ true
+  pub sized : Sized (shapeFor p l) (record { table = table; heads = heads })
+  pub sound : Sound (shapeFor p l) (record { table = table; heads = heads })
+
+-- the list of a played table t: 10 if it is longer than the output; `table` is all that the call leaves in the work table
+unfoldable pub listFrom : Shape → List ℕ → List ℕ → List ℕ → ListLeaves
+listFrom s t table output = listed (listRefusal None (length (orderList s t)) (length output)) (orderList s t) table output

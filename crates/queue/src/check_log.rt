@@ -1,0 +1,40 @@
+// Check a log.
+use log::compare::verdict;
+use player::call::play_call;
+use refusals::numbers::accepted;
+use refusals::sooner::of_check;
+use rules::Verdict;
+use steps::heads::wide;
+ghost use mathlib.Core.Path.{_≡_};
+ghost use Rattle.rules.specs.CheckLog.{checkLog};
+ghost use Rattle.queue.specs.Left.{checkLeft};
+
+// Plays step records as Run does and compares their answers with a log, record by record. What it returns and all that it leaves in the table is what the rules say: 'same' exactly if
+// the log is byte for byte that of a list without refusal.
+pub fn check_log(p: u32, l: u32, records: &[u8], log: &[u8], table: &mut [u32]) -> Verdict
+    ensures { λ r. ⌜ checkLeft r (now (table .exit)) ≡ checkLog p l (now (records .entry)) (now (log .entry)) (now (table .entry)) ⌝ }
+{
+    let n = of_check(p, l, table.len(), records.len(), log.len());
+    if !accepted(n) {
+        return Verdict::Refused(n);
+    }
+    let mut heads = [1u32; 16];
+    let nodes = 2 * wide(p);
+    let room = 2 * records.len();
+    let mut none = [0u8; 1];
+    let o = play_call(
+        p,
+        l,
+        records,
+        &mut heads[..nodes],
+        table,
+        room,
+        &mut none[..0],
+        log,
+    );
+    let why = o.refusal;
+    if !accepted(why) {
+        return Verdict::Refused(why);
+    }
+    verdict(o.equal, o.answers, log.len())
+}

@@ -1,0 +1,100 @@
+// The three calls for programs in C and Rust. A refusal is its number, a verdict 0 same, 1 differs, 2 refused.
+use crate::OtqCheck;
+use crate::OtqList;
+use crate::OtqRun;
+use crate::check_log::check_log;
+use crate::list_order::list_order;
+use crate::run::run;
+use refusals::numbers::number;
+use rules::Verdict;
+ghost use mathlib.Core.Path.{_≡_};
+ghost use mathlib.Core.Bool.{true};
+ghost use Prim.Native.Nat.{_*_};
+ghost use lib.ListN.{length, take};
+ghost use Rattle.record.specs.StepRecords.{stepRecords};
+ghost use Rattle.record.specs.AnswerRecords.{answerSize};
+ghost use Rattle.tree.specs.Layout.{wordsNeeded};
+ghost use Rattle.rules.specs.Refusals.{accepted, shapeFor, callRefusal};
+ghost use Rattle.rules.specs.Run.{run as runOf};
+ghost use Rattle.rules.specs.ListOrder.{listOrder};
+ghost use Rattle.rules.specs.CheckLog.{checkLog};
+ghost use Rattle.rules.specs.Demand3.{Demand3};
+ghost use Rattle.queue.specs.Exported.{RunExport, ListExport, CheckExport, checkedAs};
+
+// Run.
+#[no_mangle]
+pub extern "C" fn otq_run(
+    p: u32,
+    l: u32,
+    records: &[u8],
+    table: &mut [u32],
+    answers: &mut [u8],
+) -> OtqRun
+    ensures rules { λ r. ⌜ RunExport (runOf p l (now (records .entry)) (now (table .entry)) (now (answers .entry))) r (now (table .exit)) (now (answers .exit)) ⌝ }
+    ensures demand3 { λ r. ⌜ (accepted (callRefusal p l (length (now (table .entry))) (length (now (records .entry)))) ≡ true →
+        Demand3 p l (take (r .taken) (stepRecords (now (records .entry)))) (take (answerSize * r .answers) (now (answers .exit))) (take (wordsNeeded (shapeFor p l)) (now (table .exit)))) ⌝ }
+{
+    let r = run(p, l, records, table, answers);
+    let why = r.refusal;
+    OtqRun {
+        refusal: number(why),
+        taken: r.taken as u64,
+        answers: r.answers as u64,
+    }
+}
+
+// List the order.
+#[no_mangle]
+pub extern "C" fn otq_list_order(
+    p: u32,
+    l: u32,
+    records: &[u8],
+    table: &mut [u32],
+    output: &mut [u8],
+) -> OtqList
+    ensures { λ r. ⌜ ListExport (listOrder p l (now (records .entry)) (now (table .entry)) (now (output .entry))) r (now (table .exit)) (now (output .exit)) ⌝ }
+{
+    let r = list_order(p, l, records, table, output);
+    let why = r.refusal;
+    OtqList {
+        refusal: number(why),
+        length: r.length as u64,
+    }
+}
+
+// A verdict as three numbers.
+fn checked(v: Verdict) -> OtqCheck
+    ensures { λ r. ⌜ r ≡ checkedAs v ⌝ }
+{
+    match v {
+        Verdict::Same => OtqCheck {
+            refusal: 0,
+            verdict: 0,
+            index: 0,
+        },
+        Verdict::Differs(i) => OtqCheck {
+            refusal: 0,
+            verdict: 1,
+            index: i,
+        },
+        Verdict::Refused(n) => OtqCheck {
+            refusal: number(n),
+            verdict: 2,
+            index: 0,
+        },
+    }
+}
+
+// Check a log.
+#[no_mangle]
+pub extern "C" fn otq_check_log(
+    p: u32,
+    l: u32,
+    records: &[u8],
+    log: &[u8],
+    table: &mut [u32],
+) -> OtqCheck
+    ensures { λ r. ⌜ CheckExport (checkLog p l (now (records .entry)) (now (log .entry)) (now (table .entry))) r (now (table .exit)) ⌝ }
+{
+    checked(check_log(p, l, records, log, table))
+}

@@ -1,0 +1,79 @@
+// List the order.
+use crate::Listed;
+use order::list::write_order;
+use order::roots::last_root;
+use order::roots::list_length;
+use player::call::play_call;
+use refusals::numbers::accepted;
+use refusals::sooner::height_for;
+use refusals::sooner::of_call;
+use rules::Refusal;
+use steps::heads::wide;
+use tree::layout::starts;
+use tree::layout::words_needed;
+ghost use mathlib.Core.Path.{_≡_};
+ghost use mathlib.Core.List.{List};
+ghost use Prim.Native.Nat.{ℕ};
+ghost use Rattle.rules.specs.Refusals.{shapeFor};
+ghost use Rattle.rules.specs.ListOrder.{listOrder};
+ghost use Rattle.queue.specs.Left.{listLeft};
+ghost use Rattle.queue.specs.Listing.{Listing, listFrom};
+
+// The list of the root order that a played table has, written to the output if it is not longer than that.
+fn write_list(p: u32, l: u32, heads: &[u32], table: &[u32], output: &mut [u8]) -> Listed
+    requires { ⌜ Listing p l (now heads) (now table) ⌝ }
+    ensures { λ r. ⌜ ((rest : List ℕ) → listLeft r rest (now (output .exit)) ≡ listFrom (shapeFor p l) (now (table .entry)) rest (now (output .entry))) ⌝ }
+{
+    let height = height_for(p);
+    let firsts = starts(height, wide(l));
+    let last = last_root(heads, table, &firsts);
+    let length = list_length(table, &firsts, last);
+    if output.len() < length {
+        return Listed {
+            refusal: Refusal::OutputShort,
+            length: 0,
+        };
+    }
+    write_order(table, &firsts, height, last, output);
+    Listed {
+        refusal: Refusal::None,
+        length: length,
+    }
+}
+
+// Plays step records as Run does, without answers, and lists the root order that they leave. What it returns and all that it leaves in the table and in the output is what the
+// rules say.
+pub fn list_order(p: u32, l: u32, records: &[u8], table: &mut [u32], output: &mut [u8]) -> Listed
+    ensures { λ r. ⌜ listLeft r (now (table .exit)) (now (output .exit)) ≡ listOrder p l (now (records .entry)) (now (table .entry)) (now (output .entry)) ⌝ }
+{
+    let n = of_call(p, l, table.len(), records.len());
+    if !accepted(n) {
+        return Listed {
+            refusal: n,
+            length: 0,
+        };
+    }
+    let mut heads = [1u32; 16];
+    let nodes = 2 * wide(p);
+    let room = 2 * records.len();
+    let mut none = [0u8; 1];
+    let o = play_call(
+        p,
+        l,
+        records,
+        &mut heads[..nodes],
+        table,
+        room,
+        &mut none[..0],
+        &records[..0],
+    );
+    let why = o.refusal;
+    if !accepted(why) {
+        return Listed {
+            refusal: why,
+            length: 0,
+        };
+    }
+    let needed = words_needed(height_for(p), wide(l));
+    write_list(p, l, &heads[..nodes], &table[..needed], output)
+}

@@ -1,0 +1,3 @@
+// What a call turns down before its first record, and the paper's number of each refusal.
+pub mod numbers;
+pub mod sooner;

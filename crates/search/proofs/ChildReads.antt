@@ -1,0 +1,34 @@
+-- The ends of an inner node's block, read by the starts: places of the children, with the totals there. Used by proofs; no promise cites it.
+use Prim.Native.Nat.{ℕ}
+use mathlib.Core.Path.{_≡_, ap}
+use mathlib.Core.List.{List}
+use Rattle.tree.specs.declared.Kind.{Kind}
+use Rattle.tree.specs.Shape.{Shape}
+use Rattle.tree.specs.Memory.{Memory, block}
+use Rattle.tree.specs.Order.{total}
+use Rattle.tree.proofs.Nodes.{Inner, Side, childOf, endOf, inner-node, child-node}
+use Rattle.tree.proofs.Presence.{Written}
+use Rattle.tree.proofs.Sound.{below-head, end-below}
+use Rattle.tree.proofs.SideTotals.{endTotal}
+use Rattle.steps.specs.Ready.{HasPlace, nodeBlock}
+use Rattle.steps.specs.Settled.{Settles}
+use Rattle.search.proofs.Words.{node-reads, written-place}
+
+module _ (s : Shape) (starts heads table : List ℕ) (sets : Settles s starts heads table) (v : ℕ) (inner : Inner s v) (d : Side) (a : ℕ) where
+  abbrev m : Memory
+  m = record { table = table; heads = heads }
+
+  pub end-read : endOf d (nodeBlock starts table v a) ≡ endOf d (block s (record { table = table; heads = heads }) v a)
+  end-read = ap (endOf d) (node-reads s starts heads table sets v a (inner-node s v inner))
+
+  -- an end is below the child's head
+  pub end-written : Written s (record { table = table; heads = heads }) v a
+      → Written s (record { table = table; heads = heads }) (childOf d v) (endOf d (block s (record { table = table; heads = heads }) v a))
+  end-written w = below-head (sets .sound .node (childOf d v) (child-node s d v inner)) _ (end-below (sets .sound) d v inner a w)
+
+  pub end-place : Written s (record { table = table; heads = heads }) v a → HasPlace starts table (childOf d v) (endOf d (nodeBlock starts table v a))
+  end-place w = rw end-read (written-place s starts heads table sets (childOf d v) _ (child-node s d v inner) (end-written w))
+
+  pub end-total : (κ : Kind)
+      → total κ (nodeBlock starts table (childOf d v) (endOf d (nodeBlock starts table v a))) ≡ endTotal s (record { table = table; heads = heads }) κ v a d
+  end-total κ = rw end-read (ap (total κ) (node-reads s starts heads table sets (childOf d v) _ (child-node s d v inner)))

@@ -1,0 +1,83 @@
+-- Where the climb begins: an operation's own block in its leaf. Used by proofs; no promise cites it.
+use Prim.Native.Nat.{ℕ, suc, _-_, _<_}
+use native.Mathlib.Omega.{arith}
+use native.Mathlib.Nat.{le-refl}
+use mathlib.Core.Path.{_≡_, refl}
+use mathlib.Core.Logic.{inr}
+use mathlib.Core.List.{List}
+use Rattle.tree.specs.declared.Kind.{Kind}
+use Rattle.tree.specs.Shape.{Shape, processes, root, leafOf}
+use Rattle.tree.specs.Memory.{Memory, headOf, block}
+use Rattle.tree.specs.Order.{total}
+use Rattle.tree.proofs.Nodes.{Node, leaf-node}
+use Rattle.tree.proofs.Presence.{Present}
+use Rattle.tree.proofs.Sound.{Follows, AddsOne, below-head}
+use Rattle.tree.proofs.Opening.{at-most-one}
+use Rattle.tree.proofs.LastRoot.{root-sound}
+use Rattle.tree.proofs.Reached.{reached-low}
+use Rattle.tree.proofs.Climb.{climb-leaf}
+use Rattle.tree.proofs.Rank.{rank-leaf, times-leaf}
+use Rattle.steps.specs.Ready.{HasPlace, nodeBlock}
+use Rattle.steps.specs.Settled.{Settles}
+use Rattle.search.specs.Stands.{StandsAs}
+use Rattle.search.specs.Climbing.{CountsAs, HoldsAs}
+use Rattle.search.proofs.Words.{node-reads, written-place}
+
+module _ (s : Shape) (k : ℕ) (starts heads table : List ℕ) (leaf i : ℕ) (h : StandsAs s k starts heads table leaf i) where
+  abbrev m : Memory
+  m = record { table = table; heads = heads }
+
+  abbrev sets : Settles s starts heads table
+  sets = h .settles
+
+  abbrev kp : k < processes s
+  kp = h .process
+
+  node : Node s (leafOf s k)
+  node = leaf-node s k kp
+
+  below : i < headOf m (leafOf s k)
+  below =
+      let n = root-sound s m (sets .sound) in
+      omega (arith, h .rooted, reached-low s m (sets .sound) (sets .inner) k kp (headOf m root - 1) (below-head n _ (omega (arith, n .head))))
+
+  present : Present s m (leafOf s k) i
+  present = sets .sound .node (leafOf s k) node .filled i (h .first) below
+
+  pub leaf-place : HasPlace starts table leaf i
+  leaf-place = rw (h .own) (written-place s starts heads table sets (leafOf s k) i node (inr present))
+
+  follows : Follows (block s m (leafOf s k) (i - 1)) (block s m (leafOf s k) i)
+  follows =
+      let e : suc (i - 1) ≡ i = omega (arith, h .first) in
+      rw e at (sets .sound .node (leafOf s k) node .follows (i - 1) (rw e present))
+
+  adds : AddsOne (block s m (leafOf s k) (i - 1)) (block s m (leafOf s k) i)
+  adds =
+      let e : suc (i - 1) ≡ i = omega (arith, h .first) in
+      rw e at (sets .sound .adds k kp (i - 1) (rw e present))
+
+  -- its block there holds it, and its number is the block's total
+  leaf-counts : (κ : Kind) → CountsAs s k i 0 table κ i (total κ (block s m (leafOf s k) i))
+  unfolding block
+  leaf-counts κ =
+      record {
+        low = follows .rises κ;
+        high = le-refl _;
+        inside = λ o. omega (arith, times-leaf s m κ k i o);
+        exact = λ o. omega (arith, rank-leaf s m κ k i o, at-most-one κ _ _ follows adds, o);
+      }
+
+  pub leaf-holds : (κ : Kind) → HoldsAs s k i 0 starts heads table κ i (total κ (nodeBlock starts table leaf i))
+  leaf-holds κ =
+      let c = climb-leaf s m (sets .sound) k kp i (h .first) in
+      let e : nodeBlock starts table leaf i ≡ block s m (leafOf s k) i = rw (h .own) (node-reads s starts heads table sets (leafOf s k) i node) in
+      record {
+        stands = record { settles = sets; process = kp; own = refl; first = h .first; rooted = h .rooted };
+        tall = omega arith;
+        some = h .first;
+        below = below;
+        past = c .0;
+        upto = c .1;
+        counts = rw e (leaf-counts κ);
+      }

@@ -1,0 +1,12 @@
+pub mod Firsts
+pub mod Words
+pub mod Rooted
+pub mod NumbersUp
+pub mod Ascent
+pub mod LeafHolds
+pub mod RootStands
+pub mod ClimbLaws
+pub mod PutSearch
+pub mod Descents
+pub mod ChildReads
+pub mod FindLaws

@@ -1,0 +1,65 @@
+-- Search of a node's blocks for a put by its number, counted from the node's first block on. Used by proofs; no promise cites it.
+use Prim.Native.Nat.{ℕ, zero, suc, _-_, _≤_}
+use native.Mathlib.Omega.{arith}
+use native.Mathlib.Decide.{ℕ-discrete}
+use mathlib.Core.Path.{_≡_, ap, _∙_}
+use mathlib.Core.List.{List}
+use Rattle.tree.specs.declared.Kind.the-variants.{Puts}
+use Rattle.tree.specs.Shape.{Shape}
+use Rattle.tree.specs.Memory.{Memory, block}
+use Rattle.tree.specs.Order.{total}
+use Rattle.tree.proofs.Nodes.{Node, inner-node, leaf-node}
+use Rattle.tree.proofs.Presence.{Written}
+use Rattle.tree.proofs.Sound.{written-low, below-head, first-zeros, zero-total, totals-rise}
+use Rattle.tree.proofs.Levels.{Level, level-inner, level-leaf}
+use Rattle.steps.specs.Ready.{HasPart, nodePart}
+use Rattle.steps.specs.Settled.{Settles}
+use Rattle.search.specs.Searched.{Reaches, First}
+use Rattle.search.specs.Descending.{FindsAs}
+use Rattle.search.proofs.Words.{part-fits, node-part, written-place, puts-word}
+
+pub level-node : (s : Shape) (h v : ℕ) → Level s h v → Node s v
+level-node s zero v l = let k = level-leaf s v l in rw (k .2) (leaf-node s (k .0) (k .1))
+level-node s (suc h) v l = inner-node s v (level-inner s h v l)
+
+module _ (s : Shape) (heads starts table : List ℕ) (sets : Settles s starts heads table) (h v : ℕ) (level : Level s h v) where
+  abbrev m : Memory
+  m = record { table = table; heads = heads }
+
+  node : Node s v
+  node = level-node s h v level
+
+  -- what is before a written place is written
+  earlier : (b last : ℕ) → b ≤ last → Written s m v last → Written s m v b
+  earlier b last l w = on (ℕ-discrete b last)
+    where
+      on : Dec (b ≡ last) → Written s m v b
+      on (yes e) = rw e w
+      on (no e) = below-head (sets .sound .node v node) b (omega (arith, written-low (sets .sound .node v node) last w))
+
+  -- a put that is in the blocks up to a written one is found there
+  pub search-ready : (last n : ℕ) → Written s (record { table = table; heads = heads }) v last → 1 ≤ n
+      → n ≤ total Puts (block s (record { table = table; heads = heads }) v last) → HasPart starts table v × Reaches (nodePart starts table v) 0 last n
+  search-ready last n w some upto = (
+    node-part s starts heads table sets v node,
+    record {
+      known = omega arith;
+      fits = part-fits starts table v last (written-place s starts heads table sets v last node w);
+      start = omega (arith, puts-word s starts heads table sets v 0 node, ap (total Puts) (first-zeros (sets .sound .node v node)) ∙ zero-total Puts);
+      rises = λ a b l u.
+          rw (puts-word s starts heads table sets v a node, puts-word s starts heads table sets v b node)
+          (totals-rise (sets .sound .node v node) Puts a b l (earlier b last u w));
+      reached = rw (puts-word s starts heads table sets v last node) upto;
+    },
+  )
+
+  -- and the place found has it
+  pub search-finds : (last n b : ℕ) → First (nodePart starts table v) 0 last n b → FindsAs s heads starts table h v b n
+  unfolding total block
+  search-finds last n b f =
+      record {
+        settles = sets;
+        level = level;
+        past = rw (puts-word s starts heads table sets v (b - 1) node) at (f .past);
+        upto = rw (puts-word s starts heads table sets v b node) at (f .upto);
+      }

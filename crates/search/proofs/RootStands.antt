@@ -1,0 +1,69 @@
+-- Where the climb ends: the root block of an operation, and its number there. Used by proofs; no promise cites it.
+use Prim.Native.Nat.{ℕ, suc, _-_, _≤_}
+use native.Mathlib.Omega.{arith}
+use mathlib.Core.Path.{_≡_, sym, ap}
+use mathlib.Core.List.{List}
+use Rattle.tree.specs.declared.Kind.{Kind}
+use Rattle.tree.specs.Shape.{Shape, root}
+use Rattle.tree.specs.Blocks.{blockAt}
+use Rattle.tree.specs.Memory.{Memory, block}
+use Rattle.tree.specs.Order.{OpId, total, inRoot, lastRoot}
+use Rattle.tree.proofs.Names.{rank-some}
+use Rattle.tree.proofs.Presence.{Present}
+use Rattle.tree.proofs.Sound.{below-head}
+use Rattle.tree.proofs.Ancestors.{ancestor}
+use Rattle.tree.proofs.LastRoot.{node-root, root-sound, last-most}
+use Rattle.tree.proofs.Reached.{ancestor-top}
+use Rattle.tree.proofs.Climb.{climb-root}
+use Rattle.steps.specs.Ready.{HasPlace, nodeBlock}
+use Rattle.steps.specs.Settled.{Settles}
+use Rattle.search.specs.Stands.{StandsAt}
+use Rattle.search.specs.Climbing.{HoldsAs}
+use Rattle.search.proofs.Words.{node-reads, written-place}
+
+module _ (s : Shape) (k i : ℕ) (starts heads table : List ℕ) (κ : Kind) (place number : ℕ) (h : HoldsAs s k i (s .height) starts heads table κ place number) where
+  abbrev m : Memory
+  m = record { table = table; heads = heads }
+
+  abbrev sets : Settles s starts heads table
+  sets = h .stands .settles
+
+  abbrev x : OpId
+  x = record { process = k; serial = i }
+
+  top : ancestor s k (s .height) ≡ root
+  top = ancestor-top s k (h .stands .process)
+
+  present : Present s m root place
+  present = root-sound s m (sets .sound) .filled place (h .some) (rw top at (h .below))
+
+  last : place ≤ lastRoot s table
+  last = last-most s m (sets .sound) place present
+
+  pub root-place : HasPlace starts table root (place - 1)
+  root-place =
+      written-place s starts heads table sets root (place - 1) (node-root s)
+      (below-head (root-sound s m (sets .sound)) (place - 1) (omega (arith, rw top at (h .below))))
+
+  root-reads : total κ (nodeBlock starts table root (place - 1)) ≡ total κ (blockAt s table root (place - 1))
+  unfolding block
+  root-reads = ap (total κ) (node-reads s starts heads table sets root (place - 1) (node-root s))
+
+  pub root-low : total κ (nodeBlock starts table root (place - 1)) ≤ number
+  root-low = omega (arith, root-reads, rw top at (h .counts .low))
+
+  pub root-stands : StandsAt s table κ k i (record { block = place; rank = number - total κ (nodeBlock starts table root (place - 1)) })
+  unfolding inRoot
+  root-stands =
+      let e : suc (place - 1) ≡ place = omega (arith, h .some) in
+      let low = rw top at (h .counts .low) in
+      let high = rw top at (h .counts .high) in
+      rw root-reads
+      (record {
+        first = h .some;
+        last = last;
+        block = sym (rw e at (climb-root s m (sets .sound) k (h .stands .process) (place - 1) i (rw e last) (h .past) (rw e (h .upto))));
+        rank = λ o. omega (arith, rw top at (h .counts .exact o));
+        some = λ o. omega (arith, rw top at (h .counts .exact o), rw top at (rank-some x _ (h .counts .inside o)));
+        most = omega arith;
+      })

@@ -1,0 +1,71 @@
+-- What the words of a node's part are in a settled memory: the ends and the puts of its blocks. Used by proofs; no promise cites it.
+use Prim.Native.Nat.{ℕ, _+_, _*_, _%_, _≤_, _<_}
+use native.Mathlib.Omega.{arith}
+use native.Mathlib.Decide.{ℕ-discrete}
+use mathlib.Core.Path.{_≡_, refl, ap, _∙_}
+use mathlib.Core.List.{List}
+use lib.ListN.{length, length-take, length-drop}
+use borrow.Author.Tests.{eq-eqb, ne-eqb}
+use Rattle.tree.specs.declared.Kind.the-variants.{Puts}
+use Rattle.tree.specs.Shape.{Shape}
+use Rattle.tree.specs.Blocks.{wordIn, blockIn}
+use Rattle.tree.specs.Memory.{Memory, block}
+use Rattle.tree.specs.Order.{total}
+use Rattle.tree.proofs.Nodes.{Node, Side, onLeft, onRight, endOf, sideOf}
+use Rattle.tree.proofs.Presence.{Written}
+use Rattle.tree.proofs.Sound.{place-count}
+use Rattle.steps.specs.Ready.{HasPart, HasPlace, nodePart, nodeBlock}
+use Rattle.steps.specs.Settled.{Settles}
+use Rattle.steps.proofs.Places.{headed, has-part, has-place, reads}
+
+-- the word of a block that has its end on a side
+abbrev pub wordOf : Side → ℕ
+wordOf onLeft = 3
+wordOf onRight = 4
+
+-- to show something of the side of a node, show it of both sides, each by what the node's number then is
+pub side-cases : (P : Side → Type 0) (v : ℕ) → (v % 2 ≡ 0 → P onLeft) → ((v % 2 ≡ 0 → ⊥) → P onRight) → P (sideOf v)
+side-cases P v left right = on (ℕ-discrete (v % 2) 0)
+  where
+    on : Dec (v % 2 ≡ 0) → P (sideOf v)
+    on (yes e) = rw (eq-eqb (v % 2) 0 e) (left e)
+    on (no e) = rw (ne-eqb (v % 2) 0 e) (right e)
+
+-- node v's parent has its ends towards v in this word
+pub side-word : (v : ℕ) → 3 + v % 2 ≡ wordOf (sideOf v)
+side-word v = side-cases (λ d. 3 + v % 2 ≡ wordOf d) v (λ e. omega arith) (λ e. omega arith)
+
+pub part-fits : (starts table : List ℕ) (v i : ℕ) → HasPlace starts table v i → 6 * i + 6 ≤ length (nodePart starts table v)
+unfolding nodePart
+part-fits starts table v i h = simp (length-take, length-drop) (omega arith)
+
+module _ (s : Shape) (starts heads table : List ℕ) (sets : Settles s starts heads table) where
+  abbrev memory : Memory
+  memory = record { table = table; heads = heads }
+
+  pub node-part : (v : ℕ) → Node s v → HasPart starts table v
+  node-part = has-part s (sets .tall) (sets .few) memory (sets .sized) (sets .sound) starts (sets .laid)
+
+  pub node-headed : (v : ℕ) → Node s v → v < length heads
+  node-headed = headed s (sets .tall) (sets .few) memory (sets .sized) (sets .sound) starts (sets .laid)
+
+  pub node-reads : (v i : ℕ) → Node s v → nodeBlock starts table v i ≡ block s memory v i
+  node-reads = reads s (sets .tall) (sets .few) memory (sets .sized) (sets .sound) starts (sets .laid)
+
+  -- a written place is the node's
+  pub written-place : (v i : ℕ) → Node s v → Written s memory v i → HasPlace starts table v i
+  written-place v i n w =
+      has-place s (sets .tall) (sets .few) memory (sets .sized) (sets .sound) starts (sets .laid) v i n
+      (omega (arith, place-count (sets .sound .node v n) i w, sets .sound .node v n .within i))
+
+  pub end-word : (d : Side) (v i : ℕ) → Node s v → wordIn (nodePart starts table v) i (wordOf d) ≡ endOf d (block s memory v i)
+  unfolding nodeBlock blockIn
+  end-word d v i n = word d ∙ ap (endOf d) (node-reads v i n)
+    where
+      word : (d : Side) → wordIn (nodePart starts table v) i (wordOf d) ≡ endOf d (nodeBlock starts table v i)
+      word onLeft = refl
+      word onRight = refl
+
+  pub puts-word : (v i : ℕ) → Node s v → wordIn (nodePart starts table v) i 0 ≡ total Puts (block s memory v i)
+  unfolding nodeBlock blockIn total
+  puts-word v i n = ap (total Puts) (node-reads v i n)

@@ -1,0 +1,40 @@
+-- Where an operation stands: what finding it needs, and what is found.
+use Prim.Native.Nat.{ℕ, _-_, _≤_, _<_}
+use mathlib.Core.Path.{_≡_}
+use mathlib.Core.List.{List}
+use Rattle.tree.specs.declared.Kind.{Kind}
+use Rattle.tree.specs.Shape.{Shape, processes, root, leafOf}
+use Rattle.tree.specs.Blocks.{blockAt}
+use Rattle.tree.specs.Memory.{Memory, headOf}
+use Rattle.tree.specs.Order.{total, inRoot, lastRoot}
+use Rattle.tree.specs.Standing.{rootBlockOf, rankIn}
+use Rattle.tree.proofs.Reach.{reach}
+use Rattle.steps.specs.Settled.{Settles}
+use Rattle.search.specs.declared.Standing.{Standing}
+
+-- in a tree of shape s, the root blocks below the root's head hold operation `serial` of process k, whose leaf is `leaf`
+pub record StandsAs (s : Shape) (k : ℕ) (starts heads table : List ℕ) (leaf serial : ℕ) : Type 0 where
+  pub settles : Settles s starts heads table
+  pub process : k < processes s
+  pub own : leaf ≡ leafOf s k
+  pub first : 1 ≤ serial
+  pub rooted : let m : Memory = record { table = table; heads = heads } in serial ≤ reach s m k (s .height) (headOf m root - 1)
+
+-- the same of some tree and some process
+pub record Stands (starts heads table : List ℕ) (leaf serial : ℕ) : Type 0 where
+  pub shape : Shape
+  pub process : ℕ
+  pub stands : StandsAs shape process starts heads table leaf serial
+
+-- operation i of process k is of kind κ: its block in its leaf adds one
+abbrev pub OfKind : Shape → List ℕ → Kind → ℕ → ℕ → Type 0
+OfKind s t κ k i = total κ (blockAt s t (leafOf s k) (i - 1)) < total κ (blockAt s t (leafOf s k) i)
+
+-- r is where operation i of process k stands: a present root block, and the operation's number among those of kind κ there, if it is of that kind
+pub record StandsAt (s : Shape) (t : List ℕ) (κ : Kind) (k i : ℕ) (r : Standing) : Type 0 where
+  pub first : 1 ≤ r .block
+  pub last : r .block ≤ lastRoot s t
+  pub block : r .block ≡ rootBlockOf s t (record { process = k; serial = i })
+  pub rank : OfKind s t κ k i → r .rank ≡ rankIn (record { process = k; serial = i }) (inRoot s t κ (r .block))
+  pub some : OfKind s t κ k i → 1 ≤ r .rank
+  pub most : r .rank ≤ total κ (blockAt s t root (r .block)) - total κ (blockAt s t root (r .block - 1))

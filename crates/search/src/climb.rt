@@ -1,0 +1,85 @@
+// From an operation's leaf up to its root block.
+use crate::Standing;
+use crate::places::first_place;
+use steps::heads::head_of;
+use steps::heads::wide;
+use steps::nodes::block_at;
+use tree::Kind;
+use tree::blocks::total;
+ghost use mathlib.Core.Path.{_≡_};
+ghost use Prim.Native.Nat.{ℕ};
+ghost use Rattle.tree.specs.Shape.{Shape};
+ghost use Rattle.tree.proofs.Ancestors.{ancestor};
+ghost use Rattle.search.specs.Stands.{StandsAs, Stands, StandsAt};
+ghost use Rattle.search.specs.Climbing.{HoldsAs, Holds, Ascends, FirstAbove, Beside, besideOf};
+
+// The block of v's parent that holds v's block `place`: the first whose end towards v reaches it. The superblock word of v's block is a guess only: the parent's head may
+// have been raised after it was read.
+fn holder(heads: &[u32], table: &[u32], starts: &[usize; 17], v: u32, place: u32) -> u32
+    requires { ⌜ Ascends (now starts) (now heads) (now table) v place ⌝ }
+    ensures { λ r. ⌜ FirstAbove (now (starts .entry)) (now (heads .entry)) (now (table .entry)) v place r ⌝ }
+{
+    let last = head_of(heads, v / 2) - 1;
+    let guess = block_at(table, starts, v, place).superblock;
+    first_place(table, starts, v / 2, 3 + wide(v % 2), last, place, guess)
+}
+
+// How many operations of v's sibling, from its first block on, come before v's in block b of the parent. In a block the left child's come first, so they are those up to the
+// sibling's end in the block before b if v is on the left, and in b if v is on the right.
+fn beside(table: &[u32], starts: &[usize; 17], v: u32, b: u32, kind: Kind) -> u32
+    requires { ⌜ Beside (now starts) (now table) v b ⌝ }
+    ensures { λ r. ⌜ r ≡ besideOf (now (starts .entry)) (now (table .entry)) kind v b ⌝ }
+{
+    if v % 2 == 0 {
+        let end = block_at(table, starts, v / 2, b - 1).right;
+        return total(kind, block_at(table, starts, v + 1, end));
+    }
+    let end = block_at(table, starts, v / 2, b).left;
+    total(kind, block_at(table, starts, v - 1, end))
+}
+
+// From v's block `place` up to the root, which is node 1. The number counts v's operations of the kind from its first block on. Counted so, the parent's number is v's and
+// what comes before from the sibling, and only the root's blocks before the operation's own are taken off.
+fn climb(
+    heads: &[u32],
+    table: &[u32],
+    starts: &[usize; 17],
+    v: u32,
+    place: u32,
+    number: u32,
+    kind: Kind,
+) -> Standing
+    requires { ⌜ Holds (now starts) (now heads) (now table) kind v place number ⌝ }
+    ensures { λ r. ⌜ ((s : Shape) (k i j : ℕ) → v ≡ ancestor s k j →
+        HoldsAs s k i j (now (starts .entry)) (now (heads .entry)) (now (table .entry)) kind place number →
+        StandsAt s (now (table .entry)) kind k i r) ⌝ }
+{
+    if v == 1 {
+        let before = total(kind, block_at(table, starts, 1, place - 1));
+        return Standing {
+            block: place,
+            rank: number - before,
+        };
+    }
+    let b = holder(heads, table, starts, v, place);
+    let n = number + beside(table, starts, v, b, kind);
+    climb(heads, table, starts, v / 2, b, n, kind)
+}
+
+// Where operation `serial` of the process with that leaf stands. Its number in the leaf is its block's total.
+pub fn standing(
+    heads: &[u32],
+    table: &[u32],
+    starts: &[usize; 17],
+    leaf: u32,
+    serial: u32,
+    kind: Kind,
+) -> Standing
+    requires { ⌜ Stands (now starts) (now heads) (now table) leaf serial ⌝ }
+    ensures { λ r. ⌜ ((s : Shape) (k : ℕ) →
+        StandsAs s k (now (starts .entry)) (now (heads .entry)) (now (table .entry)) leaf serial →
+        StandsAt s (now (table .entry)) kind k serial r) ⌝ }
+{
+    let number = total(kind, block_at(table, starts, leaf, serial));
+    climb(heads, table, starts, leaf, serial, number, kind)
+}
