@@ -1,0 +1,156 @@
+//! A first-in first-out queue shared by several processes, played step by step as a list of step
+//! records says. The code is the proved Rattle library; these functions lend it slices.
+//!
+//! Every function takes p, the number of processes (2, 4 or 8), and l, the most operations of one
+//! process (1 to 500). What is turned down is told by a [`Refusal`].
+//!
+//! A put of 7 by process 0, then a take by process 1, 15 steps each:
+//!
+//! ```
+//! let mut records = vec![0, 1, 0, 0, 7, 0, 0, 0];
+//! records.extend([0; 8].repeat(15));
+//! records.extend([1, 2, 0, 0, 0, 0, 0, 0]);
+//! records.extend([1, 0, 0, 0, 0, 0, 0, 0].repeat(15));
+//! let played = otq::play(2, 24, &records);
+//! assert_eq!(played.run.refusal, None);
+//! let put = [0, 1, 15, 0, 0, 0, 0, 0, 1, 0, 0, 0, 1, 0, 0, 0];
+//! let take = [1, 2, 15, 0, 7, 0, 0, 0, 1, 0, 0, 0, 2, 0, 0, 0];
+//! assert_eq!(played.answers, [put, take].concat());
+//! ```
+
+mod archive;
+mod refusal;
+mod sizes;
+
+pub use refusal::Refusal;
+pub use sizes::{most_answer_bytes, most_order_bytes, table_words};
+
+/// What a run leaves besides its buffers.
+#[derive(Clone, Copy, PartialEq, Eq, Debug)]
+pub struct Run {
+    /// Why the call or a record was turned down; `None` if every record was taken.
+    pub refusal: Option<Refusal>,
+    /// Records taken.
+    pub taken: u64,
+    /// Answers written, 16 bytes each.
+    pub answers: u64,
+}
+
+/// What the check of a log says.
+#[derive(Clone, Copy, PartialEq, Eq, Debug)]
+pub enum Verdict {
+    /// The log is the one that the records give.
+    Same,
+    /// Index, from 0, of the first answer record that is unequal or lacking in one log.
+    Differs(u64),
+    /// The call or a record was turned down, and no comparison was made.
+    Refused(Refusal),
+}
+
+/// A run with the buffers that it filled.
+#[derive(Clone, PartialEq, Eq, Debug)]
+pub struct Played {
+    pub run: Run,
+    /// The answer records that were written, and nothing else.
+    pub answers: Vec<u8>,
+    /// The work table; empty if p or l is turned down.
+    pub table: Vec<u32>,
+}
+
+/// Plays the records, clears and fills the work table, and writes the answers.
+///
+/// A call turned down with 1 to 4 changes nothing. Otherwise the run ends before the first record
+/// that is turned down. Table words past [`table_words`] and bytes past the answers keep their
+/// content.
+///
+/// ```
+/// let step_of_an_idle_process = [0; 8];
+/// let mut table = vec![9; otq::table_words(2, 1).unwrap() + 1];
+/// let run = otq::run(2, 1, &step_of_an_idle_process, &mut table, &mut []);
+/// assert_eq!(run.refusal, Some(otq::Refusal::StepIdle));
+/// assert_eq!((run.taken, run.answers), (0, 0));
+/// assert_eq!(table.last(), Some(&9));
+/// assert!(table[..table.len() - 1].iter().all(|&word| word == 0));
+/// ```
+pub fn run(p: u32, l: u32, records: &[u8], table: &mut [u32], answers: &mut [u8]) -> Run {
+    let ran = archive::run(p, l, records, table, answers);
+    Run {
+        refusal: Refusal::from_number(ran.refusal),
+        taken: ran.taken,
+        answers: ran.answers,
+    }
+}
+
+/// Plays the records, writes the order records of the root order, and gives their length in bytes.
+///
+/// A refusal writes no output. The work table is left as [`run`] with room for every answer leaves
+/// it, and output bytes past the list keep their content.
+///
+/// ```
+/// let mut records = vec![0, 1, 0, 0, 7, 0, 0, 0];
+/// records.extend([0; 8].repeat(15));
+/// let mut table = vec![0; otq::table_words(2, 1).unwrap()];
+/// let mut output = [0; 9];
+/// let length = otq::list_order(2, 1, &records, &mut table, &mut output);
+/// assert_eq!(length, Ok(8));
+/// assert_eq!(output, [0, 1, 1, 0, 1, 0, 0, 0, 0]);
+/// let refused = otq::list_order(2, 1, &records, &mut table, &mut output[..7]);
+/// assert_eq!(refused, Err(otq::Refusal::OutputShort));
+/// ```
+pub fn list_order(
+    p: u32,
+    l: u32,
+    records: &[u8],
+    table: &mut [u32],
+    output: &mut [u8],
+) -> Result<u64, Refusal> {
+    let listed = archive::list_order(p, l, records, table, output);
+    match Refusal::from_number(listed.refusal) {
+        None => Ok(listed.length),
+        Some(refusal) => Err(refusal),
+    }
+}
+
+/// Plays the records and compares the log with the answers that they give.
+///
+/// ```
+/// use otq::Verdict;
+/// let mut records = vec![0, 1, 0, 0, 7, 0, 0, 0];
+/// records.extend([0; 8].repeat(15));
+/// let mut log = otq::play(2, 1, &records).answers;
+/// let mut table = vec![0; otq::table_words(2, 1).unwrap()];
+/// assert_eq!(otq::check_log(2, 1, &records, &log, &mut table), Verdict::Same);
+/// log[1] = 2;
+/// assert_eq!(otq::check_log(2, 1, &records, &log, &mut table), Verdict::Differs(0));
+/// log.pop();
+/// let torn = otq::check_log(2, 1, &records, &log, &mut table);
+/// assert_eq!(torn, Verdict::Refused(otq::Refusal::LogTorn));
+/// ```
+pub fn check_log(p: u32, l: u32, records: &[u8], log: &[u8], table: &mut [u32]) -> Verdict {
+    let checked = archive::check_log(p, l, records, log, table);
+    match Refusal::from_number(checked.refusal) {
+        Some(refusal) => Verdict::Refused(refusal),
+        None if checked.verdict == archive::SAME => Verdict::Same,
+        None => Verdict::Differs(checked.index),
+    }
+}
+
+/// [`run`] in buffers of its own, with room for every answer.
+///
+/// ```
+/// let played = otq::play(2, 24, &[0, 1, 0, 0, 7, 0, 0, 0]);
+/// assert_eq!(played.run.taken, 1);
+/// assert!(played.answers.is_empty());
+/// assert_eq!(otq::play(3, 24, &[]).run.refusal, Some(otq::Refusal::ProcessCount));
+/// ```
+pub fn play(p: u32, l: u32, records: &[u8]) -> Played {
+    let mut table = vec![0; table_words(p, l).unwrap_or(0)];
+    let mut answers = vec![0; most_answer_bytes(p, l).unwrap_or(0)];
+    let run = run(p, l, records, &mut table, &mut answers);
+    answers.truncate(sizes::ANSWER_BYTES * run.answers as usize);
+    Played {
+        run,
+        answers,
+        table,
+    }
+}

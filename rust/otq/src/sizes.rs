@@ -1,0 +1,47 @@
+//! How long a caller's buffers have to be.
+
+pub(crate) const ANSWER_BYTES: usize = 16;
+const ORDER_BYTES: usize = 8;
+const BLOCK_WORDS: usize = 6;
+
+/// Words that the work table must have; `None` if p or l is turned down.
+///
+/// ```
+/// assert_eq!(otq::table_words(4, 24), Some(1770));
+/// assert_eq!(otq::table_words(3, 24), None);
+/// assert_eq!(otq::table_words(4, 501), None);
+/// ```
+pub fn table_words(p: u32, l: u32) -> Option<usize> {
+    let operations = operations(p, l)?;
+    let levels = p.ilog2() as usize + 1;
+    let nodes = 2 * p as usize - 1;
+    Some(BLOCK_WORDS * (levels * operations + nodes))
+}
+
+/// Bytes of the answers of all operations, the most that [`run`](crate::run) writes; `None` if p
+/// or l is turned down.
+///
+/// ```
+/// assert_eq!(otq::most_answer_bytes(4, 24), Some(1536));
+/// assert_eq!(otq::most_answer_bytes(4, 0), None);
+/// ```
+pub fn most_answer_bytes(p: u32, l: u32) -> Option<usize> {
+    Some(ANSWER_BYTES * operations(p, l)?)
+}
+
+/// Bytes of the order records of all operations, the most that
+/// [`list_order`](crate::list_order) writes; `None` if p or l is turned down.
+///
+/// ```
+/// assert_eq!(otq::most_order_bytes(4, 24), Some(768));
+/// assert_eq!(otq::most_order_bytes(0, 24), None);
+/// ```
+pub fn most_order_bytes(p: u32, l: u32) -> Option<usize> {
+    Some(ORDER_BYTES * operations(p, l)?)
+}
+
+/// The most operations of all processes together.
+fn operations(p: u32, l: u32) -> Option<usize> {
+    let proper = matches!(p, 2 | 4 | 8) && (1..=500).contains(&l);
+    proper.then_some((p * l) as usize)
+}
