@@ -1,5 +1,4 @@
-//! Links the archive of the proved library, `target/staticlib/libqueue.a` of the repository, or the
-//! one that OTQ_ARCHIVE names.
+//! Links the archive of the proved library, `target/staticlib/libqueue.a` of the repository.
 //!
 //! `rt staticlib queue` writes it. It is not run from here: it proves the library, which takes
 //! minutes that cargo would show nothing of, and builds at the same time would write to one folder.
@@ -13,15 +12,7 @@ use std::time::SystemTime;
 fn main() {
     let here = PathBuf::from(env::var_os("CARGO_MANIFEST_DIR").expect("cargo sets it"));
     let repository = here.join("../..");
-    println!("cargo:rerun-if-env-changed=OTQ_ARCHIVE");
-    let archive = match env::var_os("OTQ_ARCHIVE") {
-        Some(named) => PathBuf::from(named),
-        None => {
-            let own = repository.join("target/staticlib/libqueue.a");
-            warn_if_older(&own, &repository.join("crates"));
-            own
-        }
-    };
+    let archive = repository.join("target/staticlib/libqueue.a");
     println!("cargo:rerun-if-changed={}", archive.display());
     if !archive.is_file() {
         panic!(
@@ -29,6 +20,7 @@ fn main() {
             archive.display()
         );
     }
+    warn_if_older(&archive, &repository.join("crates"));
     let folder = archive.parent().expect("a file stands in a folder");
     println!("cargo:rustc-link-search=native={}", folder.display());
     println!("cargo:rustc-link-lib=static=queue");

@@ -1,7 +1,9 @@
 //! The functions of the archive, and slices lent to them. All of this crate's `unsafe` is here.
 
-/// What `check_log` returns as `verdict` for equal logs.
+/// What `check_log` returns as its verdict.
 pub const SAME: u32 = 0;
+pub const DIFFERS: u32 = 1;
+pub const REFUSED: u32 = 2;
 
 #[repr(C)]
 pub struct Ran {

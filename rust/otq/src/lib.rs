@@ -107,7 +107,10 @@ pub fn list_order(
     let listed = archive::list_order(p, l, records, table, output);
     match Refusal::from_number(listed.refusal) {
         None => Ok(listed.length),
-        Some(refusal) => Err(refusal),
+        Some(refusal) => {
+            debug_assert_eq!(listed.length, 0);
+            Err(refusal)
+        }
     }
 }
 
@@ -128,10 +131,12 @@ pub fn list_order(
 /// ```
 pub fn check_log(p: u32, l: u32, records: &[u8], log: &[u8], table: &mut [u32]) -> Verdict {
     let checked = archive::check_log(p, l, records, log, table);
-    match Refusal::from_number(checked.refusal) {
-        Some(refusal) => Verdict::Refused(refusal),
-        None if checked.verdict == archive::SAME => Verdict::Same,
-        None => Verdict::Differs(checked.index),
+    let refusal = Refusal::from_number(checked.refusal);
+    match (checked.verdict, refusal, checked.index) {
+        (archive::SAME, None, 0) => Verdict::Same,
+        (archive::DIFFERS, None, index) => Verdict::Differs(index),
+        (archive::REFUSED, Some(refusal), 0) => Verdict::Refused(refusal),
+        other => unreachable!("the library returned {other:?}"),
     }
 }
 

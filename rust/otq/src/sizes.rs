@@ -9,7 +9,7 @@ const BLOCK_WORDS: usize = 6;
 /// ```
 /// assert_eq!(otq::table_words(4, 24), Some(1770));
 /// assert_eq!(otq::table_words(3, 24), None);
-/// assert_eq!(otq::table_words(4, 501), None);
+/// assert_eq!(otq::table_words(4, u32::MAX), None);
 /// ```
 pub fn table_words(p: u32, l: u32) -> Option<usize> {
     let operations = operations(p, l)?;
@@ -43,5 +43,5 @@ pub fn most_order_bytes(p: u32, l: u32) -> Option<usize> {
 /// The most operations of all processes together.
 fn operations(p: u32, l: u32) -> Option<usize> {
     let proper = matches!(p, 2 | 4 | 8) && (1..=500).contains(&l);
-    proper.then_some((p * l) as usize)
+    proper.then(|| (p * l) as usize)
 }

@@ -2,6 +2,7 @@
 
 pub mod check;
 pub mod demand3;
+pub mod known_runs;
 pub mod list;
 pub mod lists;
 pub mod machine;

@@ -1,0 +1,124 @@
+//! The three calls, each made of the library and of the reference on equal buffers.
+//!
+//! A call returns what both gave; it panics where they differ.
+
+use crate::buffers::{bytes, words, Buffer};
+use otq::{Refusal, Verdict};
+use reference::check::{self, CheckResult};
+use reference::list::{self, ListResult};
+use reference::run::{self, RunResult};
+
+/// The input of a call.
+#[derive(Clone, Copy)]
+pub struct Input<'a> {
+    pub p: u32,
+    pub l: u32,
+    pub records: &'a [u8],
+}
+
+/// What a call left: its result, the work table, and the answer or output bytes.
+#[derive(PartialEq, Eq)]
+struct Left<R> {
+    result: R,
+    table: Buffer<u32>,
+    bytes: Buffer<u8>,
+}
+
+/// What a call leaves of buffers of these lengths.
+fn left_of<R>(
+    table: usize,
+    output: usize,
+    call: impl FnOnce(&mut [u32], &mut [u8]) -> R,
+) -> Left<R> {
+    let (mut table, mut bytes) = (words(table), bytes(output));
+    let result = call(table.lent(), bytes.lent());
+    Left {
+        result,
+        table,
+        bytes,
+    }
+}
+
+impl Input<'_> {
+    /// Run, on a table and answer bytes of these lengths; its answers too.
+    pub fn run(self, table: usize, answers: usize) -> (RunResult, Vec<u8>) {
+        let Input { p, l, records } = self;
+        let told = || self.told("run", table, answers);
+        let found = left_of(table, answers, |table, answers| {
+            let run = otq::run(p, l, records, table, answers);
+            RunResult {
+                refusal: number(run.refusal),
+                taken: run.taken,
+                answers: run.answers,
+            }
+        });
+        let expected = left_of(table, answers, |table, answers| {
+            run::run(p, l, records, table, answers)
+        });
+        let mut left = same(found, expected, told);
+        let written = 16 * left.result.answers as usize;
+        (left.result, left.bytes.lent()[..written].to_vec())
+    }
+
+    /// List the order, on a table and an output of these lengths.
+    pub fn list_order(self, table: usize, output: usize) -> ListResult {
+        let Input { p, l, records } = self;
+        let told = || self.told("list_order", table, output);
+        let found = left_of(table, output, |table, output| {
+            match otq::list_order(p, l, records, table, output) {
+                Ok(length) => ListResult { refusal: 0, length },
+                Err(refusal) => ListResult {
+                    refusal: refusal.number(),
+                    length: 0,
+                },
+            }
+        });
+        let expected = left_of(table, output, |table, output| {
+            list::list_order(p, l, records, table, output)
+        });
+        same(found, expected, told).result
+    }
+
+    /// Check a log, on a table of this length.
+    pub fn check_log(self, table: usize, log: &[u8]) -> CheckResult {
+        let Input { p, l, records } = self;
+        let told = || self.told("check_log", table, log.len());
+        let found = left_of(table, 0, |table, _| {
+            let (refusal, verdict, index) = match otq::check_log(p, l, records, log, table) {
+                Verdict::Same => (0, 0, 0),
+                Verdict::Differs(index) => (0, 1, index),
+                Verdict::Refused(refusal) => (refusal.number(), 2, 0),
+            };
+            CheckResult {
+                refusal,
+                verdict,
+                index,
+            }
+        });
+        let expected = left_of(table, 0, |table, _| {
+            check::check_log(p, l, records, log, table)
+        });
+        same(found, expected, told).result
+    }
+
+    fn told(self, call: &str, words: usize, bytes: usize) -> String {
+        let Input { p, l, records } = self;
+        let length = records.len();
+        format!("{call}: p {p}, l {l}, {length} record bytes, {words} words, {bytes} bytes")
+    }
+}
+
+fn number(refusal: Option<Refusal>) -> u32 {
+    refusal.map_or(0, Refusal::number)
+}
+
+fn same<R: PartialEq + std::fmt::Debug>(
+    found: Left<R>,
+    expected: Left<R>,
+    told: impl Fn() -> String,
+) -> Left<R> {
+    assert_eq!(found.result, expected.result, "{}", told());
+    assert!(found.table == expected.table, "{}: other words", told());
+    assert!(found.bytes == expected.bytes, "{}: other bytes", told());
+    expected
+}

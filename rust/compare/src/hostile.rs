@@ -1,0 +1,80 @@
+//! Lists and logs with something wrong.
+
+use reference::random::Random;
+
+/// What is done to a list of records.
+#[derive(Clone, Copy, PartialEq, Eq, Debug)]
+enum Harm {
+    /// Cut at any byte.
+    Cut,
+    /// One bit changed.
+    Bit,
+    /// A step or a begin put in, mostly out of turn.
+    Insert,
+    /// One record taken out.
+    Remove,
+    /// Random bytes in the place of one record.
+    Noise,
+}
+
+const HARMS: [Harm; 8] = [
+    Harm::Cut,
+    Harm::Bit,
+    Harm::Insert,
+    Harm::Insert,
+    Harm::Insert,
+    Harm::Remove,
+    Harm::Remove,
+    Harm::Noise,
+];
+
+/// Leaves half of the lists as they are. Half of the others are harmed near their end, so that most
+/// of their records are played.
+pub fn harm_list(random: &mut Random, p: u32, list: &mut Vec<u8>) {
+    let records = list.len() / 8;
+    if records == 0 || random.chance(1, 2) {
+        return;
+    }
+    let place = match random.chance(1, 2) {
+        true => records - 1 - below(random, records.min(20)),
+        false => below(random, records),
+    };
+    let (at, end) = (8 * place, 8 * place + 8);
+    match random.pick(&HARMS) {
+        Harm::Cut => list.truncate(at + below(random, 8)),
+        Harm::Bit => flip(random, &mut list[at..end]),
+        Harm::Insert => {
+            let (process, kind) = (random.below(p) as u8, random.below(3) as u8);
+            list.splice(at..at, [process, kind, 0, 0, 0, 0, 0, 0]);
+        }
+        Harm::Remove => drop(list.drain(at..end)),
+        Harm::Noise => list[at..end].copy_from_slice(&random.next().to_le_bytes()),
+    }
+}
+
+/// Leaves a quarter of the logs as they are; the others get a byte changed, or are shorter, longer
+/// or torn.
+pub fn harm_log(random: &mut Random, log: &mut Vec<u8>) {
+    let answers = log.len() / 16;
+    match random.below(8) {
+        0 | 1 => {}
+        2 | 3 => flip(random, log),
+        4 => log.truncate(16 * below(random, answers)),
+        5 => log.truncate(below(random, log.len())),
+        6 => log.extend([0; 16]),
+        _ => log.extend(random.next().to_le_bytes()),
+    }
+}
+
+/// Changes one bit, if there is one.
+fn flip(random: &mut Random, bytes: &mut [u8]) {
+    let at = below(random, bytes.len());
+    if let Some(byte) = bytes.get_mut(at) {
+        *byte ^= 1 << random.below(8);
+    }
+}
+
+/// A number below the limit, 0 if that is 0.
+pub fn below(random: &mut Random, limit: usize) -> usize {
+    random.below(limit.max(1) as u32) as usize
+}

@@ -1,0 +1,7 @@
+//! Compares the compiled library with the reference: results, every table word and every byte, those
+//! that must keep their content included.
+
+pub mod buffers;
+pub mod calls;
+pub mod hostile;
+pub mod random_calls;

@@ -1,0 +1,150 @@
+//! Random calls, for as many records as one wants.
+
+use crate::calls::Input;
+use crate::hostile::{below, harm_list, harm_log};
+use otq::{most_answer_bytes, most_order_bytes, table_words};
+use reference::process::STEP_NAMES;
+use reference::random::Random;
+use reference::schedules::{schedule, Ending, Pace, Plan};
+
+/// How much was compared, and how often each refusal and verdict came up.
+#[derive(Clone, Default, Debug)]
+pub struct Tally {
+    pub lists: u64,
+    /// Records taken by the runs with room for every answer.
+    pub records: u64,
+    /// By number, of all calls together; entry 0 counts the calls that refused nothing.
+    pub refusals: [u64; 12],
+    /// Same, differs, refused.
+    pub verdicts: [u64; 3],
+}
+
+/// Compares calls on random lists until so many records were played. After each list `told` is
+/// handed the tally.
+pub fn compare(records: u64, seed: u64, mut told: impl FnMut(&Tally)) -> Tally {
+    let mut random = Random::new(seed);
+    let mut tally = Tally::default();
+    while tally.records < records {
+        tally.compare_list(&mut random);
+        told(&tally);
+    }
+    tally
+}
+
+impl Tally {
+    /// The calls on one random list.
+    fn compare_list(&mut self, random: &mut Random) {
+        let plan = random_plan(random);
+        let mut records = schedule(&plan);
+        harm_list(random, plan.p, &mut records);
+        let input = Input {
+            p: or_other(random, plan.p),
+            l: or_other(random, plan.l),
+            records: &records,
+        };
+        self.lists += 1;
+        self.compare_runs(random, input);
+        self.compare_lists(random, input);
+    }
+
+    /// Run with all the room that it can use, then on other lengths; and checks of its log.
+    fn compare_runs(&mut self, random: &mut Random, input: Input) {
+        let most = most_answer_bytes(input.p, input.l).unwrap_or(0);
+        let (ran, log) = input.run(needed(input), most);
+        self.records += ran.taken;
+        self.count(ran.refusal);
+        let (ran, _) = input.run(table(random, input), near(random, log.len()));
+        self.count(ran.refusal);
+        let mut given = log;
+        harm_log(random, &mut given);
+        let checked = input.check_log(table(random, input), &given);
+        self.count(checked.refusal);
+        self.verdicts[checked.verdict as usize] += 1;
+    }
+
+    /// List the order with all the room that it can use, then on other lengths.
+    fn compare_lists(&mut self, random: &mut Random, input: Input) {
+        let most = most_order_bytes(input.p, input.l).unwrap_or(0);
+        let listed = input.list_order(table(random, input), most);
+        self.count(listed.refusal);
+        let output = near(random, listed.length as usize);
+        self.count(input.list_order(needed(input), output).refusal);
+    }
+
+    fn count(&mut self, refusal: u32) {
+        self.refusals[refusal as usize] += 1;
+    }
+}
+
+fn random_plan(random: &mut Random) -> Plan {
+    let p = random.pick(&[2, 4, 8]);
+    let l = match random.below(8) {
+        0..=3 => 1 + random.below(4),
+        4 | 5 => 1 + random.below(30),
+        6 => 1 + random.below(150),
+        _ => random.pick(&[499, 500]),
+    };
+    // A whole list at the largest p and L has some 200,000 records, so most are cut.
+    let cut = Ending::Cut(1 + random.below(20_000) as usize);
+    let ending = match random.below(4) {
+        0 if p * l <= 400 => Ending::AllFinish,
+        1 if p * l <= 400 => Ending::Abandoned,
+        _ => cut,
+    };
+    Plan {
+        each: 1 + random.below(l).max(random.below(l)),
+        puts_of_8: random.below(9),
+        pace: random_pace(random),
+        ending,
+        ..Plan::new(p, l, Pace::Uniform, random.next())
+    }
+}
+
+fn random_pace(random: &mut Random) -> Pace {
+    let stalls = Pace::Stalls {
+        step: random.pick(&STEP_NAMES),
+        after: random.chance(1, 2),
+    };
+    let bursts = Pace::Bursts(1 + random.below(60));
+    random.pick(&[
+        Pace::Uniform,
+        Pace::Lockstep,
+        Pace::OneAtATime,
+        bursts,
+        stalls,
+        stalls,
+    ])
+}
+
+/// In one case of 64 another number than the one that the list is made for.
+fn or_other(random: &mut Random, number: u32) -> u32 {
+    if !random.chance(1, 64) {
+        return number;
+    }
+    random.pick(&[0, 1, 2, 3, 4, 8, 9, 500, 501, u32::MAX])
+}
+
+/// Words needed, or some number where p or l is turned down.
+fn needed(input: Input) -> usize {
+    table_words(input.p, input.l).unwrap_or(100)
+}
+
+/// The length of a table: what is needed, more, or in few cases less.
+fn table(random: &mut Random, input: Input) -> usize {
+    let needed = needed(input);
+    match random.below(32) {
+        0 => needed - 1,
+        1 => below(random, needed),
+        2..=15 => needed,
+        _ => needed + below(random, 40),
+    }
+}
+
+/// A length near the one that is needed, or any below it.
+fn near(random: &mut Random, length: usize) -> usize {
+    match random.below(4) {
+        0 => below(random, length),
+        1 => length,
+        _ => (length + below(random, 34)).saturating_sub(17),
+    }
+}

@@ -1,0 +1,115 @@
+//! The printing program against the reference's print.
+
+use crate::support::mixed_list;
+use compare::hostile::harm_list;
+use reference::lists::List;
+use reference::print::{print_run, L, P, RECORD_BYTES};
+use reference::random::Random;
+use reference::schedules::{schedule, Pace, Plan};
+use std::io::Write;
+use std::path::Path;
+use std::process::{Command, Stdio};
+
+/// What the program prints for this input.
+fn program(input: &[u8]) -> String {
+    let path = Path::new(env!("CARGO_MANIFEST_DIR")).join("../../target/bin/print_run");
+    assert!(
+        path.is_file(),
+        "there is no {}: run `rt check print_run` in the repository first",
+        path.display()
+    );
+    let mut child = Command::new(path)
+        .stdin(Stdio::piped())
+        .stdout(Stdio::piped())
+        .spawn()
+        .expect("the program starts");
+    let mut stdin = child.stdin.take().expect("standard input is a pipe");
+    // The program may end before it has read a long input.
+    let _ = stdin.write_all(input);
+    drop(stdin);
+    let output = child.wait_with_output().expect("the program ends");
+    assert!(output.status.success());
+    String::from_utf8(output.stdout).expect("the print is text")
+}
+
+fn assert_print(input: &[u8]) {
+    assert_eq!(program(input), print_run(input));
+}
+
+/// The program prints what the reference does, and it ends so.
+fn assert_ends(input: &[u8], end: &str) {
+    let print = program(input);
+    assert_eq!(print, print_run(input));
+    assert!(print.ends_with(end), "{print}");
+}
+
+fn worked() -> List {
+    List::new().put(0, 7).steps(0, 27).take(1).steps(1, 27)
+}
+
+#[test]
+fn worked_run() {
+    let print = "put 0 1 27 1\ntake 1 1 27 2 7\nend 0 56\n";
+    assert_eq!(program(&worked().bytes()), print);
+}
+
+/// Of 1 to 9, the program's p, L, table and answer bytes leave 4 to 8.
+#[test]
+fn every_refusal_number() {
+    assert_ends(&[], "end 0 0\n");
+    assert_ends(&[0; 7], "end 4 0\n");
+    assert_ends(&worked().bytes()[..447], "end 4 0\n");
+    assert_ends(&worked().put(4, 0).bytes(), "end 5 56\n");
+    assert_ends(&worked().put(2, 1).put(2, 1).bytes(), "end 6 57\n");
+    assert_ends(&worked().steps(3, 1).bytes(), "end 7 56\n");
+    let all = mixed_list(P, L, 6);
+    let end = format!("end 0 {}\n", all.len() / 8);
+    assert_ends(&all, &end);
+    let one_more = [all, List::new().take(3).bytes()].concat();
+    let end = format!("end 8 {}\n", one_more.len() / 8 - 1);
+    assert_ends(&one_more, &end);
+}
+
+#[test]
+fn long_input() {
+    let mut list = worked().bytes();
+    list.resize(RECORD_BYTES, 0);
+    assert_ends(&list, "end 7 56\n");
+    list.push(0);
+    assert_eq!(program(&list), "long\n");
+    list.resize(4 * RECORD_BYTES, 0);
+    assert_eq!(program(&list), "long\n");
+    list.truncate(RECORD_BYTES - 1);
+    assert_ends(&list, "end 4 0\n");
+}
+
+#[test]
+fn values_of_every_length() {
+    let mut list = List::new();
+    for digits in 0..10 {
+        let value = 10_u32.pow(digits);
+        for value in [value - 1, value] {
+            list = list.put(1, value).steps(1, 27).take(2).steps(2, 27);
+        }
+    }
+    assert_print(
+        &list
+            .put(0, u32::MAX)
+            .steps(0, 27)
+            .take(3)
+            .steps(3, 27)
+            .bytes(),
+    );
+}
+
+#[test]
+fn random_and_hostile_lists() {
+    let mut random = Random::new(7);
+    for _ in 0..300 {
+        let pace = random.pick(&[Pace::Uniform, Pace::Lockstep, Pace::Bursts(20)]);
+        let plan = Plan::new(P, L, pace, random.next()).puts_of_8(random.below(9));
+        let mut list = schedule(&plan);
+        harm_list(&mut random, P, &mut list);
+        assert_print(&list);
+    }
+}

@@ -1,0 +1,23 @@
+//! Random and hostile lists.
+
+use compare::random_calls::compare;
+
+/// The records of one seed.
+const RECORDS: u64 = 1_000_000;
+
+fn compare_seed(seed: u64) {
+    let tally = compare(RECORDS, seed, |_| {});
+    // Each number and each verdict has come up, so that no comparison is left out by chance.
+    assert!(tally.refusals.iter().all(|&calls| calls > 0), "{tally:?}");
+    assert!(tally.verdicts.iter().all(|&calls| calls > 0), "{tally:?}");
+}
+
+#[test]
+fn a_million_records() {
+    compare_seed(11);
+}
+
+#[test]
+fn another_million_records() {
+    compare_seed(12);
+}

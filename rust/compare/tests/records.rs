@@ -1,0 +1,67 @@
+//! Every record that can be wrong, at every place of a list.
+
+use crate::support::{compare_amply, mixed_list};
+
+/// Ill-formed records of each sort, and a step, a begin of a put and a begin of a take by each process:
+/// at most places these are of an idle process, of a busy one, or past L.
+fn candidates(p: u8) -> Vec<[u8; 8]> {
+    let mut candidates = vec![
+        [p, 0, 0, 0, 0, 0, 0, 0],
+        [255, 1, 0, 0, 7, 0, 0, 0],
+        [0, 3, 0, 0, 0, 0, 0, 0],
+        [1, 255, 0, 0, 0, 0, 0, 0],
+        [0, 1, 1, 0, 0, 0, 0, 0],
+        [0, 1, 0, 128, 0, 0, 0, 0],
+    ];
+    for byte in 4..8 {
+        for kind in [0, 2] {
+            let mut record = [1, kind, 0, 0, 0, 0, 0, 0];
+            record[byte] = 1;
+            candidates.push(record);
+        }
+    }
+    for process in 0..p {
+        candidates.extend([0, 1, 2].map(|kind| [process, kind, 0, 0, 0, 0, 0, 0]));
+    }
+    candidates
+}
+
+fn compare_each(p: u32, l: u32) {
+    let list = mixed_list(p, l, 3);
+    for place in (0..=list.len()).step_by(8) {
+        for record in candidates(p as u8) {
+            let (before, after) = list.split_at(place);
+            compare_amply(p, l, &[before, &record, after].concat());
+        }
+    }
+}
+
+#[test]
+fn two_processes() {
+    compare_each(2, 1);
+    compare_each(2, 2);
+}
+
+#[test]
+fn four_processes() {
+    compare_each(4, 1);
+}
+
+#[test]
+fn eight_processes() {
+    compare_each(8, 1);
+}
+
+/// Where all have begun L and are idle, each begin is past L.
+#[test]
+fn begins_past_l_of_every_process() {
+    for (p, l) in [(2, 1), (2, 500), (4, 24), (8, 3)] {
+        let list = mixed_list(p, l, 4);
+        for process in 0..p as u8 {
+            for kind in [1, 2] {
+                let begin = [process, kind, 0, 0, 0, 0, 0, 0];
+                compare_amply(p, l, &[&list[..], &begin].concat());
+            }
+        }
+    }
+}
