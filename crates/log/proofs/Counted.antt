@@ -21,12 +21,6 @@ pub counts : (b : Bool) (r n : ℕ) → (if b then suc r else 0) ≡ suc n → (
 counts true r n e = (refl, omega arith)
 counts false r n e = absurd (omega arith)
 
-leading-most : (xs ys : List (List ℕ)) → leading xs ys ≤ length xs
-unfolding leading
-leading-most [] ys = zero-le
-leading-most (x ∷ xs) [] = zero-le
-leading-most (x ∷ xs) (y ∷ ys) = let ih = leading-most xs ys in both (λ n. n ≤ suc (length xs)) (sameBytes x y) (omega arith) zero-le
-
 -- after a difference more records count no more
 leading-stopped : (xs zs ys : List (List ℕ)) → (leading xs ys ≡ length xs → ⊥) → leading (xs ++ zs) ys ≡ leading xs ys
 unfolding leading
@@ -53,10 +47,6 @@ leading-goes-on (x ∷ xs) zs (y ∷ ys) e =
 pub leading-none : (log : List ℕ) → leadingOf [] log ≡ 0
 unfolding leadingOf leading
 leading-none log = refl
-
-pub leading-within : (xs : List AnswerRecord) (log : List ℕ) → leadingOf xs log ≤ length xs
-unfolding leadingOf
-leading-within xs log = omega (arith, leading-most (map answerBytes xs) (recordsOf log), length-map xs answerBytes)
 
 module _ (xs : List AnswerRecord) (a : AnswerRecord) (log : List ℕ) where
   -- after a difference one more answer counts no more

@@ -7,12 +7,23 @@ use lib.ListN.{length, take, drop, getD, replicate, length-replicate}
 use lib.Seq.{take-at, drop-at}
 use Rattle.tree.specs.Shape.{Shape, processes}
 use Rattle.tree.specs.Layout.{partStart, wordsNeeded}
+use Rattle.steps.specs.Ready.{Laid}
 use Rattle.rules.specs.Refusals.{heightFor, shapeFor}
 use Rattle.rules.specs.Run.{Played}
 use Rattle.rules.proofs.Theorem.{tall-for}
 use Rattle.refusals.proofs.Limits.{allowed-most, allowed-width, shape-is, needed-for, short-for}
 use Rattle.player.specs.declared.Outcome.{Outcome}
 use Rattle.player.specs.Playing.{Callable, Starts, Leaves}
+
+-- the starts that are worked out are those of the tree for p processes of at most l operations
+pub laid-for : (p l h w : ℕ) → h ≡ heightFor p → w ≡ l → (firsts heads : List ℕ)
+    → ((v : ℕ) → v ≤ 2 * processes (record { height = h; most = w }) → getD firsts v 0 ≡ partStart (record { height = h; most = w }) v)
+    → length heads ≡ 2 * processes (shapeFor p l) → Laid (shapeFor p l) firsts heads
+laid-for p l h w eh ew firsts heads parts nodes =
+    record {
+      parts = subst (λ (x : Shape). (v : ℕ) → v ≤ 2 * processes x → getD firsts v 0 ≡ partStart x v) (shape-is p l h w eh ew) parts;
+      nodes = nodes;
+    }
 
 module _ (p l : ℕ) (heads : List ℕ) (words room bytes : ℕ) (k : Callable p l heads words room bytes) (h w needed : ℕ) (eh : h ≡ heightFor p) (ew : w ≡ l)
     (en : needed ≡ wordsNeeded (record { height = h; most = w }))
@@ -35,11 +46,7 @@ module _ (p l : ℕ) (heads : List ℕ) (words room bytes : ℕ) (k : Callable p
           inner = tall-for p l;
           tall = short-for p l;
           few = allowed-most l (k .most) .1;
-          laid =
-              record {
-                parts = subst (λ (x : Shape). (v : ℕ) → v ≤ 2 * processes x → getD firsts v 0 ≡ partStart x v) (shape-is p l h w eh ew) parts;
-                nodes = ap length (k .ones) ∙ length-replicate (2 * p) 1 ∙ ap (λ (x : ℕ). 2 * x) (sym width);
-              };
+          laid = laid-for p l h w eh ew firsts heads parts (ap length (k .ones) ∙ length-replicate (2 * p) 1 ∙ ap (λ (x : ℕ). 2 * x) (sym width));
           words = take-at (replicate needed 0) rest needed (length-replicate needed 0) ∙ ap (λ (n : ℕ). replicate n 0) needed-is;
           ones = k .ones ∙ ap (λ (x : ℕ). replicate (2 * x) 1) (sym width);
           bounded = k .bounded;

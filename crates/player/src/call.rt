@@ -7,13 +7,11 @@ use tree::layout::clear;
 use tree::layout::starts;
 use tree::layout::words_needed;
 ghost use mathlib.Core.Path.{_≡_};
-ghost use mathlib.Core.Logic.{_⊎_};
-ghost use mathlib.Core.Bool.{true};
-ghost use Prim.Native.Nat.{_*_, _≤_};
-ghost use lib.ListN.{length, take, drop, replicate};
+ghost use mathlib.Core.List.{[]};
+ghost use Prim.Native.Nat.{_*_};
+ghost use lib.ListN.{length, take, drop};
 ghost use Rattle.record.specs.StepRecords.{stepRecords};
 ghost use Rattle.tree.specs.Layout.{wordsNeeded};
-ghost use Rattle.steps.specs.Process.{processesAllowed, operationsAllowed};
 ghost use Rattle.rules.specs.Refusals.{shapeFor};
 ghost use Rattle.rules.specs.Run.{play as played};
 ghost use Rattle.player.specs.Playing.{Callable, Leaves};
@@ -50,4 +48,23 @@ pub fn play_call(
         out,
         log,
     )
+}
+
+// The same without answer bytes: there is room for the answer of each record, so none is refused with 9.
+pub fn play_unanswered(
+    p: u32,
+    l: u32,
+    records: &[u8],
+    heads: &mut [u32],
+    table: &mut [u32],
+    log: &[u8],
+) -> Outcome
+    requires { ⌜ Callable p l (now heads) (length (now table)) 0 0 ⌝ }
+    ensures leaves { λ r. ⌜ Leaves (played (shapeFor p l) (2 * length (now (records .entry))) (stepRecords (now (records .entry)))) (now (log .entry)) [] r
+        (take (wordsNeeded (shapeFor p l)) (now (table .exit))) (now (heads .exit)) [] ⌝ }
+    ensures rest { λ _. ⌜ drop (wordsNeeded (shapeFor p l)) (now (table .exit)) ≡ drop (wordsNeeded (shapeFor p l)) (now (table .entry)) ⌝ }
+{
+    let mut none = [0u8; 1];
+    let room = 2 * records.len();
+    play_call(p, l, records, heads, table, room, &mut none[..0], log)
 }

@@ -23,10 +23,11 @@ use Rattle.rules.specs.Refusals.{refusalNumber, accepted, heightFor, shapeFor, 
 use Rattle.rules.specs.Run.{Played, play}
 use Rattle.rules.specs.ListOrder.{ListLeaves, orderList, playAll, listRefusal, listed, listPlayed, listOrder}
 use Rattle.rules.proofs.Theorem.{tall-for}
-use Rattle.refusals.proofs.Limits.{allowed-most, shape-is, short-for}
+use Rattle.refusals.proofs.Limits.{allowed-most, short-for}
 use Rattle.player.specs.declared.Outcome.{Outcome}
 use Rattle.player.specs.Playing.{Leaves}
 use Rattle.player.proofs.PlayLaws.{played-agrees}
+use Rattle.player.proofs.Calls.{laid-for}
 use Rattle.queue.specs.declared.Listed.{Listed}
 use Rattle.queue.specs.Left.{listLeft}
 use Rattle.queue.specs.Listing.{Listing, listFrom}
@@ -45,11 +46,7 @@ listing-settles p l heads table k h w eh ew firsts parts =
       inner = tall-for p l;
       tall = short-for p l;
       few = allowed-most l (k .most) .1;
-      laid =
-          record {
-            parts = subst (λ (x : Shape). (v : ℕ) → v ≤ 2 * processes x → getD firsts v 0 ≡ partStart x v) (shape-is p l h w eh ew) parts;
-            nodes = k .sized .heads;
-          };
+      laid = laid-for p l h w eh ew firsts heads parts (k .sized .heads);
       sized = k .sized;
       sound = k .sound;
     }

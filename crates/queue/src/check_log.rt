@@ -1,6 +1,6 @@
 // Check a log.
 use log::compare::verdict;
-use player::call::play_call;
+use player::call::play_unanswered;
 use refusals::numbers::accepted;
 use refusals::sooner::of_check;
 use rules::Verdict;
@@ -20,18 +20,7 @@ pub fn check_log(p: u32, l: u32, records: &[u8], log: &[u8], table: &mut [u32]) 
     }
     let mut heads = [1u32; 16];
     let nodes = 2 * wide(p);
-    let room = 2 * records.len();
-    let mut none = [0u8; 1];
-    let o = play_call(
-        p,
-        l,
-        records,
-        &mut heads[..nodes],
-        table,
-        room,
-        &mut none[..0],
-        log,
-    );
+    let o = play_unanswered(p, l, records, &mut heads[..nodes], table, log);
     let why = o.refusal;
     if !accepted(why) {
         return Verdict::Refused(why);

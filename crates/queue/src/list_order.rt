@@ -3,7 +3,7 @@ use crate::Listed;
 use order::list::write_order;
 use order::roots::last_root;
 use order::roots::list_length;
-use player::call::play_call;
+use player::call::play_unanswered;
 use refusals::numbers::accepted;
 use refusals::sooner::height_for;
 use refusals::sooner::of_call;
@@ -55,18 +55,7 @@ pub fn list_order(p: u32, l: u32, records: &[u8], table: &mut [u32], output: &mu
     }
     let mut heads = [1u32; 16];
     let nodes = 2 * wide(p);
-    let room = 2 * records.len();
-    let mut none = [0u8; 1];
-    let o = play_call(
-        p,
-        l,
-        records,
-        &mut heads[..nodes],
-        table,
-        room,
-        &mut none[..0],
-        &records[..0],
-    );
+    let o = play_unanswered(p, l, records, &mut heads[..nodes], table, &records[..0]);
     let why = o.refusal;
     if !accepted(why) {
         return Listed {

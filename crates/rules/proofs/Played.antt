@@ -117,11 +117,6 @@ module _ (s : Shape) (room : ℕ) where
   pub played-room : (rs : List StepRecord) → answerSize * length (play s room rs .answers) ≤ room
   played-room rs = tracks rs .has-room
 
-  pub played-taken : (rs : List StepRecord) → play s room rs .taken ≤ length rs
-  played-taken rs =
-      let t : Tracks s room rs (play s room rs) = tracks rs in
-      omega (arith, t .count, simp length-append at (ap length (t .cut)))
-
   -- a run that refused nothing took all
   pub played-all : (rs : List StepRecord) → accepted (play s room rs .refusal) ≡ true → play s room rs .taken ≡ length rs
   played-all rs e =

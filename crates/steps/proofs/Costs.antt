@@ -79,9 +79,6 @@ unfolding upCost advanceAt
 up-cost zero = refl
 up-cost (suc d) = omega (arith, up-cost d)
 
-pub up-cost-number : (d : ℕ) → upCost (suc d) ≡ 36 * d + 33
-up-cost-number d = up-cost d
-
 -- ---- the depth of a node
 unfoldable pub depth : Shape → ℕ → ℕ
 depth s v = s .height - heightOf s v

@@ -47,14 +47,3 @@ module _ (s : Shape) (m : Memory) (sound : Sound s m) (κ : Kind) (h v : ℕ) (l
 
   pub side-length : (d : Side) → length (openedOn s m κ h v b d) ≡ addedOn s m κ v b d
   side-length d = omega (arith, part-length d (endOf d (block s m v (suc b))) (subblocks-rise sound v inner b has d) (le-refl _))
-
-  -- both sides together have what the block adds
-  pub added-sum : addedOn s m κ v b onLeft + addedOn s m κ v b onRight + total κ (block s m v b) ≡ total κ (block s m v (suc b))
-  added-sum =
-      omega (
-        arith,
-        part-length onLeft (block s m v (suc b) .left) (subblocks-rise sound v inner b has onLeft) (le-refl _),
-        part-length onRight (block s m v (suc b) .right) (subblocks-rise sound v inner b has onRight) (le-refl _),
-        sums-at sound v inner b (before-written (sound .node v (inner-node s v inner)) b has) κ,
-        sums-at sound v inner (suc b) (inr has) κ,
-      )

@@ -32,32 +32,23 @@ wide-requires c κs = search needs
 mul-nodes : tie.Need-mul-nodes
 mul-nodes c = search needs
 
-mul-room : tie.Need-mul-room
-mul-room c = search needs
-
 array-borrow-prefix-heads : tie.Need-array-borrow-prefix-heads
 array-borrow-prefix-heads c =
     let ok = ap accepted (sym (c .before .before .before .of-call .ensures)) ∙ sym (c .before .before .accepted .ensures) ∙ not-false (c .before .before .accepted .result) (c .before .if1 .left) in
     omega (arith, c .wide .ensures, accepted-narrow _ _ _ _ ok)
 
-slice-aggregate-play-call : tie.Need-slice-aggregate-play-call
-slice-aggregate-play-call c =
+slice-aggregate-play-unanswered : tie.Need-slice-aggregate-play-unanswered
+slice-aggregate-play-unanswered c =
     let ok = ap accepted (sym (c .before .before .before .before .of-call .ensures)) ∙ sym (c .before .before .before .accepted .ensures) ∙ not-false (c .before .before .before .accepted .result) (c .before .before .if1 .left) in
-    sym (length-take-le (2 * c .before .wide .result) _ (omega (arith, c .before .wide .ensures, accepted-narrow _ _ _ _ ok)))
+    sym (accepted-heads _ _ _ _ ok (c .before .wide .result) (c .before .wide .ensures))
 
-array-borrow-prefix-none : tie.Need-array-borrow-prefix-none
-array-borrow-prefix-none c = search needs
+slice-aggregate-play-unanswered-2 : tie.Need-slice-aggregate-play-unanswered-2
+slice-aggregate-play-unanswered-2 c = search needs
 
-slice-aggregate-play-call-2 : tie.Need-slice-aggregate-play-call-2
-slice-aggregate-play-call-2 c = search needs
-
-slice-aggregate-play-call-3 : tie.Need-slice-aggregate-play-call-3
-slice-aggregate-play-call-3 c = search needs
-
-play-call-requires : tie.Need-play-call-requires
-play-call-requires c κs =
-    let ok = ap accepted (sym (c .before .before .before .before .before .before .before .of-call .ensures)) ∙ sym (c .before .before .before .before .before .before .accepted .ensures) ∙ not-false (c .before .before .before .before .before .before .accepted .result) (c .before .before .before .before .before .if1 .left) in
-    accepted-callable _ _ _ _ ok _ _ _ (c .before .before .before .before .wide .ensures) (inl refl)
+play-unanswered-requires : tie.Need-play-unanswered-requires
+play-unanswered-requires c κs =
+    let ok = ap accepted (sym (c .before .before .before .before .before .before .of-call .ensures)) ∙ sym (c .before .before .before .before .before .accepted .ensures) ∙ not-false (c .before .before .before .before .before .accepted .result) (c .before .before .before .before .if1 .left) in
+    accepted-callable _ _ _ _ ok _ _ _ (c .before .before .before .wide .ensures) (inl refl)
 
 accepted-requires-2 : tie.Need-accepted-requires-2
 accepted-requires-2 c κs = search needs
@@ -67,9 +58,9 @@ same-length c = search needs
 
 returns-2 : tie.Need-returns-2
 returns-2 c =
-    let a = c .before .before .before .before .before .before .before .before .before .before .before .before .before .before .before .before .before .before .args in
-    let o = c .before .before .before .before .before .before .play-call in
-    let ok = ap accepted (sym (c .before .before .before .before .before .before .before .before .before .before .before .before .before .before .of-call .ensures)) ∙ sym (c .before .before .before .before .before .before .before .before .before .before .before .before .before .accepted .ensures) ∙ not-false (c .before .before .before .before .before .before .before .before .before .before .before .before .before .accepted .result) (c .before .before .before .before .before .before .before .before .before .before .before .before .if1 .left) in
+    let a = c .before .before .before .before .before .before .before .before .before .before .before .before .before .before .before .before .args in
+    let o = c .before .before .before .before .before .play-unanswered in
+    let ok = ap accepted (sym (c .before .before .before .before .before .before .before .before .before .before .before .before .of-call .ensures)) ∙ sym (c .before .before .before .before .before .before .before .before .before .before .before .accepted .ensures) ∙ not-false (c .before .before .before .before .before .before .before .before .before .before .before .accepted .result) (c .before .before .before .before .before .before .before .before .before .before .if1 .left) in
     list-refused (a .p) (a .l) (a .records .now) (a .table .now) (a .output .now) ok (o .result) _ _ _ _ _ (o .ensures .0) (o .ensures .1)
     (sym (c .before .accepted2 .ensures) ∙ not-true (c .before .accepted2 .result) (c .if2 .taken))
 
@@ -81,52 +72,48 @@ wide-requires-2 c κs = search needs
 
 words-needed-requires : tie.Need-words-needed-requires
 words-needed-requires c κs =
-    let ok = ap accepted (sym (c .before .before .before .before .before .before .before .before .before .before .before .before .before .before .before .before .of-call .ensures)) ∙ sym (c .before .before .before .before .before .before .before .before .before .before .before .before .before .before .before .accepted .ensures) ∙ not-false (c .before .before .before .before .before .before .before .before .before .before .before .before .before .before .before .accepted .result) (c .before .before .before .before .before .before .before .before .before .before .before .before .before .before .if1 .left) in
+    let ok = ap accepted (sym (c .before .before .before .before .before .before .before .before .before .before .before .before .before .before .of-call .ensures)) ∙ sym (c .before .before .before .before .before .before .before .before .before .before .before .before .before .accepted .ensures) ∙ not-false (c .before .before .before .before .before .before .before .before .before .before .before .before .before .accepted .result) (c .before .before .before .before .before .before .before .before .before .before .before .before .if1 .left) in
     (c .before .height-for .ensures .2, omega (arith, c .wide2 .ensures, allowed-most _ (accepted-operations _ _ _ _ ok) .1))
 
 array-share-prefix-heads : tie.Need-array-share-prefix-heads
 array-share-prefix-heads c =
-    let ok = ap accepted (sym (c .before .before .before .before .before .before .before .before .before .before .before .before .before .before .before .before .before .of-call .ensures)) ∙ sym (c .before .before .before .before .before .before .before .before .before .before .before .before .before .before .before .before .accepted .ensures) ∙ not-false (c .before .before .before .before .before .before .before .before .before .before .before .before .before .before .before .before .accepted .result) (c .before .before .before .before .before .before .before .before .before .before .before .before .before .before .before .if1 .left) in
-    let o = c .before .before .before .before .before .before .before .before .before .play-call in
-    let h = o .kept .1 .1 .1 .0 ∙ accepted-heads _ _ _ _ ok (c .before .before .before .before .before .before .before .before .before .before .before .before .before .before .wide .result) (c .before .before .before .before .before .before .before .before .before .before .before .before .before .before .wide .ensures) in
+    let ok = ap accepted (sym (c .before .before .before .before .before .before .before .before .before .before .before .before .before .before .before .of-call .ensures)) ∙ sym (c .before .before .before .before .before .before .before .before .before .before .before .before .before .before .accepted .ensures) ∙ not-false (c .before .before .before .before .before .before .before .before .before .before .before .before .before .before .accepted .result) (c .before .before .before .before .before .before .before .before .before .before .before .before .before .if1 .left) in
+    let o = c .before .before .before .before .before .before .before .before .play-unanswered in
+    let h = o .kept .1 .1 .1 .0 ∙ accepted-heads _ _ _ _ ok (c .before .before .before .before .before .before .before .before .before .before .before .before .wide .result) (c .before .before .before .before .before .before .before .before .before .before .before .before .wide .ensures) in
     simp length-append (omega (arith, h))
 
 slice-aggregate-write-list : tie.Need-slice-aggregate-write-list
 slice-aggregate-write-list c =
-    let ok = ap accepted (sym (c .before .before .before .before .before .before .before .before .before .before .before .before .before .before .before .before .before .before .of-call .ensures)) ∙ sym (c .before .before .before .before .before .before .before .before .before .before .before .before .before .before .before .before .before .accepted .ensures) ∙ not-false (c .before .before .before .before .before .before .before .before .before .before .before .before .before .before .before .before .before .accepted .result) (c .before .before .before .before .before .before .before .before .before .before .before .before .before .before .before .before .if1 .left) in
-    let o = c .before .before .before .before .before .before .before .before .before .before .play-call in
-    let h = o .kept .1 .1 .1 .0 ∙ accepted-heads _ _ _ _ ok (c .before .before .before .before .before .before .before .before .before .before .before .before .before .before .before .wide .result) (c .before .before .before .before .before .before .before .before .before .before .before .before .before .before .before .wide .ensures) in
-    rw (take-at (o .last .1 .1 .1 .0) _ (2 * c .before .before .before .before .before .before .before .before .before .before .before .before .before .before .before .wide .result) h) (sym h)
+    let ok = ap accepted (sym (c .before .before .before .before .before .before .before .before .before .before .before .before .before .before .before .before .of-call .ensures)) ∙ sym (c .before .before .before .before .before .before .before .before .before .before .before .before .before .before .before .accepted .ensures) ∙ not-false (c .before .before .before .before .before .before .before .before .before .before .before .before .before .before .before .accepted .result) (c .before .before .before .before .before .before .before .before .before .before .before .before .before .before .if1 .left) in
+    let o = c .before .before .before .before .before .before .before .before .before .play-unanswered in
+    let h = o .kept .1 .1 .1 .0 ∙ accepted-heads _ _ _ _ ok (c .before .before .before .before .before .before .before .before .before .before .before .before .before .wide .result) (c .before .before .before .before .before .before .before .before .before .before .before .before .before .wide .ensures) in
+    rw (take-at (o .last .1 .1 .1 .0) _ (2 * c .before .before .before .before .before .before .before .before .before .before .before .before .before .wide .result) h) (sym h)
 
 slice-reshare-prefix-write-list : tie.Need-slice-reshare-prefix-write-list
 slice-reshare-prefix-write-list c =
-    let ok = ap accepted (sym (c .before .before .before .before .before .before .before .before .before .before .before .before .before .before .before .before .before .before .of-call .ensures)) ∙ sym (c .before .before .before .before .before .before .before .before .before .before .before .before .before .before .before .before .before .accepted .ensures) ∙ not-false (c .before .before .before .before .before .before .before .before .before .before .before .before .before .before .before .before .before .accepted .result) (c .before .before .before .before .before .before .before .before .before .before .before .before .before .before .before .before .if1 .left) in
+    let ok = ap accepted (sym (c .before .before .before .before .before .before .before .before .before .before .before .before .before .before .before .before .of-call .ensures)) ∙ sym (c .before .before .before .before .before .before .before .before .before .before .before .before .before .before .before .accepted .ensures) ∙ not-false (c .before .before .before .before .before .before .before .before .before .before .before .before .before .before .before .accepted .result) (c .before .before .before .before .before .before .before .before .before .before .before .before .before .before .if1 .left) in
+    let o = c .before .before .before .before .before .before .before .before .before .play-unanswered in
     let w = c .before in
-    omega (
-      arith,
-      w .words-needed .ensures .0,
-      needed-for _ _ _ _ (w .before .before .height-for .ensures .0) (w .before .wide2 .ensures),
-      accepted-enough _ _ _ _ ok,
-      c .before .before .before .before .before .before .before .before .before .before .play-call .kept .1 .1 .1 .1 .0,
-    )
+    let n = w .words-needed .ensures .0 ∙ needed-for _ _ _ _ (w .before .before .height-for .ensures .0) (w .before .wide2 .ensures) in
+    omega (arith, n, accepted-enough _ _ _ _ ok, o .kept .1 .1 .1 .1 .0)
 
 slice-aggregate-write-list-2 : tie.Need-slice-aggregate-write-list-2
 slice-aggregate-write-list-2 c =
-    let ok = ap accepted (sym (c .before .before .before .before .before .before .before .before .before .before .before .before .before .before .before .before .before .before .before .of-call .ensures)) ∙ sym (c .before .before .before .before .before .before .before .before .before .before .before .before .before .before .before .before .before .before .accepted .ensures) ∙ not-false (c .before .before .before .before .before .before .before .before .before .before .before .before .before .before .before .before .before .before .accepted .result) (c .before .before .before .before .before .before .before .before .before .before .before .before .before .before .before .before .before .if1 .left) in
-    let o = c .before .before .before .before .before .before .before .before .before .before .before .play-call in
+    let ok = ap accepted (sym (c .before .before .before .before .before .before .before .before .before .before .before .before .before .before .before .before .before .of-call .ensures)) ∙ sym (c .before .before .before .before .before .before .before .before .before .before .before .before .before .before .before .before .accepted .ensures) ∙ not-false (c .before .before .before .before .before .before .before .before .before .before .before .before .before .before .before .before .accepted .result) (c .before .before .before .before .before .before .before .before .before .before .before .before .before .before .before .if1 .left) in
+    let o = c .before .before .before .before .before .before .before .before .before .before .play-unanswered in
     let w = c .before .before in
     let n = w .words-needed .ensures .0 ∙ needed-for _ _ _ _ (w .before .before .height-for .ensures .0) (w .before .wide2 .ensures) in
     sym (length-take-le (w .words-needed .result) (o .last .1 .1 .1 .1 .0) (omega (arith, n, accepted-enough _ _ _ _ ok, o .kept .1 .1 .1 .1 .0)))
 
 write-list-requires : tie.Need-write-list-requires
 write-list-requires c κs =
-    let a = c .before .before .before .before .before .before .before .before .before .before .before .before .before .before .before .before .before .before .before .before .before .before .before .before .args in
-    let ok = ap accepted (sym (c .before .before .before .before .before .before .before .before .before .before .before .before .before .before .before .before .before .before .before .before .of-call .ensures)) ∙ sym (c .before .before .before .before .before .before .before .before .before .before .before .before .before .before .before .before .before .before .before .accepted .ensures) ∙ not-false (c .before .before .before .before .before .before .before .before .before .before .before .before .before .before .before .before .before .before .before .accepted .result) (c .before .before .before .before .before .before .before .before .before .before .before .before .before .before .before .before .before .before .if1 .left) in
-    let o = c .before .before .before .before .before .before .before .before .before .before .before .before .play-call in
-    let h = o .kept .1 .1 .1 .0 ∙ accepted-heads _ _ _ _ ok (c .before .before .before .before .before .before .before .before .before .before .before .before .before .before .before .before .before .wide .result) (c .before .before .before .before .before .before .before .before .before .before .before .before .before .before .before .before .before .wide .ensures) in
+    let a = c .before .before .before .before .before .before .before .before .before .before .before .before .before .before .before .before .before .before .before .before .before .before .args in
+    let ok = ap accepted (sym (c .before .before .before .before .before .before .before .before .before .before .before .before .before .before .before .before .before .before .of-call .ensures)) ∙ sym (c .before .before .before .before .before .before .before .before .before .before .before .before .before .before .before .before .before .accepted .ensures) ∙ not-false (c .before .before .before .before .before .before .before .before .before .before .before .before .before .before .before .before .before .accepted .result) (c .before .before .before .before .before .before .before .before .before .before .before .before .before .before .before .before .if1 .left) in
+    let o = c .before .before .before .before .before .before .before .before .before .before .before .play-unanswered in
+    let h = o .kept .1 .1 .1 .0 ∙ accepted-heads _ _ _ _ ok (c .before .before .before .before .before .before .before .before .before .before .before .before .before .before .before .wide .result) (c .before .before .before .before .before .before .before .before .before .before .before .before .before .before .before .wide .ensures) in
     let w = c .before .before .before in
     let n = w .words-needed .ensures .0 ∙ needed-for _ _ _ _ (w .before .before .height-for .ensures .0) (w .before .wide2 .ensures) in
-    rw (take-at (o .last .1 .1 .1 .0) _ (2 * c .before .before .before .before .before .before .before .before .before .before .before .before .before .before .before .before .before .wide .result) h, n) (list-listing (a .p) (a .l) (a .records .now) (a .table .now) (a .output .now) ok (o .result) _ _ _ _ _ (o .ensures .0) (o .ensures .1))
+    rw (take-at (o .last .1 .1 .1 .0) _ (2 * c .before .before .before .before .before .before .before .before .before .before .before .before .before .before .before .wide .result) h, n) (list-listing (a .p) (a .l) (a .records .now) (a .table .now) (a .output .now) ok (o .result) _ _ _ _ _ (o .ensures .0) (o .ensures .1))
 
 same-length-2 : tie.Need-same-length-2
 same-length-2 c = search needs
@@ -136,9 +123,9 @@ same-length-3 c = search needs
 
 returns-3 : tie.Need-returns-3
 returns-3 c =
-    let a = c .before .before .before .before .before .before .before .before .before .before .before .before .before .before .before .before .before .before .before .before .before .before .before .before .before .before .before .args in
-    let o = c .before .before .before .before .before .before .before .before .before .before .before .before .before .before .before .play-call in
-    let ok = ap accepted (sym (c .before .before .before .before .before .before .before .before .before .before .before .before .before .before .before .before .before .before .before .before .before .before .before .of-call .ensures)) ∙ sym (c .before .before .before .before .before .before .before .before .before .before .before .before .before .before .before .before .before .before .before .before .before .before .accepted .ensures) ∙ not-false (c .before .before .before .before .before .before .before .before .before .before .before .before .before .before .before .before .before .before .before .before .before .before .accepted .result) (c .before .before .before .before .before .before .before .before .before .before .before .before .before .before .before .before .before .before .before .before .before .if1 .left) in
+    let a = c .before .before .before .before .before .before .before .before .before .before .before .before .before .before .before .before .before .before .before .before .before .before .before .before .before .args in
+    let o = c .before .before .before .before .before .before .before .before .before .before .before .before .before .before .play-unanswered in
+    let ok = ap accepted (sym (c .before .before .before .before .before .before .before .before .before .before .before .before .before .before .before .before .before .before .before .before .before .of-call .ensures)) ∙ sym (c .before .before .before .before .before .before .before .before .before .before .before .before .before .before .before .before .before .before .before .before .accepted .ensures) ∙ not-false (c .before .before .before .before .before .before .before .before .before .before .before .before .before .before .before .before .before .before .before .before .accepted .result) (c .before .before .before .before .before .before .before .before .before .before .before .before .before .before .before .before .before .before .before .if1 .left) in
     let w = c .before .before .before .before .before .before in
     let n = w .words-needed .ensures .0 ∙ needed-for _ _ _ _ (w .before .before .height-for .ensures .0) (w .before .wide2 .ensures) in
     list-left (a .p) (a .l) (a .records .now) (a .table .now) (a .output .now) ok (o .result) _ _ _ _ _ (o .ensures .0) (o .ensures .1) (c .before .before .write-list .result) _
@@ -154,13 +141,10 @@ list-order-spec =
     returns
     wide-requires
     mul-nodes
-    mul-room
     array-borrow-prefix-heads
-    slice-aggregate-play-call
-    array-borrow-prefix-none
-    slice-aggregate-play-call-2
-    slice-aggregate-play-call-3
-    play-call-requires
+    slice-aggregate-play-unanswered
+    slice-aggregate-play-unanswered-2
+    play-unanswered-requires
     accepted-requires-2
     same-length
     returns-2

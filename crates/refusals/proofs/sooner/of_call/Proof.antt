@@ -4,7 +4,7 @@ use mathlib.Core.Path.{_≡_, sym, _∙_}
 use borrow.Author.Tests.{lt-ltb, le-ltb, eq-eqb, ne-eqb, not-false}
 use Rattle.record.specs.StepRecords.{stepSize}
 use Rattle.rules.specs.Refusals.{torn, callRefusal}
-use Rattle.refusals.proofs.Limits.{allowed-most, needed-for}
+use Rattle.refusals.proofs.Limits.{allowed-most, needed-for, call-from}
 use borrow.Author.Needs.{needs}
 use Rattle.refusals.proofs.sooner.of_call.Statement.{statement}
 use Rattle.refusals.proofs.sooner.of_call.Tie as tie
@@ -33,48 +33,33 @@ words-needed-requires : tie.Need-words-needed-requires
 words-needed-requires c κs = (c .before .height-for .ensures .2, omega (arith, c .wide .ensures, allowed-most _ (sym (c .before .before .before .operations-allowed .ensures) ∙ not-false _ (c .before .before .if2 .left)) .1))
 
 returns-3 : tie.Need-returns-3
-unfolding callRefusal
 returns-3 c =
     let w = c .before in
-    let n = w .words-needed .ensures .0 ∙ needed-for _ _ _ _ (w .before .before .height-for .ensures .0) (w .before .wide .ensures) in
-    rw (
-      ← w .before .before .before .before .before .before .processes-allowed .ensures,
-      w .before .before .before .before .before .if1 .left,
-      ← w .before .before .before .before .operations-allowed .ensures,
-      w .before .before .before .if2 .left,
-      ← n,
-      lt-ltb _ _ (c .if3 .taken),
-    )
+    sym
+    (call-from _ _ _ _ _ (sym (w .before .before .before .before .before .before .processes-allowed .ensures) ∙ not-false _ (w .before .before .before .before .before .if1 .left))
+    (sym (w .before .before .before .before .operations-allowed .ensures) ∙ not-false _ (w .before .before .before .if2 .left))
+    (w .words-needed .ensures .0 ∙ needed-for _ _ _ _ (w .before .before .height-for .ensures .0) (w .before .wide .ensures))
+    ∙ (rw (lt-ltb _ _ (c .if3 .taken))))
 
 returns-4 : tie.Need-returns-4
-unfolding callRefusal torn stepSize
+unfolding torn stepSize
 returns-4 c =
     let w = c .before .before in
-    let n = w .words-needed .ensures .0 ∙ needed-for _ _ _ _ (w .before .before .height-for .ensures .0) (w .before .wide .ensures) in
-    rw (
-      ← w .before .before .before .before .before .before .processes-allowed .ensures,
-      w .before .before .before .before .before .if1 .left,
-      ← w .before .before .before .before .operations-allowed .ensures,
-      w .before .before .before .if2 .left,
-      ← n,
-      le-ltb _ _ (c .before .if3 .left),
-      ne-eqb _ _ (c .if4 .taken),
-    )
+    sym
+    (call-from _ _ _ _ _ (sym (w .before .before .before .before .before .before .processes-allowed .ensures) ∙ not-false _ (w .before .before .before .before .before .if1 .left))
+    (sym (w .before .before .before .before .operations-allowed .ensures) ∙ not-false _ (w .before .before .before .if2 .left))
+    (w .words-needed .ensures .0 ∙ needed-for _ _ _ _ (w .before .before .height-for .ensures .0) (w .before .wide .ensures))
+    ∙ (rw (le-ltb _ _ (c .before .if3 .left), ne-eqb _ _ (c .if4 .taken))))
 
 returns-5 : tie.Need-returns-5
-unfolding callRefusal torn stepSize
+unfolding torn stepSize
 returns-5 c =
     let w = c .before .before in
-    let n = w .words-needed .ensures .0 ∙ needed-for _ _ _ _ (w .before .before .height-for .ensures .0) (w .before .wide .ensures) in
-    rw (
-      ← w .before .before .before .before .before .before .processes-allowed .ensures,
-      w .before .before .before .before .before .if1 .left,
-      ← w .before .before .before .before .operations-allowed .ensures,
-      w .before .before .before .if2 .left,
-      ← n,
-      le-ltb _ _ (c .before .if3 .left),
-      eq-eqb _ _ (c .if4 .left),
-    )
+    sym
+    (call-from _ _ _ _ _ (sym (w .before .before .before .before .before .before .processes-allowed .ensures) ∙ not-false _ (w .before .before .before .before .before .if1 .left))
+    (sym (w .before .before .before .before .operations-allowed .ensures) ∙ not-false _ (w .before .before .before .if2 .left))
+    (w .words-needed .ensures .0 ∙ needed-for _ _ _ _ (w .before .before .height-for .ensures .0) (w .before .wide .ensures))
+    ∙ (rw (le-ltb _ _ (c .before .if3 .left), eq-eqb _ _ (c .if4 .left))))
 
 pub of-call-spec : {M : Type 1} → statement M
 of-call-spec =
