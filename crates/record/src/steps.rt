@@ -2,7 +2,7 @@
 ghost use mathlib.Core.Path.{_≡_};
 ghost use Prim.Native.Nat.{_+_, _≤_};
 ghost use lib.ListN.{length, take, drop};
-ghost use Rattle.record.specs.StepRecords.{stepRecord, isStep, isBeginPut, illFormed};
+ghost use Rattle.record.specs.StepRecords.{stepRecord, isBeginPut, illFormed};
 use crate::StepRecord;
 use crate::bytes;
 
@@ -17,12 +17,6 @@ pub fn step_record(records: &[u8], at: usize) -> StepRecord
         zeros: bytes::half_at(records, at + 2),
         value: bytes::word_at(records, at + 4),
     }
-}
-
-pub fn is_step(x: StepRecord) -> bool
-    ensures { λ r. ⌜ r ≡ isStep x ⌝ }
-{
-    x.kind == 0
 }
 
 pub fn is_begin_put(x: StepRecord) -> bool

@@ -2,7 +2,7 @@
 use crate::Block;
 use crate::Kind;
 ghost use mathlib.Core.Path.{_≡_};
-ghost use Prim.Native.Nat.{_+_, _*_, _≤_, _<_};
+ghost use Prim.Native.Nat.{_+_, _*_, _≤_};
 ghost use lib.ListN.{length, getD};
 ghost use Rattle.tree.specs.Blocks.{blockIn, withBlock, absent as absentOf};
 ghost use Rattle.tree.specs.Memory.{withSuper};
@@ -32,22 +32,6 @@ pub fn word_or_zero(part: &[u32], at: usize) -> u32
         return part[at];
     }
     0
-}
-
-// The block at any place: all zero past the end, which is how an absent block reads. The bound only keeps the sums from wrapping.
-pub fn block_or_zeros(part: &[u32], i: usize) -> Block
-    requires { ⌜ i < 65536 ⌝ }
-    ensures { λ r. ⌜ r ≡ blockIn (now (part .entry)) i ⌝ }
-{
-    let at = 6 * i;
-    Block {
-        puts: word_or_zero(part, at),
-        takes: word_or_zero(part, at + 1),
-        superblock: word_or_zero(part, at + 2),
-        left: word_or_zero(part, at + 3),
-        right: word_or_zero(part, at + 4),
-        size: word_or_zero(part, at + 5),
-    }
 }
 
 // A block with no puts and no takes is absent. Both words are compared: their sum could wrap.

@@ -3,18 +3,10 @@ use crate::Block;
 use crate::blocks;
 ghost use mathlib.Core.Path.{_≡_};
 ghost use mathlib.Core.List.{_++_};
-ghost use Prim.Native.Nat.{_+_, _*_, _-_, _≤_, _<_};
+ghost use Prim.Native.Nat.{_+_, _*_, _-_, _≤_};
 ghost use lib.ListN.{length, take, drop};
 ghost use Rattle.tree.specs.Blocks.{blockIn, withBlock};
 ghost use Rattle.tree.specs.Memory.{withSuper};
-
-// The node's block at place i, all zero past the part's end.
-pub fn node_block(table: &[u32], from: usize, to: usize, i: usize) -> Block
-    requires { ⌜ (from ≤ to) × (to ≤ length (now table)) × (i < 65536) ⌝ }
-    ensures { λ r. ⌜ r ≡ blockIn (take (to - from) (drop from (now (table .entry)))) i ⌝ }
-{
-    blocks::block_or_zeros(&table[from..to], i)
-}
 
 // Block b at place i of the node.
 pub fn node_write(table: &mut [u32], from: usize, to: usize, i: usize, b: Block)
