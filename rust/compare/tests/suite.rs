@@ -1,5 +1,7 @@
-//! The compiled library and the printing program against the reference, one file for each topic.
+//! The compiled library, its header and the printing program against the reference, one file for each
+//! topic.
 
+mod header;
 mod known_runs;
 mod lengths;
 mod logs;

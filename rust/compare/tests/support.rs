@@ -3,6 +3,11 @@
 use compare::calls::Input;
 use otq::{most_answer_bytes, most_order_bytes, table_words};
 use reference::schedules::{schedule, Pace, Plan};
+use std::path::{Path, PathBuf};
+
+pub fn repository() -> PathBuf {
+    Path::new(env!("CARGO_MANIFEST_DIR")).join("../..")
+}
 
 /// A list in which all operations of all processes finish, in short bursts.
 pub fn mixed_list(p: u32, l: u32, seed: u64) -> Vec<u8> {

@@ -1,0 +1,87 @@
+/* The worked example through otq.h: its answers as the printing program prints them, then the root
+   order (kind, process, serial, root block), then the check of the log that it just got. From the
+   repository's root, after `rt staticlib queue`:
+
+       gcc -std=c99 -Iinclude examples/c/worked.c target/staticlib/libqueue.a -o target/worked
+       target/worked */
+#include "otq.h"
+
+#include <inttypes.h>
+#include <stdio.h>
+
+enum { P = 4, L = 24, STEPS = 27, RECORDS = 2 * (1 + STEPS) };
+
+static uint8_t records[RECORDS * OTQ_STEP_BYTES];
+static uint32_t table[OTQ_TABLE_WORDS(P, L)];
+static uint8_t answers[OTQ_MOST_ANSWER_BYTES(P, L)];
+static uint8_t output[OTQ_MOST_OUTPUT_BYTES(P, L)];
+
+/* A number of 16 or 32 bits, low byte first. */
+static uint32_t number(const uint8_t *bytes, int count)
+{
+    uint32_t all = 0;
+    while (count-- > 0) {
+        all = all << 8 | bytes[count];
+    }
+    return all;
+}
+
+/* A begin and the steps of a whole operation. The other bytes of the records are zero from the start;
+   the value is below 256. */
+static uint8_t *operation(uint8_t *record, uint8_t process, uint8_t kind, uint8_t value)
+{
+    record[1] = kind;
+    record[4] = value;
+    for (int i = 0; i < 1 + STEPS; i++) {
+        *record = process;
+        record += OTQ_STEP_BYTES;
+    }
+    return record;
+}
+
+static void print_answer(const uint8_t *answer)
+{
+    printf("%s %d %" PRIu32 " %" PRIu32 " %" PRIu32, answer[1] == 1 ? "put" : "take", answer[0],
+           number(answer + 8, 4), number(answer + 2, 2), number(answer + 12, 4));
+    if (answer[1] == 2) {
+        printf(" %" PRIu32, number(answer + 4, 4));
+    } else if (answer[1] == 3) {
+        printf(" none");
+    }
+    printf("\n");
+}
+
+static void print_order(const uint8_t *order)
+{
+    printf("order %s %d %" PRIu32 " %" PRIu32 "\n", order[1] == 1 ? "put" : "take", order[0],
+           number(order + 2, 2), number(order + 4, 4));
+}
+
+int main(void)
+{
+    operation(operation(records, 0, 1, 7), 1, 2, 0);
+
+    OtqRun run = otq_run(P, L, records, sizeof records, table, OTQ_TABLE_WORDS(P, L), answers,
+                         sizeof answers);
+    for (uint64_t i = 0; i < run.answers; i++) {
+        print_answer(answers + i * OTQ_ANSWER_BYTES);
+    }
+    printf("end %" PRIu32 " %" PRIu64 "\n", run.refusal, run.taken);
+
+    OtqList list = otq_list_order(P, L, records, sizeof records, table, OTQ_TABLE_WORDS(P, L), output,
+                                  sizeof output);
+    for (uint64_t at = 0; at < list.length; at += OTQ_ORDER_BYTES) {
+        print_order(output + at);
+    }
+
+    OtqCheck check = otq_check_log(P, L, records, sizeof records, answers,
+                                   run.answers * OTQ_ANSWER_BYTES, table, OTQ_TABLE_WORDS(P, L));
+    if (check.verdict == OTQ_SAME) {
+        printf("same\n");
+    } else if (check.verdict == OTQ_DIFFERS) {
+        printf("differs at %" PRIu64 "\n", check.index);
+    } else {
+        printf("refused %" PRIu32 "\n", check.refusal);
+    }
+    return 0;
+}

@@ -1,0 +1,119 @@
+/* The proved library for C and C++ on x86-64: a first-in first-out queue shared by several processes,
+   played step by step as a list of step records says. `rt staticlib queue` writes the archive to link,
+   target/staticlib/libqueue.a.
+
+   Every call takes p, the number of processes (2, 4 or 8), and l, the most operations of one process
+   (1 to 500). Any numbers and any contents may be passed: what is turned down is told by a number.
+
+   Buffers. Lengths are in elements: bytes, and words for the table. A pointer is never null, not even
+   with length 0; the one to the table is aligned for uint32_t. So an empty buffer is passed as the
+   address of any object, for the table of a uint32_t, and the length 0. A buffer that is written
+   (table, answers, output) overlaps no other buffer of the call; during the call no other thread
+   touches it, and none writes the others. The library keeps no pointer, allocates nothing and
+   has no state between calls.
+
+   Records, numbers low byte first, without a header:
+   - step record, 8 bytes: process; kind (0 step, 1 begin put, 2 begin take); two zero bytes; value,
+     32 bits, 0 unless the kind is 1;
+   - answer record, 16 bytes: process; kind (1 put done, 2 value, 3 none); own steps of the operation,
+     16 bits; then, 32 bits each, value (0 unless the kind is 2), serial of the operation in its
+     process, from 1, and root block;
+   - order record, 8 bytes: process; kind (1 put, 2 take); serial, 16 bits; root block, 32 bits. */
+#ifndef OTQ_H
+#define OTQ_H
+
+#include <stddef.h>
+#include <stdint.h>
+
+#ifdef __cplusplus
+extern "C" {
+#endif
+
+/* Why a call or a record is turned down. */
+enum OtqRefusal {
+    OTQ_NONE = 0,            /* nothing is turned down */
+    OTQ_PROCESS_COUNT = 1,   /* p is not 2, 4 or 8 */
+    OTQ_OPERATION_LIMIT = 2, /* l is not 1 to 500 */
+    OTQ_TABLE_SHORT = 3,     /* the table has fewer than OTQ_TABLE_WORDS(p, l) words */
+    OTQ_RECORDS_TORN = 4,    /* the record bytes are not a multiple of 8 */
+    OTQ_ILL_FORMED = 5,      /* a process not below p, a kind above 2, or a byte that must be zero */
+    OTQ_BEGIN_NOT_IDLE = 6,  /* a begin while the process is not idle */
+    OTQ_STEP_IDLE = 7,       /* a step while the process is idle */
+    OTQ_BEGUN_ALL = 8,       /* a begin by a process that has begun l operations */
+    OTQ_ANSWERS_FULL = 9,    /* an operation ends with fewer than 16 answer bytes left */
+    OTQ_OUTPUT_SHORT = 10,   /* the order list is longer than the output */
+    OTQ_LOG_TORN = 11        /* the log bytes are not a multiple of 16 */
+};
+
+/* What the check of a log says. */
+enum OtqVerdict {
+    OTQ_SAME = 0,    /* the log is the one that the records give */
+    OTQ_DIFFERS = 1, /* it is another */
+    OTQ_REFUSED = 2  /* the call or a record was turned down, and nothing was compared */
+};
+
+#define OTQ_STEP_BYTES 8
+#define OTQ_ANSWER_BYTES 16
+#define OTQ_ORDER_BYTES 8
+
+/* Levels of the tree; used by OTQ_TABLE_WORDS. */
+#define OTQ_LEVELS(p) ((p) == 2 ? 2 : (p) == 4 ? 3 : 4)
+
+/* Lengths of buffers for a p and an l that are not turned down; constant if p and l are. The table
+   must have so many words; so many answer and output bytes are enough for every list. */
+#define OTQ_TABLE_WORDS(p, l) (6 * (OTQ_LEVELS(p) * (size_t)(p) * (size_t)(l) + 2 * (size_t)(p) - 1))
+#define OTQ_MOST_ANSWER_BYTES(p, l) (OTQ_ANSWER_BYTES * (size_t)(p) * (size_t)(l))
+#define OTQ_MOST_OUTPUT_BYTES(p, l) (OTQ_ORDER_BYTES * (size_t)(p) * (size_t)(l))
+
+typedef struct OtqRun {
+    uint32_t refusal; /* enum OtqRefusal */
+    uint64_t taken;   /* records taken */
+    uint64_t answers; /* answer records written */
+} OtqRun;
+
+typedef struct OtqList {
+    uint32_t refusal; /* enum OtqRefusal */
+    uint64_t length;  /* bytes of the list, 0 with a refusal */
+} OtqList;
+
+typedef struct OtqCheck {
+    uint32_t refusal; /* enum OtqRefusal */
+    uint32_t verdict; /* enum OtqVerdict */
+    uint64_t index;   /* with OTQ_DIFFERS the number, from 0, of the first answer record that is
+                         unequal or lacking in one log; else 0 */
+} OtqCheck;
+
+/* Run: plays the records and writes the answers.
+
+   Turned down with 1 to 4, it changes nothing and returns zero counts. Otherwise it clears the words
+   needed and plays until a record is turned down with 5 to 9; that record changes nothing and ends
+   the run. Answer bytes past the answers and table words past those needed keep their content. */
+OtqRun otq_run(uint32_t p, uint32_t l,
+               const uint8_t *records, size_t records_bytes,
+               uint32_t *table, size_t table_words,
+               uint8_t *answers, size_t answers_bytes);
+
+/* List the order: plays the records and writes the order records of the root order.
+
+   Turned down with 1 to 4, it changes nothing; with 5 to 8 or 10 it writes no output. Output bytes past
+   the list keep their content. From 5 on, and without a refusal, the table is left as otq_run with
+   room for every answer leaves it. */
+OtqList otq_list_order(uint32_t p, uint32_t l,
+                       const uint8_t *records, size_t records_bytes,
+                       uint32_t *table, size_t table_words,
+                       uint8_t *output, size_t output_bytes);
+
+/* Check a log: plays the records and compares the log with the answers that they give.
+
+   Turned down with 1 to 4 or 11, it changes nothing. With 5 to 8, and without a refusal, the table is
+   left as otq_run with room for every answer leaves it. */
+OtqCheck otq_check_log(uint32_t p, uint32_t l,
+                       const uint8_t *records, size_t records_bytes,
+                       const uint8_t *log, size_t log_bytes,
+                       uint32_t *table, size_t table_words);
+
+#ifdef __cplusplus
+}
+#endif
+
+#endif

@@ -1,0 +1,104 @@
+//! The header for C and C++: the worked example compiled with it and run, and its numbers and sizes
+//! against the Rust functions.
+
+use otq::{most_answer_bytes, most_order_bytes, Refusal};
+use std::fs;
+use std::path::PathBuf;
+use std::process::Command;
+
+use crate::support::{needed, repository};
+
+const REFUSALS: [(&str, Refusal); 11] = [
+    ("OTQ_PROCESS_COUNT", Refusal::ProcessCount),
+    ("OTQ_OPERATION_LIMIT", Refusal::OperationLimit),
+    ("OTQ_TABLE_SHORT", Refusal::TableShort),
+    ("OTQ_RECORDS_TORN", Refusal::RecordsTorn),
+    ("OTQ_ILL_FORMED", Refusal::IllFormed),
+    ("OTQ_BEGIN_NOT_IDLE", Refusal::BeginNotIdle),
+    ("OTQ_STEP_IDLE", Refusal::StepIdle),
+    ("OTQ_BEGUN_ALL", Refusal::BegunAll),
+    ("OTQ_ANSWERS_FULL", Refusal::AnswersFull),
+    ("OTQ_OUTPUT_SHORT", Refusal::OutputShort),
+    ("OTQ_LOG_TORN", Refusal::LogTorn),
+];
+
+/// A file of these tests.
+fn scratch(name: &str) -> PathBuf {
+    PathBuf::from(env!("CARGO_TARGET_TMPDIR")).join(name)
+}
+
+/// gcc with the header and all its warnings as errors.
+fn gcc(standard: &str) -> Command {
+    let mut gcc = Command::new("gcc");
+    gcc.arg(format!("-std={standard}"))
+        .args(["-Wall", "-Wextra", "-Werror", "-pedantic", "-I"])
+        .arg(repository().join("include"));
+    gcc
+}
+
+/// What the program writes; it must succeed.
+fn written(command: &mut Command) -> String {
+    let output = command.output().expect("the program starts");
+    let said = String::from_utf8_lossy(&output.stderr);
+    assert!(output.status.success(), "{command:?}\n{said}");
+    String::from_utf8(output.stdout).expect("text")
+}
+
+/// The worked example compiled, linked with the archive, and run.
+fn assert_worked(language: &str, standard: &str) {
+    let example = repository().join("examples/c");
+    let program = scratch(&format!("worked-{standard}"));
+    let mut compile = gcc(standard);
+    compile.args(["-x", language]);
+    compile.arg(example.join("worked.c"));
+    compile.args(["-x", "none"]);
+    compile.arg(repository().join("target/staticlib/libqueue.a"));
+    written(compile.arg("-o").arg(&program));
+    let expected = fs::read_to_string(example.join("worked.expected")).expect("a text");
+    assert_eq!(written(&mut Command::new(program)), expected);
+}
+
+#[test]
+fn the_worked_example_in_c() {
+    assert_worked("c", "c99");
+}
+
+#[test]
+fn the_worked_example_in_cpp() {
+    assert_worked("c++", "c++11");
+}
+
+#[test]
+fn numbers_and_sizes() {
+    let refusals = REFUSALS.map(|(name, refusal)| (name.to_string(), refusal.number() as usize));
+    let others = [
+        ("OTQ_NONE", 0),
+        ("OTQ_SAME", 0),
+        ("OTQ_DIFFERS", 1),
+        ("OTQ_REFUSED", 2),
+        ("sizeof(OtqRun)", 24),
+        ("sizeof(OtqList)", 16),
+        ("sizeof(OtqCheck)", 16),
+    ];
+    let mut expected = Vec::from(refusals);
+    expected.extend(others.map(|(name, number)| (name.to_string(), number)));
+    for p in [2, 4, 8] {
+        for l in [1, 2, 24, 499, 500] {
+            let answers = most_answer_bytes(p, l).expect("a proper p and L");
+            let output = most_order_bytes(p, l).expect("a proper p and L");
+            expected.extend([
+                (format!("OTQ_TABLE_WORDS({p}, {l})"), needed(p, l)),
+                (format!("OTQ_MOST_ANSWER_BYTES({p}, {l})"), answers),
+                (format!("OTQ_MOST_OUTPUT_BYTES({p}, {l})"), output),
+            ]);
+        }
+    }
+    // An array of a negative length does not compile.
+    let lines = expected.iter().enumerate().map(|(index, (name, number))| {
+        format!("typedef char equal_{index}[({name}) == {number} ? 1 : -1];\n")
+    });
+    let source = format!("#include \"otq.h\"\n{}", lines.collect::<String>());
+    let file = scratch("numbers_and_sizes.c");
+    fs::write(&file, source).expect("the file is written");
+    written(gcc("c99").arg("-fsyntax-only").arg(&file));
+}
