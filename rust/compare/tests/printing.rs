@@ -1,24 +1,30 @@
 //! The printing program against the reference's print.
 
-use crate::support::mixed_list;
+use crate::support::{mixed_list, repository};
 use compare::hostile::harm_list;
 use reference::lists::List;
 use reference::print::{print_run, L, P, RECORD_BYTES};
 use reference::random::Random;
 use reference::schedules::{schedule, Pace, Plan};
+use std::fs;
 use std::io::Write;
-use std::path::Path;
-use std::process::{Command, Stdio};
+use std::path::PathBuf;
+use std::process::{Command, Output, Stdio};
 
-/// What the program prints for this input.
-fn program(input: &[u8]) -> String {
-    let path = Path::new(env!("CARGO_MANIFEST_DIR")).join("../../target/bin/print_run");
+/// The program, which must be there.
+fn path() -> PathBuf {
+    let path = repository().join("target/bin/print_run");
     assert!(
         path.is_file(),
         "there is no {}: run `rt check print_run` in the repository first",
         path.display()
     );
-    let mut child = Command::new(path)
+    path
+}
+
+/// What the program prints for this input.
+fn program(input: &[u8]) -> String {
+    let mut child = Command::new(path())
         .stdin(Stdio::piped())
         .stdout(Stdio::piped())
         .spawn()
@@ -51,6 +57,32 @@ fn worked() -> List {
 fn worked_run() {
     let print = "put 0 1 27 1\ntake 1 1 27 2 7\nend 0 56\n";
     assert_eq!(program(&worked().bytes()), print);
+}
+
+/// `examples/play` with these words, from the repository's root.
+fn example(words: &[&str]) -> Output {
+    // Without the program the example would begin to prove it.
+    path();
+    Command::new("examples/play")
+        .args(words)
+        .current_dir(repository())
+        .output()
+        .expect("the example starts")
+}
+
+#[test]
+fn examples_are_played_by_the_program() {
+    let known = |name| format!("examples/known/{name}");
+    let m5 = known("M5.txt");
+    for (words, print) in [(&[][..], "M2.expected"), (&[&m5[..]], "M5.expected")] {
+        let output = example(words);
+        assert!(output.status.success(), "{output:?}");
+        let print = fs::read(repository().join(known(print))).expect("a print");
+        assert_eq!(output.stdout, print);
+    }
+    // M3 has two processes, the program four.
+    let refused = example(&[&known("M3.txt")]);
+    assert!(!refused.status.success() && refused.stdout.is_empty());
 }
 
 /// Of 1 to 9, the program's p, L, table and answer bytes leave 4 to 8.

@@ -1,7 +1,7 @@
 //! What the printing program prints of a run.
 
 use crate::records::{Answer, Outcome, ANSWER_RECORD_BYTES};
-use crate::run::run;
+use crate::run::{run, RunResult};
 
 pub const P: u32 = 4;
 pub const L: u32 = 24;
@@ -17,6 +17,11 @@ pub fn print_run(input: &[u8]) -> String {
     let mut table = [0; TABLE_WORDS];
     let mut answers = [0; ANSWER_BYTES];
     let result = run(P, L, input, &mut table, &mut answers);
+    print_result(result, &answers)
+}
+
+/// One line an answer that Run wrote, and the last line.
+pub fn print_result(result: RunResult, answers: &[u8]) -> String {
     let mut print = String::new();
     for bytes in answers
         .chunks_exact(ANSWER_RECORD_BYTES)
