@@ -30,9 +30,7 @@ use Rattle.rules.proofs.Leaves.{IsBlockOf, LeavesAre}
 use Rattle.log.specs.Leading.{leadingOf, written}
 use Rattle.answer.specs.Playing.{machineOf, Plays}
 use Rattle.player.specs.declared.Outcome.{Outcome}
-use Rattle.player.specs.declared.Turn.{Turn}
-use Rattle.player.specs.declared.Turn.the-variants.{Refused, Moved, Finished}
-use Rattle.player.specs.Turns.{rested, TurnOf}
+use Rattle.player.specs.Turns.{Turn, Refused, Moved, Finished, rested, TurnOf}
 use Rattle.player.specs.Playing.{Leaves}
 use Rattle.player.proofs.PlayLaws.{PlayedAs, played-agrees, play-refused, play-moved, play-finished, play-over}
 

@@ -1,8 +1,9 @@
-pub mod Tags
 pub mod StepWords
 pub mod TurnLaws
 pub mod StepTurns
 pub mod PlayLaws
 pub mod Going
 pub mod Loop
+pub mod StepLoop
+pub mod BeginLoop
 pub mod Calls

@@ -1,10 +1,8 @@
 -- What a step record does, told of the process as it is given. Used by proofs; no promise cites it.
-use Prim.Native.Nat.{ℕ, _+_}
+use Prim.Native.Nat.{ℕ, _≤_, _<_}
 use mathlib.Core.Path.{_≡_, ap, _∙_, subst}
 use mathlib.Core.Bool.{true, false}
 use mathlib.Core.List.{List}
-use lib.Dec.{ltb}
-use borrow.Author.Tests.{ltb-true, ltb-false}
 use Rattle.record.specs.declared.StepRecord.{StepRecord}
 use Rattle.record.specs.StepRecords.{isStep, illFormed}
 use Rattle.tree.specs.Shape.{Shape, processes}
@@ -17,8 +15,7 @@ use Rattle.steps.specs.Rules.{step, go}
 use Rattle.steps.specs.Machine.{Machine, processOf, isIdle, isQ}
 use Rattle.rules.specs.declared.Refusal.the-variants.{StepWhileIdle, AnswersFull}
 use Rattle.answer.specs.Playing.{machineOf, Plays}
-use Rattle.player.specs.declared.Turn.the-variants.{Refused, Moved, Finished}
-use Rattle.player.specs.Turns.{TurnOf}
+use Rattle.player.specs.Turns.{Refused, Moved, Finished, moved, TurnOf}
 use Rattle.player.proofs.TurnLaws.{refused-idle, refused-full, turn-finishes, turn-moves}
 
 module _ (s : Shape) (room : ℕ) (ps : List Process) (starts heads table : List ℕ) (r : StepRecord) (q : Process) (plays : Plays s ps starts heads table (r .process) q)
@@ -35,14 +32,14 @@ module _ (s : Shape) (room : ℕ) (ps : List Process) (starts heads table : List
       is-busy : processOf m (r .process) .status ≡ Busy o n
       is-busy = ap (λ (x : Process). x .status) (plays .here) ∙ busy
 
-      pub full-turn : isQ n ≡ true → ltb room 16 ≡ true → TurnOf s room m r (m .memory) (Refused AnswersFull)
-      full-turn z e = refused-full s room m r formed steps o n is-busy z (ltb-true room 16 e)
+      pub full-turn : isQ n ≡ true → room < 16 → TurnOf s room m r (m .memory) (Refused AnswersFull)
+      full-turn = refused-full s room m r formed steps o n is-busy
 
-      pub last-turn : isQ n ≡ true → ltb room 16 ≡ false → TurnOf s room m r (m .memory) (Finished o)
-      last-turn z e = turn-finishes s room m r formed steps o n is-busy z (ltb-false room 16 e)
+      pub last-turn : isQ n ≡ true → 16 ≤ room → TurnOf s room m r (m .memory) (Finished o)
+      last-turn = turn-finishes s room m r formed steps o n is-busy
 
       pub next-turn : isQ n ≡ false → (after : Memory) (x : Step) → step s (r .process) o (m .memory) n ≡ go s (r .process) o (m .memory) after x
-          → TurnOf s room m r after (Moved (record { status = Busy o x; begun = q .begun; steps = q .steps + 1 }))
+          → TurnOf s room m r after (Moved (moved q o x))
       next-turn z after x e =
-          subst (λ (y : Process). TurnOf s room m r after (Moved (record { status = Busy o x; begun = y .begun; steps = y .steps + 1 }))) (plays .here)
+          subst (λ (y : Process). TurnOf s room m r after (Moved (moved y o x))) (plays .here)
           (turn-moves s room m r formed steps o n is-busy z after x e)

@@ -27,8 +27,7 @@ use Rattle.rules.specs.Refusals.{refusalNumber, accepted, beginsWhileBusy, step
 use Rattle.rules.specs.Run.{operationOf, takeRecord, recordAnswers}
 use Rattle.rules.proofs.Legal.{not-step, not-begin}
 use Rattle.steps.proofs.Inside.{is-q}
-use Rattle.player.specs.declared.Turn.the-variants.{Refused, Moved, Finished}
-use Rattle.player.specs.Turns.{rested, TurnOf}
+use Rattle.player.specs.Turns.{Refused, Moved, Finished, opened, moved, rested, TurnOf}
 
 -- an ill-formed record is refused before its process is looked at
 pub refused-ill : (s : Shape) (room : ℕ) (m : Machine) (r : StepRecord) → illFormed (processes s) r ≡ true → TurnOf s room m r (m .memory) (Refused IllFormed)
@@ -58,7 +57,7 @@ module _ (s : Shape) (room : ℕ) (m : Machine) (r : StepRecord) (formed : illFo
       unfolding recordRefusal accepted refusalNumber beginsWhileBusy beginsAfterAll
       refused-begun h = (rw (formed, not-step r begins, idle, no-step, le-leb _ _ h), refl, refl)
 
-      pub turn-begins : q .begun < s .most → TurnOf s room m r (m .memory) (Moved (record { status = Busy (operationOf r) A; begun = q .begun + 1; steps = 0 }))
+      pub turn-begins : q .begun < s .most → TurnOf s room m r (m .memory) (Moved (opened q r))
       unfolding recordRefusal accepted refusalNumber beginsWhileBusy beginsAfterAll finishesWithoutRoom takeRecord begin
       turn-begins h = (rw (formed, not-step r begins, idle, no-step, lt-leb _ _ h, begins), no-answer, rw begins)
 
@@ -100,7 +99,7 @@ module _ (s : Shape) (room : ℕ) (m : Machine) (r : StepRecord) (formed : illFo
 
       -- any step but Q
       pub turn-moves : isQ n ≡ false → (after : Memory) (x : Step) → step s (r .process) o (m .memory) n ≡ go s (r .process) o (m .memory) after x
-          → TurnOf s room m r after (Moved (record { status = Busy o x; begun = q .begun; steps = q .steps + 1 }))
+          → TurnOf s room m r after (Moved (moved q o x))
       unfolding accepted refusalNumber answersFrom stepFrom go
       turn-moves e after x z = (rw (refusal, e), step-answers ∙ rw e, step-taken ∙ rw z)
 

@@ -6,17 +6,30 @@ use mathlib.Core.List.{[], _∷_}
 use Rattle.record.specs.declared.StepRecord.{StepRecord}
 use Rattle.tree.specs.Shape.{Shape}
 use Rattle.tree.specs.Memory.{Memory}
+use Rattle.steps.specs.declared.Operation.{Operation}
+use Rattle.steps.specs.declared.Step.{Step}
 use Rattle.steps.specs.declared.Process.{Process}
 use Rattle.steps.specs.declared.Status.the-variants.{Idle, Busy}
-use Rattle.steps.specs.declared.Step.the-variants.{Q}
+use Rattle.steps.specs.declared.Step.the-variants.{A, Q}
 use Rattle.steps.specs.Machine.{Machine, processOf, withProcess}
+use Rattle.rules.specs.declared.Refusal.{Refusal}
 use Rattle.rules.specs.Answer.{answerOf}
 use Rattle.rules.specs.Refusals.{accepted, recordRefusal}
-use Rattle.rules.specs.Run.{takeRecord, recordAnswers}
-use Rattle.player.specs.declared.Begun.{Begun}
-use Rattle.player.specs.declared.Begun.the-variants.{Declined, Opened}
-use Rattle.player.specs.declared.Turn.{Turn}
-use Rattle.player.specs.declared.Turn.the-variants.{Refused, Moved, Finished}
+use Rattle.rules.specs.Run.{operationOf, takeRecord, recordAnswers}
+
+-- what one record does: it is refused, or the process that it names moves on and is then as given, or it finishes its operation
+pub data Turn : Type 0 where
+  Refused : Refusal → Turn
+  Moved : Process → Turn
+  Finished : Operation → Turn
+
+-- a process after a begin record: it comes to A
+abbrev pub opened : Process → StepRecord → Process
+opened q r = record { status = Busy (operationOf r) A; begun = q .begun + 1; steps = 0 }
+
+-- a process after a step of operation o, with step n next
+abbrev pub moved : Process → Operation → Step → Process
+moved q o n = record { status = Busy o n; begun = q .begun; steps = q .steps + 1 }
 
 -- a process whose operation has ended
 unfoldable pub rested : Process → Process
@@ -36,8 +49,3 @@ TurnOf s room m r n (Finished o) =
     × (takeRecord s m r ≡ withProcess m (r .process) (rested (processOf m (r .process))) n)
     × (n ≡ m .memory)
     × (processOf m (r .process) .status ≡ Busy o Q)
-
--- the turn of a begin record
-abbrev pub turnOf : Begun → Turn
-turnOf (Declined x) = Refused x
-turnOf (Opened q) = Moved q

@@ -1,16 +1,30 @@
 // The loop that plays a list of records. Run, list the order and check a log share it: they differ in what they do with its answers.
-use crate::Begun;
 use crate::Outcome;
-use crate::Turn;
-use crate::records::begin_record;
+use crate::records::is_idle;
+use crate::records::moved;
+use crate::records::opened;
 use crate::records::rested;
-use crate::records::step_record;
 use answer::answers::answer_of;
 use log::compare::equal_after;
 use log::write::write_answer;
 use record::bytes::word_at;
 use rules::Refusal;
 use steps::Process;
+use steps::Status;
+use steps::Step;
+use steps::blocks::step_a;
+use steps::blocks::step_c3;
+use steps::blocks::step_c4;
+use steps::blocks::step_r3;
+use steps::blocks::step_r5;
+use steps::blocks::step_v2;
+use steps::heads::step_c1;
+use steps::heads::step_c2;
+use steps::heads::step_r1;
+use steps::heads::step_r2;
+use steps::heads::step_r4;
+use steps::heads::step_v1;
+use steps::heads::step_v3;
 use steps::heads::wide;
 ghost use mathlib.Core.Path.{_≡_};
 ghost use lib.ListN.{length};
@@ -53,7 +67,7 @@ pub fn play(
     let n = records.len() / 8;
     let mut answers: usize = 0;
     let mut equal: usize = 0;
-    let mut left = room;
+    let mut free = room;
     for i in 0..n {
         let at = 8 * i;
         let first = word_at(records, at);
@@ -61,22 +75,95 @@ pub fn play(
             if first < p {
                 let k = wide(first);
                 let q = procs[k];
-                match step_record(heads, table, starts, p, first, left < 16, q) {
-                    Turn::Refused(x) => return ended(x, i, answers, equal),
-                    Turn::Moved(next) => {
-                        procs[k] = next;
-                        continue;
-                    }
-                    Turn::Finished(o) => {
-                        let a = answer_of(heads, table, starts, p, first, q, o);
-                        equal = equal_after(log, answers, equal, a);
-                        write_answer(out, answers, a);
-                        answers = answers + 1;
-                        left = left - 16;
-                        let next = rested(q);
-                        procs[k] = next;
-                        continue;
-                    }
+                let status = q.status;
+                match status {
+                    Status::Idle => return ended(Refusal::StepWhileIdle, i, answers, equal),
+                    Status::Busy(o, step) => match step {
+                        Step::A => {
+                            procs[k] = moved(q, o, step_a(heads, table, starts, p + first, o));
+                            continue;
+                        }
+                        Step::V1 {
+                            after,
+                            visit,
+                            node,
+                            place,
+                        } => {
+                            procs[k] = moved(q, o, step_v1(heads, visit, after, node, place));
+                            continue;
+                        }
+                        Step::V2 {
+                            after,
+                            visit,
+                            node,
+                            place,
+                            above,
+                        } => {
+                            procs[k] = moved(
+                                q,
+                                o,
+                                step_v2(table, starts, visit, after, node, place, above),
+                            );
+                            continue;
+                        }
+                        Step::V3 {
+                            after,
+                            visit,
+                            node,
+                            place,
+                        } => {
+                            procs[k] = moved(q, o, step_v3(heads, visit, after, node, place));
+                            continue;
+                        }
+                        Step::R1 { second, node } => {
+                            procs[k] = moved(q, o, step_r1(heads, node, second));
+                            continue;
+                        }
+                        Step::R2 { visit } => {
+                            procs[k] = moved(q, o, step_r2(heads, visit));
+                            continue;
+                        }
+                        Step::R3 { visit, child } => {
+                            procs[k] = moved(q, o, step_r3(table, starts, visit, child));
+                            continue;
+                        }
+                        Step::R4 { visit } => {
+                            procs[k] = moved(q, o, step_r4(heads, visit));
+                            continue;
+                        }
+                        Step::R5 { visit, child } => {
+                            procs[k] = moved(q, o, step_r5(table, starts, visit, child));
+                            continue;
+                        }
+                        Step::C1 { visit } => {
+                            procs[k] = moved(q, o, step_c1(heads, visit));
+                            continue;
+                        }
+                        Step::C2 { visit, left } => {
+                            procs[k] = moved(q, o, step_c2(heads, visit, left));
+                            continue;
+                        }
+                        Step::C3 { visit, left, right } => {
+                            procs[k] = moved(q, o, step_c3(table, starts, visit, left, right));
+                            continue;
+                        }
+                        Step::C4 { visit, built } => {
+                            procs[k] = moved(q, o, step_c4(table, starts, visit, built));
+                            continue;
+                        }
+                        Step::Q => {
+                            if free < 16 {
+                                return ended(Refusal::AnswersFull, i, answers, equal);
+                            }
+                            let a = answer_of(heads, table, starts, p, first, q, o);
+                            equal = equal_after(log, answers, equal, a);
+                            write_answer(out, answers, a);
+                            answers = answers + 1;
+                            free = free - 16;
+                            procs[k] = rested(q);
+                            continue;
+                        }
+                    },
                 }
             }
         }
@@ -86,12 +173,14 @@ pub fn play(
         }
         let k = wide(r.process);
         let q = procs[k];
-        match begin_record(l, q, r) {
-            Begun::Declined(x) => return ended(x, i, answers, equal),
-            Begun::Opened(next) => {
-                procs[k] = next;
-            }
+        let status = q.status;
+        if !is_idle(status) {
+            return ended(Refusal::BeginWhileBusy, i, answers, equal);
         }
+        if l <= q.begun {
+            return ended(Refusal::BegunAll, i, answers, equal);
+        }
+        procs[k] = opened(q, r);
     }
     ended(Refusal::None, n, answers, equal)
 }

@@ -23,10 +23,10 @@ use Rattle.rules.proofs.Holds.{kept}
 rest-some : (s : Shape) (n : Step) → 1 ≤ rest s n
 unfolding rest
 rest-some s A = omega arith
-rest-some s (V1 w a v h) = omega arith
-rest-some s (V2 w a v h x) = omega arith
-rest-some s (V3 w a v h) = omega arith
-rest-some s (R1 v q) = omega arith
+rest-some s (V1 a w v h) = omega arith
+rest-some s (V2 a w v h x) = omega arith
+rest-some s (V3 a w v h) = omega arith
+rest-some s (R1 q v) = omega arith
 rest-some s (R2 w) = omega arith
 rest-some s (R3 w c) = omega arith
 rest-some s (R4 w) = omega arith

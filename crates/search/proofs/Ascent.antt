@@ -19,7 +19,8 @@ use Rattle.tree.proofs.Rank.{times-step}
 use Rattle.steps.specs.Ready.{HasPlace, nodePart}
 use Rattle.steps.specs.Settled.{Settles}
 use Rattle.search.specs.Searched.{Reaches, First}
-use Rattle.search.specs.Climbing.{CountsAs, HoldsAs, Ascends, FirstAbove, Beside, besideOf}
+use Rattle.search.specs.Climbing.{Ascends, FirstAbove, Beside, besideOf}
+use Rattle.search.proofs.Holding.{CountsAs, HoldsAs}
 use Rattle.search.proofs.Words.{wordOf, side-cases, side-word, part-fits, node-part, node-headed, written-place, end-word}
 use Rattle.search.proofs.ChildReads.{end-place, end-total}
 use Rattle.search.proofs.Rooted.{end-reaches}

@@ -1,4 +1,4 @@
--- The climb by node numbers: what each call of it needs and gives, at the root and below it. Used by proofs; no promise cites it.
+-- The climb by node numbers: what each level of it needs and gives, at the root and below it. Used by proofs; no promise cites it.
 use Prim.Native.Nat.{ℕ, suc, _+_, _-_, _/_, _≤_, _<_}
 use native.Mathlib.Omega.{arith}
 use mathlib.Core.Path.{_≡_, sym, ap, subst, _∙_}
@@ -14,7 +14,8 @@ use Rattle.tree.proofs.Ancestors.{ancestor, ancestor-node, root-height, not-roo
 use Rattle.steps.specs.Ready.{HasPlace, nodeBlock}
 use Rattle.steps.proofs.Places.{places-most}
 use Rattle.search.specs.Stands.{StandsAt}
-use Rattle.search.specs.Climbing.{HoldsAs, Ascends, FirstAbove, Beside, besideOf}
+use Rattle.search.specs.Climbing.{Ascends, FirstAbove, Beside, besideOf}
+use Rattle.search.proofs.Holding.{HoldsAs, Reached, Climbing}
 use Rattle.search.proofs.Ascent.{ascends, above}
 use Rattle.search.proofs.RootStands.{root-place, root-low, root-stands}
 
@@ -69,6 +70,19 @@ module _ {s : Shape} {k i j : ℕ} {starts heads table : List ℕ} {κ : Kind} {
     pub node-first : 1 ≤ v
     node-first = rw node (ancestor-node s k (h .stands .process) j (h .tall) .first)
 
-    pub node-parent : v / 2 ≡ ancestor s k (suc j)
+    node-parent : v / 2 ≡ ancestor s k (suc j)
     unfolding parentOf
     node-parent = ap parentOf node
+
+module _ {starts heads table : List ℕ} {κ : Kind} {leaf serial v place number : ℕ} (c : Climbing starts heads table κ leaf serial v place number) where
+  pub reached-one : Reached (c .stands .shape) (c .stands .process) serial starts heads table κ v place number
+  reached-one = c .reached (c .stands .shape) (c .stands .process) (c .stands .stands)
+
+  pub climbs-up : (v ≡ 1 → ⊥) → (b : ℕ) → FirstAbove starts heads table v place b → Climbing starts heads table κ leaf serial (v / 2) b (number + besideOf starts table κ v b)
+  climbs-up ne b f =
+      record {
+        stands = c .stands;
+        reached = λ s k h.
+            let r = c .reached s k h in
+            record { level = suc (r .level); node = node-parent (r .holds) (r .node); holds = node-above (r .holds) (r .node) ne b f .1 };
+      }

@@ -20,7 +20,7 @@ use Rattle.tree.proofs.Rank.{rank-leaf, times-leaf}
 use Rattle.steps.specs.Ready.{HasPlace, nodeBlock}
 use Rattle.steps.specs.Settled.{Settles}
 use Rattle.search.specs.Stands.{StandsAs}
-use Rattle.search.specs.Climbing.{CountsAs, HoldsAs}
+use Rattle.search.proofs.Holding.{CountsAs, HoldsAs}
 use Rattle.search.proofs.Words.{node-reads, written-place}
 
 module _ (s : Shape) (k : ℕ) (starts heads table : List ℕ) (leaf i : ℕ) (h : StandsAs s k starts heads table leaf i) where

@@ -1,3 +1,4 @@
+pub mod Holding
 pub mod Firsts
 pub mod Words
 pub mod Rooted

@@ -18,7 +18,7 @@ use Rattle.tree.proofs.Climb.{climb-root}
 use Rattle.steps.specs.Ready.{HasPlace, nodeBlock}
 use Rattle.steps.specs.Settled.{Settles}
 use Rattle.search.specs.Stands.{StandsAt}
-use Rattle.search.specs.Climbing.{HoldsAs}
+use Rattle.search.proofs.Holding.{HoldsAs}
 use Rattle.search.proofs.Words.{node-reads, written-place}
 
 module _ (s : Shape) (k i : ℕ) (starts heads table : List ℕ) (κ : Kind) (place number : ℕ) (h : HoldsAs s k i (s .height) starts heads table κ place number) where

@@ -9,9 +9,8 @@ use tree::blocks::total;
 ghost use mathlib.Core.Path.{_≡_};
 ghost use Prim.Native.Nat.{ℕ};
 ghost use Rattle.tree.specs.Shape.{Shape};
-ghost use Rattle.tree.proofs.Ancestors.{ancestor};
 ghost use Rattle.search.specs.Stands.{StandsAs, Stands, StandsAt};
-ghost use Rattle.search.specs.Climbing.{HoldsAs, Holds, Ascends, FirstAbove, Beside, besideOf};
+ghost use Rattle.search.specs.Climbing.{Ascends, FirstAbove, Beside, besideOf};
 
 // The block of v's parent that holds v's block `place`: the first whose end towards v reaches it. The superblock word of v's block is a guess only: the parent's head may
 // have been raised after it was read.
@@ -38,35 +37,9 @@ fn beside(table: &[u32], starts: &[usize; 17], v: u32, b: u32, kind: Kind) -> u3
     total(kind, block_at(table, starts, v - 1, end))
 }
 
-// From v's block `place` up to the root, which is node 1. The number counts v's operations of the kind from its first block on. Counted so, the parent's number is v's and
-// what comes before from the sibling, and only the root's blocks before the operation's own are taken off.
-fn climb(
-    heads: &[u32],
-    table: &[u32],
-    starts: &[usize; 17],
-    v: u32,
-    place: u32,
-    number: u32,
-    kind: Kind,
-) -> Standing
-    requires { ⌜ Holds (now starts) (now heads) (now table) kind v place number ⌝ }
-    ensures { λ r. ⌜ ((s : Shape) (k i j : ℕ) → v ≡ ancestor s k j →
-        HoldsAs s k i j (now (starts .entry)) (now (heads .entry)) (now (table .entry)) kind place number →
-        StandsAt s (now (table .entry)) kind k i r) ⌝ }
-{
-    if v == 1 {
-        let before = total(kind, block_at(table, starts, 1, place - 1));
-        return Standing {
-            block: place,
-            rank: number - before,
-        };
-    }
-    let b = holder(heads, table, starts, v, place);
-    let n = number + beside(table, starts, v, b, kind);
-    climb(heads, table, starts, v / 2, b, n, kind)
-}
-
-// Where operation `serial` of the process with that leaf stands. Its number in the leaf is its block's total.
+// Where operation `serial` of the process with that leaf stands, found from the leaf up to the root, which is node 1. The number counts v's operations of the kind from its
+// first block on. Counted so, a leaf's is its block's total, the parent's is v's and what comes before from the sibling, and only the root's blocks before the operation's
+// own are taken off.
 pub fn standing(
     heads: &[u32],
     table: &[u32],
@@ -80,6 +53,18 @@ pub fn standing(
         StandsAs s k (now (starts .entry)) (now (heads .entry)) (now (table .entry)) leaf serial →
         StandsAt s (now (table .entry)) kind k serial r) ⌝ }
 {
-    let number = total(kind, block_at(table, starts, leaf, serial));
-    climb(heads, table, starts, leaf, serial, number, kind)
+    let mut v = leaf;
+    let mut place = serial;
+    let mut number = total(kind, block_at(table, starts, leaf, serial));
+    while v != 1 {
+        let b = holder(heads, table, starts, v, place);
+        number = number + beside(table, starts, v, b, kind);
+        v = v / 2;
+        place = b;
+    }
+    let before = total(kind, block_at(table, starts, 1, place - 1));
+    Standing {
+        block: place,
+        rank: number - before,
+    }
 }

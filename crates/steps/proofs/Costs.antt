@@ -115,10 +115,10 @@ restAfter s Up w = upCost (depth s (w .node))
 -- from a step, itself included
 unfoldable pub rest : Shape → Step → ℕ
 rest s A = addCost + advanceBelow + upCost (s .height)
-rest s (V1 w a v h) = advanceBelow + restAfter s a w
-rest s (V2 w a v h x) = 2 + restAfter s a w
-rest s (V3 w a v h) = advanceRoot + restAfter s a w
-rest s (R1 v q) = buildCost + tail s v q
+rest s (V1 a w v h) = advanceBelow + restAfter s a w
+rest s (V2 a w v h x) = 2 + restAfter s a w
+rest s (V3 a w v h) = advanceRoot + restAfter s a w
+rest s (R1 q v) = buildCost + tail s v q
 rest s (R2 w) = 2 + helpCost + fromRight + tail s (w .node) (w .second)
 rest s (R3 w c) = 1 + helpCost + fromRight + tail s (w .node) (w .second)
 rest s (R4 w) = fromRight + tail s (w .node) (w .second)
@@ -142,10 +142,10 @@ AfterNodes s Up v = Node s v
 
 abbrev pub StepNodes : Shape → Step → Type 0
 StepNodes s A = Unit {0}
-StepNodes s (V1 w a v h) = AfterNodes s a (w .node)
-StepNodes s (V2 w a v h x) = AfterNodes s a (w .node)
-StepNodes s (V3 w a v h) = AfterNodes s a (w .node)
-StepNodes s (R1 v q) = Inner s v
+StepNodes s (V1 a w v h) = AfterNodes s a (w .node)
+StepNodes s (V2 a w v h x) = AfterNodes s a (w .node)
+StepNodes s (V3 a w v h) = AfterNodes s a (w .node)
+StepNodes s (R1 q v) = Inner s v
 StepNodes s (R2 w) = Inner s (w .node)
 StepNodes s (R3 w c) = Inner s (w .node)
 StepNodes s (R4 w) = Inner s (w .node)
@@ -211,10 +211,10 @@ unfolding step go rest restAfter
 rest-step s tall k kp o m A n =
     let h : ℕ = headOf m (leafOf s k) in
     omega (arith, rest-advance s (record { node = leafOf s k; second = false; head = h }) Up (leafOf s k) h, after-leaf s k kp h)
-rest-step s tall k kp o m (V1 w a v h) n = omega arith
-rest-step s tall k kp o m (V2 w a v h x) n = omega arith
-rest-step s tall k kp o m (V3 w a v h) n = omega (arith, rest-resume s a w n)
-rest-step s tall k kp o m (R1 v q) n = omega arith
+rest-step s tall k kp o m (V1 a w v h) n = omega arith
+rest-step s tall k kp o m (V2 a w v h x) n = omega arith
+rest-step s tall k kp o m (V3 a w v h) n = omega (arith, rest-resume s a w n)
+rest-step s tall k kp o m (R1 q v) n = omega arith
 rest-step s tall k kp o m (R2 w) n = omega arith
 rest-step s tall k kp o m (R3 w c) n = omega (arith, rest-help s m w Right n (leftOf (w .node)) c)
 rest-step s tall k kp o m (R4 w) n = omega arith

@@ -16,10 +16,10 @@ use Rattle.steps.specs.Machine.{isIdle, isQ}
 pub is-q : (n : Step) → isQ n ≡ true → n ≡ Q
 unfolding isQ
 is-q A e = absurd (false≢true e)
-is-q (V1 w a v h) e = absurd (false≢true e)
-is-q (V2 w a v h x) e = absurd (false≢true e)
-is-q (V3 w a v h) e = absurd (false≢true e)
-is-q (R1 v q) e = absurd (false≢true e)
+is-q (V1 a w v h) e = absurd (false≢true e)
+is-q (V2 a w v h x) e = absurd (false≢true e)
+is-q (V3 a w v h) e = absurd (false≢true e)
+is-q (R1 q v) e = absurd (false≢true e)
 is-q (R2 w) e = absurd (false≢true e)
 is-q (R3 w c) e = absurd (false≢true e)
 is-q (R4 w) e = absurd (false≢true e)
@@ -35,10 +35,10 @@ module _ (s : Shape) (k : ℕ) (o : Operation) (m : Memory) where
   pub next-busy : (n : Step) (o' : Operation) (n' : Step) → step s k o m n .next ≡ Busy o' n' → (isQ n ≡ false) × (o ≡ o')
   unfolding step go isQ
   next-busy A o' n' e = (refl, cc)
-  next-busy (V1 w a v h) o' n' e = (refl, cc)
-  next-busy (V2 w a v h x) o' n' e = (refl, cc)
-  next-busy (V3 w a v h) o' n' e = (refl, cc)
-  next-busy (R1 v q) o' n' e = (refl, cc)
+  next-busy (V1 a w v h) o' n' e = (refl, cc)
+  next-busy (V2 a w v h x) o' n' e = (refl, cc)
+  next-busy (V3 a w v h) o' n' e = (refl, cc)
+  next-busy (R1 q v) o' n' e = (refl, cc)
   next-busy (R2 w) o' n' e = (refl, cc)
   next-busy (R3 w c) o' n' e = (refl, cc)
   next-busy (R4 w) o' n' e = (refl, cc)
@@ -53,10 +53,10 @@ module _ (s : Shape) (k : ℕ) (o : Operation) (m : Memory) where
   pub still-busy : (n : Step) → isQ n ≡ false → isIdle (step s k o m n .next) ≡ false
   unfolding step go isQ isIdle
   still-busy A e = refl
-  still-busy (V1 w a v h) e = refl
-  still-busy (V2 w a v h x) e = refl
-  still-busy (V3 w a v h) e = refl
-  still-busy (R1 v q) e = refl
+  still-busy (V1 a w v h) e = refl
+  still-busy (V2 a w v h x) e = refl
+  still-busy (V3 a w v h) e = refl
+  still-busy (R1 q v) e = refl
   still-busy (R2 w) e = refl
   still-busy (R3 w c) e = refl
   still-busy (R4 w) e = refl

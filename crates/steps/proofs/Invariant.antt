@@ -70,10 +70,10 @@ module _ (s : Shape) (m : Memory) (hold : ℕ → Stage) (k : ℕ) (kp : k < pro
 
   pub step-nodes : (n : Step) → Way s m hold k b (stage n) → StepNodes s n
   step-nodes A p = tt
-  step-nodes (V1 w a v h) p = after-nodes w a v h (p .then)
-  step-nodes (V2 w a v h x) p = after-nodes w a v h (p .then)
-  step-nodes (V3 w a v h) p = after-nodes w a v h (p .then)
-  step-nodes (R1 v q) p = rw (p .node) (ancestor-inner s k kp (p .level) (p .low))
+  step-nodes (V1 a w v h) p = after-nodes w a v h (p .then)
+  step-nodes (V2 a w v h x) p = after-nodes w a v h (p .then)
+  step-nodes (V3 a w v h) p = after-nodes w a v h (p .then)
+  step-nodes (R1 q v) p = rw (p .node) (ancestor-inner s k kp (p .level) (p .low))
   step-nodes (R2 w) p = refresh-inner s m hold k kp b w (p .refreshing)
   step-nodes (R3 w c) p = refresh-inner s m hold k kp b w (p .refreshing)
   step-nodes (R4 w) p = refresh-inner s m hold k kp b w (p .refreshing)

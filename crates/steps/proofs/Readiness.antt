@@ -136,10 +136,10 @@ module _ (s : Shape) (tall : s .height ≤ 3) (few : s .most ≤ 500) where
       next : (n : Step) → isQ n ≡ false → OwnLeaf s m k b (stage n) → Way s m hold k b (stage n) → StepNodes s n → Ready starts (m .heads) (m .table) (leafOf s k) n
       unfolding isQ headOf
       next A q own way nodes = adds k b kp within own
-      next (V1 w a v h) q own way nodes = omega (arith, headed v (way .node))
-      next (V2 w a v h x) q own way nodes = (headed v (way .node), has-place v h (way .node) (present v h (way .node) (way .present)))
-      next (V3 w a v h) q own way nodes = (headed v (way .node), omega (arith, present v h (way .node) (way .present), places-most s tall few v))
-      next (R1 v z) q own way nodes = headed v (inner-node s v nodes)
+      next (V1 a w v h) q own way nodes = omega (arith, headed v (way .node))
+      next (V2 a w v h x) q own way nodes = (headed v (way .node), has-place v h (way .node) (present v h (way .node) (way .present)))
+      next (V3 a w v h) q own way nodes = (headed v (way .node), omega (arith, present v h (way .node) (way .present), places-most s tall few v))
+      next (R1 z v) q own way nodes = headed v (inner-node s v nodes)
       next (R2 w) q own way nodes = children w nodes
       next (R3 w c) q own way nodes = (children w nodes, has-part (2 * w .node) (omega arith))
       next (R4 w) q own way nodes = children w nodes

@@ -33,10 +33,10 @@ pub data Stage : Type 0 where
 
 abbrev pub stage : Step → Stage
 stage A = adding
-stage (V1 w a v h) = advancing w a v h
-stage (V2 w a v h x) = advancing w a v h
-stage (V3 w a v h) = advancing w a v h
-stage (R1 v second) = starting v second
+stage (V1 a w v h) = advancing w a v h
+stage (V2 a w v h x) = advancing w a v h
+stage (V3 a w v h) = advancing w a v h
+stage (R1 second v) = starting v second
 stage (R2 w) = building w none
 stage (R3 w c) = building w none
 stage (R4 w) = building w none

@@ -74,10 +74,10 @@ module _ (s : Shape) (k : ℕ) (o : Operation) (m : Memory) where
   pub turn : (n : Step) → Turn s k o m (stage n) (step s k o m n .memory) (stageOf (step s k o m n .next))
   unfolding step go resume
   turn A = rw (stage-advance _ Up (leafOf s k) (headOf m (leafOf s k))) adds
-  turn (V1 w a v h) = rests (advancing w a v h)
-  turn (V2 w a v h x) = supers w a v h x
-  turn (V3 w a v h) = raises w a v h
-  turn (R1 v q) = starts v q
+  turn (V1 a w v h) = rests (advancing w a v h)
+  turn (V2 a w v h x) = supers w a v h x
+  turn (V3 a w v h) = raises w a v h
+  turn (R1 q v) = starts v q
   turn (R2 w) = rests (building w none)
   turn (R3 w c) = help-turn w onLeft c refl
   turn (R4 w) = rests (building w none)

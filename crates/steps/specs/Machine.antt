@@ -41,10 +41,10 @@ isIdle (Busy o n) = false
 
 unfoldable pub isQ : Step → Bool
 isQ A = false
-isQ (V1 w a v h) = false
-isQ (V2 w a v h x) = false
-isQ (V3 w a v h) = false
-isQ (R1 v second) = false
+isQ (V1 a w v h) = false
+isQ (V2 a w v h x) = false
+isQ (V3 a w v h) = false
+isQ (R1 second v) = false
 isQ (R2 w) = false
 isQ (R3 w c) = false
 isQ (R4 w) = false

@@ -71,10 +71,10 @@ module _ (starts heads table : List ℕ) (leaf : ℕ) where
   -- a line a named step; Q is answered elsewhere
   abbrev pub Ready : Step → Type 0
   Ready A = Adds starts heads table leaf
-  Ready (V1 w a v h) = v / 2 < length heads
-  Ready (V2 w a v h x) = (v < length heads) × HasPlace starts table v h
-  Ready (V3 w a v h) = (v < length heads) × (h < 65536)
-  Ready (R1 v second) = v < length heads
+  Ready (V1 a w v h) = v / 2 < length heads
+  Ready (V2 a w v h x) = (v < length heads) × HasPlace starts table v h
+  Ready (V3 a w v h) = (v < length heads) × (h < 65536)
+  Ready (R1 second v) = v < length heads
   Ready (R2 w) = Children heads w
   Ready (R3 w c) = Children heads w × HasPart starts table (2 * w .node)
   Ready (R4 w) = Children heads w

@@ -23,18 +23,18 @@ use Rattle.tree.specs.Size.{rootSize}
 
 -- after the last refresh of v: the parent is refreshed, or after the root Q is done
 unfoldable pub above : ℕ → Step
-above v = if eqb v root then Q else R1 (parentOf v) false
+above v = if eqb v root then Q else R1 false (parentOf v)
 
 -- the first step of what follows an advance
 unfoldable pub resume : After → Visit → Step
 resume Right w = R4 w
 resume Ends w = C1 w
-resume Again w = R1 (w .node) true
+resume Again w = R1 true (w .node)
 resume Up w = above (w .node)
 
 -- advance (v, h), in a visit: V1, V2, V3; at the root, V3 only
 unfoldable pub advance : Visit → After → ℕ → ℕ → Step
-advance w a v h = if eqb v root then V3 w a v h else V1 w a v h
+advance w a v h = if eqb v root then V3 a w v h else V1 a w v h
 
 -- what follows the advance of a refreshed node: a failed first refresh is done a second time; after a first that succeeded, or a second whatever its outcome, go on up
 unfoldable pub afterRefresh : Bool → Bool → After
@@ -93,10 +93,10 @@ module _ (s : Shape) (k : ℕ) (o : Operation) (m : Memory) where
       let v = leafOf s k in
       let h = headOf m v in
       go (write s m v h (plusOperation o (block s m v (h - 1)))) (advance (record { node = v; second = false; head = h }) Up v h)
-  step (V1 w a v h) = go m (V2 w a v h (headOf m (parentOf v)))
-  step (V2 w a v h x) = go (setSuper s m v h x) (V3 w a v h)
-  step (V3 w a v h) = go (raise m v h) (resume a w)
-  step (R1 v second) = go m (R2 (record { node = v; second = second; head = headOf m v }))
+  step (V1 a w v h) = go m (V2 a w v h (headOf m (parentOf v)))
+  step (V2 a w v h x) = go (setSuper s m v h x) (V3 a w v h)
+  step (V3 a w v h) = go (raise m v h) (resume a w)
+  step (R1 second v) = go m (R2 (record { node = v; second = second; head = headOf m v }))
   step (R2 w) = go m (R3 w (headOf m (leftOf (w .node))))
   step (R3 w c) = go m (help s m w Right (leftOf (w .node)) c)
   step (R4 w) = go m (R5 w (headOf m (rightOf (w .node))))

@@ -46,8 +46,8 @@ pub fn step_a(
     write_at(table, starts, leaf, h, plus_operation(o, old));
     let w = Visit {
         node: leaf,
-        second: false,
         head: h,
+        second: false,
     };
     advance(w, After::Up, leaf, h)
 }
@@ -65,12 +65,12 @@ pub fn step_v2(
     requires { ⌜ HasPlace (now starts) (now table) v h ⌝ }
     ensures { λ r. ⌜ ((s : Shape) (k : ℕ) (o : Operation) (heads : List ℕ) → Begins s (now (starts .entry)) v →
         let m : Memory = record { table = now (table .entry); heads = heads } in
-        step s k o m (Step.V2 w a v h x) ≡ go s k o m (record { table = now (table .exit); heads = heads }) r) ⌝ }
+        step s k o m (Step.V2 a w v h x) ≡ go s k o m (record { table = now (table .exit); heads = heads }) r) ⌝ }
 {
     set_super_at(table, starts, v, h, x);
     Step::V3 {
-        visit: w,
         after: a,
+        visit: w,
         node: v,
         place: h,
     }

@@ -43,11 +43,11 @@ pub fn step_v1(heads: &[u32], w: Visit, a: After, v: u32, h: u32) -> Step
     requires { ⌜ v / 2 < length (now heads) ⌝ }
     ensures { λ r. ⌜ ((s : Shape) (k : ℕ) (o : Operation) (t : List ℕ) →
         let m : Memory = record { table = t; heads = now (heads .entry) } in
-        step s k o m (Step.V1 w a v h) ≡ go s k o m m r) ⌝ }
+        step s k o m (Step.V1 a w v h) ≡ go s k o m m r) ⌝ }
 {
     Step::V2 {
-        visit: w,
         after: a,
+        visit: w,
         node: v,
         place: h,
         above: head_of(heads, v / 2),
@@ -59,7 +59,7 @@ pub fn step_v3(heads: &mut [u32], w: Visit, a: After, v: u32, h: u32) -> Step
     requires { ⌜ (v < length (now heads)) × (h < 65536) ⌝ }
     ensures { λ r. ⌜ ((s : Shape) (k : ℕ) (o : Operation) (t : List ℕ) →
         let m : Memory = record { table = t; heads = now (heads .entry) } in
-        step s k o m (Step.V3 w a v h) ≡ go s k o m (record { table = t; heads = now (heads .exit) }) r) ⌝ }
+        step s k o m (Step.V3 a w v h) ≡ go s k o m (record { table = t; heads = now (heads .exit) }) r) ⌝ }
 {
     raise(heads, v, h);
     resume(a, w)
@@ -70,13 +70,13 @@ pub fn step_r1(heads: &[u32], v: u32, second: bool) -> Step
     requires { ⌜ v < length (now heads) ⌝ }
     ensures { λ r. ⌜ ((s : Shape) (k : ℕ) (o : Operation) (t : List ℕ) →
         let m : Memory = record { table = t; heads = now (heads .entry) } in
-        step s k o m (Step.R1 v second) ≡ go s k o m m r) ⌝ }
+        step s k o m (Step.R1 second v) ≡ go s k o m m r) ⌝ }
 {
     Step::R2 {
         visit: Visit {
             node: v,
-            second: second,
             head: head_of(heads, v),
+            second: second,
         },
     }
 }

@@ -1,7 +1,6 @@
 // Processes and their named steps. This crate knows nothing of records.
 pub mod blocks;
 pub mod build;
-pub mod dispatch;
 pub mod heads;
 pub mod nodes;
 pub mod order;
@@ -18,8 +17,8 @@ pub enum Operation {
 // Where an operation is on its way from its leaf to the root: the node, whether this is the second refresh of it, and the head h that was read there.
 pub struct Visit {
     pub node: u32,
-    pub second: bool,
     pub head: u32,
+    pub second: bool,
 }
 
 // What follows an advance: the right half of a refresh's helping (R4), its ends (C1), the second refresh of the node, or the way up: the parent's refresh, or Q after
@@ -45,27 +44,27 @@ pub struct Built {
 pub enum Step {
     A,
     V1 {
-        visit: Visit,
         after: After,
+        visit: Visit,
         node: u32,
         place: u32,
     },
     V2 {
-        visit: Visit,
         after: After,
+        visit: Visit,
         node: u32,
         place: u32,
         above: u32,
     },
     V3 {
-        visit: Visit,
         after: After,
+        visit: Visit,
         node: u32,
         place: u32,
     },
     R1 {
-        node: u32,
         second: bool,
+        node: u32,
     },
     R2 {
         visit: Visit,

@@ -13,8 +13,8 @@ pub fn above(v: u32) -> Step
         return Step::Q;
     }
     Step::R1 {
-        node: v / 2,
         second: false,
+        node: v / 2,
     }
 }
 
@@ -26,8 +26,8 @@ pub fn resume(a: After, w: Visit) -> Step
         After::Right => Step::R4 { visit: w },
         After::Ends => Step::C1 { visit: w },
         After::Again => Step::R1 {
-            node: w.node,
             second: true,
+            node: w.node,
         },
         After::Up => above(w.node),
     }
@@ -39,15 +39,15 @@ pub fn advance(w: Visit, a: After, v: u32, h: u32) -> Step
 {
     if v == 1 {
         return Step::V3 {
-            visit: w,
             after: a,
+            visit: w,
             node: v,
             place: h,
         };
     }
     Step::V1 {
-        visit: w,
         after: a,
+        visit: w,
         node: v,
         place: h,
     }

@@ -1,0 +1,134 @@
+-- A step record in the loop of `play`: what each step needs and leaves. Used by proofs; no promise cites it.
+use Prim.Native.Nat.{ℕ, _+_, _*_, _-_, _≤_, _<_}
+use native.Mathlib.Omega.{arith}
+use mathlib.Core.Path.{_≡_, refl, ap, sym, _∙_, subst}
+use mathlib.Core.Logic.{_⊎_}
+use mathlib.Core.Bool.{false}
+use mathlib.Core.List.{List, [], _∷_, _++_}
+use lib.ListN.{length, take, drop, getD, set}
+use Rattle.record.specs.declared.StepRecord.{StepRecord}
+use Rattle.record.specs.declared.AnswerRecord.{AnswerRecord}
+use Rattle.record.specs.Bytes.{numberOf}
+use Rattle.record.specs.StepRecords.{isStep, stepRecord, stepRecords, illFormed}
+use Rattle.tree.specs.Shape.{Shape, processes, leafOf}
+use Rattle.steps.specs.declared.Operation.{Operation}
+use Rattle.steps.specs.declared.Step.{Step}
+use Rattle.steps.specs.declared.Step.the-variants.{Q}
+use Rattle.steps.specs.declared.Status.the-variants.{Idle, Busy}
+use Rattle.steps.specs.declared.Process.{Process}
+use Rattle.steps.specs.Process.{idle}
+use Rattle.steps.specs.Rules.{step, go}
+use Rattle.steps.specs.Ready.{Begins, Ready}
+use Rattle.steps.proofs.NodeReads.{begins}
+use Rattle.steps.specs.Machine.{isIdle, isQ}
+use Rattle.rules.specs.declared.Refusal.the-variants.{StepWhileIdle, AnswersFull}
+use Rattle.rules.specs.Answer.{answerOf}
+use Rattle.rules.specs.Refusals.{shapeFor}
+use Rattle.rules.specs.Run.{play}
+use Rattle.log.specs.Leading.{leadingOf, written}
+use Rattle.answer.proofs.PlaysLaws.{plays-ready}
+use Rattle.answer.specs.Playing.{machineOf, Plays, Playing}
+use Rattle.player.specs.Turns.{moved, rested}
+use Rattle.player.specs.Playing.{Leaves}
+use Rattle.player.proofs.StepWords.{stepOf, step-formed, words-step}
+use Rattle.player.proofs.StepTurns.{idle-turn, full-turn, last-turn, next-turn}
+use Rattle.player.proofs.Loop.{Loop, loop-narrow, loop-laid, loop-spare, loop-plays, loop-fits, loop-record, loop-refused, loop-moves, loop-finishes}
+
+-- record i, which is before the last one, is a step of process `first`: its words are `first` and 0. j is the place of `first` among the processes
+pub record StepAt (p l : ℕ) (starts records heads₀ table₀ : List ℕ) (room : ℕ) (out₀ log : List ℕ) (n : ℕ) (heads table out : List ℕ) (procs : List Process)
+    (answers equal left i first j : ℕ) : Type 0
+  where
+    pub inv : Loop p l starts records heads₀ table₀ room out₀ log n heads table out procs answers equal left i
+    pub more : i < n
+    pub word : first ≡ numberOf (take 4 (drop (8 * i) records))
+    pub zero : numberOf (take 4 (drop (8 * i + 4) records)) ≡ 0
+    pub low : first < p
+    pub at : j ≡ first
+
+module _ {p l : ℕ} {starts records heads₀ table₀ : List ℕ} {room : ℕ} {out₀ log : List ℕ} {n : ℕ} {heads table out : List ℕ} {procs : List Process}
+    {answers equal left i first j : ℕ}
+    (w : StepAt p l starts records heads₀ table₀ room out₀ log n heads table out procs answers equal left i first j)
+  where
+    abbrev s : Shape
+    s = shapeFor p l
+
+    abbrev rs : List StepRecord
+    rs = stepRecords records
+
+    pub step-low : j < 8
+    step-low = omega (arith, w .at, w .low, loop-narrow (w .inv))
+
+    pub step-begins : (v : ℕ) → v < length heads → Begins s starts v
+    step-begins v h = begins s starts heads v (loop-laid (w .inv)) h
+
+    pub step-leaf : p + first ≡ leafOf s first
+    unfolding leafOf
+    step-leaf = ap (λ (x : ℕ). x + first) (sym (w .inv .width))
+
+    abbrev q : Process
+    q = getD procs j idle
+
+    step-is : stepOf first ≡ getD rs i (stepRecord [])
+    step-is =
+        ap stepOf (w .word) ∙ sym (words-step records (8 * i) (loop-fits (w .inv) (w .more)) (omega (arith, w .low, w .word, loop-narrow (w .inv))) (w .zero)) ∙ loop-record (w .inv) (w .more)
+
+    pub step-plays : Plays s (take (processes s) procs) starts heads table first q
+    step-plays = subst (λ (x : ℕ). Plays s (take (processes s) procs) starts heads table first (getD procs x idle)) (sym (w .at)) (loop-plays (w .inv) first (w .low))
+
+    pub step-playing : Playing p starts heads table first q
+    step-playing = record { shape = s; others = take (processes s) procs; width = w .inv .width; plays = step-plays }
+
+    well : illFormed (processes s) (stepOf first) ≡ false
+    well = step-formed (processes s) first (omega (arith, w .inv .width, w .low))
+
+    pub step-idle : q .status ≡ Idle → Leaves (play s room rs) log out₀ (record { refusal = StepWhileIdle; taken = i; answers = answers; equal = equal }) table heads out
+    unfolding isStep isIdle
+    step-idle e =
+        loop-refused (w .inv) (w .more) (stepOf first) step-is StepWhileIdle
+        (idle-turn s left (take (processes s) procs) starts heads table (stepOf first) q step-plays well refl (ap isIdle e))
+
+    -- any step but Q
+    module _ {o : Operation} {x y : Step} (busy : q .status ≡ Busy o x) (is : x ≡ y) (goes : isQ y ≡ false) where
+      abbrev busy-at : q .status ≡ Busy o y
+      busy-at = busy ∙ ap (Busy o) is
+
+      pub step-ready : Ready starts heads table (p + first) y
+      unfolding leafOf
+      step-ready =
+          subst (λ (v : ℕ). Ready starts heads table v y) (ap (λ (x : ℕ). x + first) (w .inv .width))
+          (plays-ready s (take (processes s) procs) starts heads table first q step-plays o y busy-at goes)
+
+      pub step-moves : (table' heads' : List ℕ) (next : Step) → length heads' ≡ length heads → length table' ≡ length table
+          → step s first o (record { table = table; heads = heads }) y ≡ go s first o (record { table = table; heads = heads }) (record { table = table'; heads = heads' }) next
+          → Loop p l starts records heads₀ table₀ room out₀ log n heads' table' out (set procs j (moved q o next)) answers equal left (i + 1)
+      unfolding isStep
+      step-moves table' heads' next eh et e =
+          subst (λ (y : ℕ). Loop p l starts records heads₀ table₀ room out₀ log n heads' table' out (set procs y (moved q o next)) answers equal left (i + 1)) (sym (w .at))
+          (loop-moves (w .inv) (w .more) (stepOf first) step-is (moved q o next) table' heads' (w .low) eh et
+          (next-turn s left (take (processes s) procs) starts heads table (stepOf first) q step-plays well refl o y busy-at goes (record { table = table'; heads = heads' }) next e))
+
+    -- Q
+    module _ {o : Operation} {x : Step} (busy : q .status ≡ Busy o x) (is : x ≡ Q) where
+      pub finish-busy : q .status ≡ Busy o Q
+      finish-busy = busy ∙ ap (Busy o) is
+
+      pub finish-full : left < 16 → Leaves (play s room rs) log out₀ (record { refusal = AnswersFull; taken = i; answers = answers; equal = equal }) table heads out
+      unfolding isStep isQ
+      finish-full h =
+          loop-refused (w .inv) (w .more) (stepOf first) step-is AnswersFull
+          (full-turn s left (take (processes s) procs) starts heads table (stepOf first) q step-plays well refl o Q finish-busy refl h)
+
+      pub finish-moves : (enough : 16 ≤ left) (a : AnswerRecord) (out' : List ℕ) (equal' : ℕ) → length out' ≡ length out
+          → ((s' : Shape) (ps : List Process) → processes s' ≡ p → Plays s' ps starts heads table first q → a ≡ answerOf s' (machineOf table heads ps) first o)
+          → ((xs : List AnswerRecord) → answers ≡ length xs → equal ≡ leadingOf xs log → equal' ≡ leadingOf (xs ++ (a ∷ [])) log)
+          → ((before : List ℕ) (xs : List AnswerRecord) → answers ≡ length xs → (length before ≡ 0) ⊎ (16 * answers + 16 ≤ length before) → out ≡ written before xs
+          → out' ≡ written before (xs ++ (a ∷ [])))
+          → Loop p l starts records heads₀ table₀ room out₀ log n heads table out' (set procs j (rested q)) (answers + 1) equal' (left - 16) (i + 1)
+      unfolding isStep isQ
+      finish-moves enough a out' equal' eo told-a told-e told-w =
+          let xs : List AnswerRecord = play s room (take i rs) .answers in
+          subst (λ (y : ℕ). Loop p l starts records heads₀ table₀ room out₀ log n heads table out' (set procs y (rested (getD procs y idle))) (answers + 1) equal' (left - 16) (i + 1)) (sym (w .at))
+          (loop-finishes (w .inv) (w .more) (stepOf first) step-is o a out' equal' (w .low) eo
+          (last-turn s left (take (processes s) procs) starts heads table (stepOf first) q step-plays well refl o Q finish-busy refl enough)
+          (told-a s (take (processes s) procs) (w .inv .width) step-plays) enough (told-e xs (w .inv .going .answered) (w .inv .going .same))
+          (told-w out₀ xs (w .inv .going .answered) (loop-spare (w .inv) enough (w .inv .begun .bounded)) (w .inv .going .bytes)))

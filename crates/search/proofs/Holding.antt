@@ -1,0 +1,43 @@
+-- Which block of a node holds an operation, and its number there. Used by proofs; no promise cites it.
+use Prim.Native.Nat.{ℕ, _+_, _-_, _≤_, _<_}
+use mathlib.Core.Path.{_≡_}
+use mathlib.Core.List.{List}
+use Rattle.tree.specs.declared.Kind.{Kind}
+use Rattle.tree.specs.Shape.{Shape, leafOf}
+use Rattle.tree.specs.Blocks.{blockAt}
+use Rattle.tree.specs.Memory.{headOf}
+use Rattle.tree.specs.Order.{total, opened}
+use Rattle.tree.specs.Standing.{times, rankIn}
+use Rattle.tree.proofs.Ancestors.{ancestor}
+use Rattle.tree.proofs.Reach.{reach}
+use Rattle.search.specs.Stands.{StandsAs, Stands, OfKind}
+
+-- Of the operations of kind κ in a node's blocks from place 1 on, `number` says how many stand up to operation i of process k, which is in block `place` of the node of height
+-- j above k's leaf. If the operation is of another kind, the number is within the block's all the same.
+pub record CountsAs (s : Shape) (k i j : ℕ) (table : List ℕ) (κ : Kind) (place number : ℕ) : Type 0 where
+  pub low : total κ (blockAt s table (ancestor s k j) (place - 1)) ≤ number
+  pub high : number ≤ total κ (blockAt s table (ancestor s k j) place)
+  pub inside : OfKind s table κ k i → 1 ≤ times (record { process = k; serial = i }) (opened s table κ j (ancestor s k j) place)
+  pub exact : OfKind s table κ k i
+      → number ≡ total κ (blockAt s table (ancestor s k j) (place - 1)) + rankIn (record { process = k; serial = i }) (opened s table κ j (ancestor s k j) place)
+
+-- in the node of height j above the leaf of process k, block `place` holds operation i of k, and `number` is its number
+pub record HoldsAs (s : Shape) (k i j : ℕ) (starts heads table : List ℕ) (κ : Kind) (place number : ℕ) : Type 0 where
+  pub stands : StandsAs s k starts heads table (leafOf s k) i
+  pub tall : j ≤ s .height
+  pub some : 1 ≤ place
+  pub below : place < headOf (record { table = table; heads = heads }) (ancestor s k j)
+  pub past : reach s (record { table = table; heads = heads }) k j (place - 1) < i
+  pub upto : i ≤ reach s (record { table = table; heads = heads }) k j place
+  pub counts : CountsAs s k i j table κ place number
+
+-- the climb has come to node v: its block `place` holds operation i of process k, and `number` is the operation's number there
+pub record Reached (s : Shape) (k i : ℕ) (starts heads table : List ℕ) (κ : Kind) (v place number : ℕ) : Type 0 where
+  pub level : ℕ
+  pub node : v ≡ ancestor s k level
+  pub holds : HoldsAs s k i level starts heads table κ place number
+
+-- it has done so in each tree and of each process that the leaf and the operation may be of, of which there is one
+pub record Climbing (starts heads table : List ℕ) (κ : Kind) (leaf serial v place number : ℕ) : Type 0 where
+  pub stands : Stands starts heads table leaf serial
+  pub reached : (s : Shape) (k : ℕ) → StandsAs s k starts heads table leaf serial → Reached s k serial starts heads table κ v place number
