@@ -22,10 +22,10 @@ first-room : (xs ys : List ℕ) (at size : ℕ) → at + length (xs ++ ys) ≤ s
 first-room xs ys at size fits = omega (arith, length-append xs ys)
 
 module _ {before : List ℕ} {at : ℕ} {xs middle : List ℕ} {i : ℕ} (first : Stored before at xs middle i) where
-  stored-length : length middle ≡ length before
+  pub stored-length : length middle ≡ length before
   stored-length = ap length (first .bytes) ∙ length-sets before at xs
 
-  stored-then : {ys after : List ℕ} {j : ℕ} → Stored middle i ys after j → Stored before at (xs ++ ys) after j
+  pub stored-then : {ys after : List ℕ} {j : ℕ} → Stored middle i ys after j → Stored before at (xs ++ ys) after j
   stored-then {ys} {after} {j} second =
       record {
         end = rw length-append (omega (arith, first .end, second .end));

@@ -1,4 +1,4 @@
--- Blocks as order records: what the functions that write them store, and the room that they need. Used by contracts of private functions only.
+-- Blocks as order records: what the functions that write them store, and the room that they need.
 use Prim.Native.Nat.{ℕ, _+_, _≤_}
 use mathlib.Core.Path.{_≡_}
 use mathlib.Core.List.{List, flatMap}

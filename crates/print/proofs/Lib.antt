@@ -1,0 +1,5 @@
+pub mod Digits
+pub mod Lengths
+pub mod AnswerLines
+pub mod Inputs
+pub mod ReadBack

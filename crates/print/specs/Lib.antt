@@ -1,0 +1,6 @@
+pub mod Characters
+pub mod Decimal
+pub mod AnswerBytes
+pub mod Lines
+pub mod Printed
+pub mod WorkedRun

@@ -1,0 +1,77 @@
+// The lines of the text.
+use crate::text::put_decimal;
+use crate::text::put_text;
+use record::AnswerRecord;
+use record::Reply;
+ghost use Prim.Native.Nat.{_+_, _≤_};
+ghost use lib.ListN.{length};
+ghost use Rattle.order.specs.Listed.{Stored};
+ghost use Rattle.print.specs.Lines.{operationName, numberField, numberFields, replyField, answerLine, lastLine};
+
+// Put or take.
+fn put_operation(reply: Reply, out: &mut [u8], at: usize) -> usize
+    requires { ⌜ at + length (operationName reply) ≤ length (now out) ⌝ }
+    ensures { λ r. ⌜ Stored (now (out .entry)) at (operationName reply) (now (out .exit)) r ⌝ }
+{
+    match reply {
+        Reply::Done => put_text(b"put", out, at),
+        Reply::Value(_) => put_text(b"take", out, at),
+        Reply::Nothing => put_text(b"take", out, at),
+    }
+}
+
+// A space and a number.
+fn put_number(x: usize, out: &mut [u8], at: usize) -> usize
+    requires { ⌜ at + length (numberField x) ≤ length (now out) ⌝ }
+    ensures { λ r. ⌜ Stored (now (out .entry)) at (numberField x) (now (out .exit)) r ⌝ }
+{
+    let digits = put_text(b" ", out, at);
+    put_decimal(x, out, digits)
+}
+
+// What a take answers; a put has no such field.
+fn put_reply(reply: Reply, out: &mut [u8], at: usize) -> usize
+    requires { ⌜ at + length (replyField reply) ≤ length (now out) ⌝ }
+    ensures { λ r. ⌜ Stored (now (out .entry)) at (replyField reply) (now (out .exit)) r ⌝ }
+{
+    match reply {
+        Reply::Done => at,
+        Reply::Value(x) => put_number(x as usize, out, at),
+        Reply::Nothing => put_text(b" none", out, at),
+    }
+}
+
+// Process, serial, steps and root block.
+fn put_numbers(a: AnswerRecord, out: &mut [u8], at: usize) -> usize
+    requires { ⌜ at + length (numberFields a) ≤ length (now out) ⌝ }
+    ensures { λ r. ⌜ Stored (now (out .entry)) at (numberFields a) (now (out .exit)) r ⌝ }
+{
+    let serial = put_number(a.process as usize, out, at);
+    let steps = put_number(a.serial as usize, out, serial);
+    let block = put_number(a.steps as usize, out, steps);
+    put_number(a.block as usize, out, block)
+}
+
+// The line of an answer.
+pub fn put_line(a: AnswerRecord, out: &mut [u8], at: usize) -> usize
+    requires { ⌜ at + length (answerLine a) ≤ length (now out) ⌝ }
+    ensures { λ r. ⌜ Stored (now (out .entry)) at (answerLine a) (now (out .exit)) r ⌝ }
+{
+    // A field that is an enum is copied before it is passed on.
+    let reply = a.reply;
+    let numbers = put_operation(reply, out, at);
+    let answer = put_numbers(a, out, numbers);
+    let end = put_reply(reply, out, answer);
+    put_text(b"\n", out, end)
+}
+
+// The last line.
+pub fn put_last(refusal: u32, taken: usize, out: &mut [u8], at: usize) -> usize
+    requires { ⌜ at + length (lastLine refusal taken) ≤ length (now out) ⌝ }
+    ensures { λ r. ⌜ Stored (now (out .entry)) at (lastLine refusal taken) (now (out .exit)) r ⌝ }
+{
+    let number = put_text(b"end", out, at);
+    let count = put_number(refusal as usize, out, number);
+    let end = put_number(taken, out, count);
+    put_text(b"\n", out, end)
+}

@@ -1,0 +1,86 @@
+-- `print_input` meets its contract. Assumes nothing.
+use Prim.Native.Nat.{ℕ, _*_, _≤_}
+use native.Mathlib.Omega.{arith}
+use mathlib.Core.Path.{_≡_, ap}
+use mathlib.Core.List.{List}
+use lib.ListN.{length, replicate}
+use borrow.Author.Needs.{needs}
+use Rattle.io.proofs.Counting.{counts}
+use Rattle.base.proofs.Cases.{both}
+use Rattle.record.specs.AnswerRecords.{answerSize}
+use Rattle.record.specs.StepRecords.{stepRecords}
+use Rattle.rules.specs.Refusals.{accepted, shapeFor, callRefusal}
+use Rattle.rules.specs.Run.{RunLeaves, runTurnedDown, runPlayed, run}
+use Rattle.rules.proofs.Played.{played-room}
+use Rattle.order.proofs.Storing.{stored-length}
+use Rattle.queue.specs.declared.Ran.{Ran}
+use Rattle.queue.specs.Left.{runLeft}
+use Rattle.print.specs.Characters.{ascii}
+use Rattle.print.specs.Lines.{longLine}
+use Rattle.print.specs.Printed.{runText}
+use Rattle.print.proofs.Inputs.{printed-long, printed-run}
+use Rattle.print_run.proofs.print_input.Statement.{statement}
+use Rattle.print_run.proofs.print_input.Tie as tie
+
+-- the answers that Run writes have room
+run-room : (p l : ℕ) (records table answers : List ℕ) → 16 * run p l records table answers .answered ≤ length answers
+unfolding run runTurnedDown runPlayed answerSize
+run-room p l records table answers =
+    both (λ (r : RunLeaves). 16 * r .answered ≤ length answers) (accepted (callRefusal p l (length table) (length records)))
+    (played-room (shapeFor p l) (length answers) (stepRecords records)) (omega arith)
+
+few : (r : Ran) (records table answers : List ℕ) → runLeft r table answers ≡ run 4 24 records (replicate 1770 0) (replicate 1536 0) → r .answers ≤ 96
+unfolding runLeft
+few r records table answers e =
+    omega (arith, ap (λ (x : RunLeaves). x .answered) e, run-room 4 24 records (replicate 1770 0) (replicate 1536 0))
+
+slice-aggregate-put-text : tie.Need-slice-aggregate-put-text
+slice-aggregate-put-text c = search needs
+
+put-text-requires : tie.Need-put-text-requires
+put-text-requires c κs = search needs
+
+returns : tie.Need-returns
+unfolding longLine ascii
+returns c = (counts _ _ (omega (arith, stored-length (c .put-text .ensures))), λ input read. rw (printed-long read (c .before .before .before .if1 .taken)) (c .put-text .ensures))
+
+slice-aggregate-run : tie.Need-slice-aggregate-run
+slice-aggregate-run c = search needs
+
+slice-aggregate-run-2 : tie.Need-slice-aggregate-run-2
+slice-aggregate-run-2 c = search needs
+
+run-requires : tie.Need-run-requires
+run-requires c κs = search needs
+
+slice-aggregate-put-printed : tie.Need-slice-aggregate-put-printed
+slice-aggregate-put-printed c = search needs
+
+number-requires : tie.Need-number-requires
+number-requires c κs = search needs
+
+put-printed-requires : tie.Need-put-printed-requires
+put-printed-requires c κs = omega (arith, few _ _ _ _ (c .before .before .before .before .before .run .ensures .0))
+
+returns-2 : tie.Need-returns-2
+unfolding runText runLeft
+returns-2 c =
+    let ran = c .before .before .before .before .before .before .run in (
+      counts _ _ (omega (arith, stored-length (c .put-printed .ensures .0), few _ _ _ _ (ran .ensures .0))),
+      λ input read. rw (printed-run read (c .before .before .before .before .before .before .before .before .before .if1 .left), ← ran .ensures .0, ← c .before .before .number .ensures) (c .put-printed .ensures .0),
+    )
+
+pub print-input-spec : {M : Type 1} → statement M
+print-input-spec =
+    tie.close
+    (tie.spec
+    slice-aggregate-put-text
+    put-text-requires
+    returns
+    slice-aggregate-run
+    slice-aggregate-run-2
+    run-requires
+    slice-aggregate-put-printed
+    number-requires
+    put-printed-requires
+    returns-2)
