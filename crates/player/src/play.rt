@@ -47,7 +47,8 @@ fn ended(refusal: Refusal, taken: usize, answers: usize, equal: usize) -> Outcom
 }
 
 // Plays the records from the start, where there is room for `room` bytes of answers. Each answer is written to `out`, if that has any bytes, and compared with the one in the
-// same place of `log`. A step is told from the other records by two words, which is all that most records are.
+// same place of `log`. A step is told from the other records by two words, which is all that most records are. Each named step has its own arm, which stores the process, so
+// that only the registers that the step changes are written.
 pub fn play(
     p: u32,
     l: u32,

@@ -1,5 +1,5 @@
 -- The starts of the parts give the blocks of the tree's nodes.
-use Prim.Native.Nat.{ℕ, _+_, _*_, _<_}
+use Prim.Native.Nat.{ℕ, _+_, _<_}
 use native.Mathlib.Omega.{arith}
 use mathlib.Core.Path.{_≡_}
 use mathlib.Core.List.{List}
@@ -7,8 +7,7 @@ use lib.ListN.{length, getD}
 use Rattle.tree.specs.Shape.{Shape}
 use Rattle.tree.specs.Blocks.{blockAt}
 use Rattle.tree.proofs.NodeParts.{node-block-at}
-use Rattle.steps.specs.declared.Visit.{Visit}
-use Rattle.steps.specs.Ready.{Begins, Laid, Children, nodePart, nodeBlock}
+use Rattle.steps.specs.Ready.{Begins, Laid, nodePart, nodeBlock}
 
 -- a block that was read by the starts
 pub node-read : (s : Shape) (starts t : List ℕ) (v i : ℕ) → Begins s starts v → nodeBlock starts t v i ≡ blockAt s t v i
@@ -19,14 +18,3 @@ node-read s starts t v i b = node-block-at s v (getD starts v 0) (getD starts (v
 pub begins : (s : Shape) (starts heads : List ℕ) (v : ℕ) → Laid s starts heads → v < length heads → Begins s starts v
 begins s starts heads v l h =
     record { start = l .parts v (omega (arith, l .nodes)); end = l .parts (v + 1) (omega (arith, l .nodes)) }
-
--- the node that is refreshed, and its children
-module _ (s : Shape) (starts heads : List ℕ) (w : Visit) (l : Laid s starts heads) (c : Children heads w) where
-  pub begins-node : Begins s starts (w .node)
-  begins-node = begins s starts heads (w .node) l (omega arith)
-
-  pub begins-left : Begins s starts (2 * w .node)
-  begins-left = begins s starts heads (2 * w .node) l (omega arith)
-
-  pub begins-right : Begins s starts (2 * w .node + 1)
-  begins-right = begins s starts heads (2 * w .node + 1) l (c .both)

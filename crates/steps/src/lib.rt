@@ -40,7 +40,7 @@ pub struct Built {
 }
 
 // The named steps, each with its own registers. An advance (node, place) keeps the visit that it is part of; `above` is the head of the parent. `child` is the head of a
-// child, `left` and `right` are the ends.
+// child, `left` and `right` are the ends. A field of one byte stands first, beside the tag, so that no step reads a word where another step wrote a byte, which is slow.
 pub enum Step {
     A,
     V1 {

@@ -90,9 +90,14 @@ well : (c : tie.Else4 Inv-loop μ-loop)
     → illFormed (c .before .before .before .before .before .before .before .before .before .before .before .before .before .before .args .p) (c .before .before .step-record .result) ≡ false
 well c = sym (c .before .ill-formed .ensures) ∙ c .if4 .left
 
--- where its process is idle
+-- after its process was found
+low : (w : tie.After-wide2 Inv-loop μ-loop) → w .wide2 .result < 8
+low w = begin-low (other-at (w .before .before .before)) (well (w .before)) (w .wide2 .ensures)
+
+-- where that process is idle
 idles : (c : tie.Else5 Inv-loop μ-loop)
-    → isIdle (getD (c .before .before .before .before .before .before .before .before .before .before .before .loop .procs) (c .before .before .before .wide2 .result) (record { status = Idle; begun = 0; steps = 0 }) .status) ≡ true
+    → isIdle (getD (c .before .before .before .before .before .before .before .before .before .before .before .loop .procs) (c .before .before .before .wide2 .result) idle .status) ≡ true
+unfolding idle
 idles c = sym (c .before .is-idle .ensures) ∙ not-false _ (c .if5 .left)
 
 -- ---- what the steps need, what each turn leaves, and how the loop ends
@@ -321,29 +326,39 @@ ready-q c κs =
 again-q : tie.Need-loop-again-14 Inv-loop μ-loop
 unfolding idle
 again-q c =
-    let b = c .before .before .before .before .before .before .before .before .before .before .before .before in
+    let w = c .before .before .before in
+    let e = w .before .before .before .before .before .before in
+    let b = e .before .before .before in
     rw (c .rested .ensures)
-    (finish-moves (found b) (b .before .status .given .1) (c .before .before .before .before .before .before .before .before .before .before .enum-told3 .given .1) (c .before .before .before .before .before .before .before .before .before .if3 .left) _ _ _ (c .before .before .before .write-answer .kept .0)
-    (c .before .before .before .before .before .before .answer-of .ensures .0) (c .before .before .before .before .before .equal-after .ensures) (c .before .before .before .write-answer .ensures))
+    (finish-moves (found b) (b .before .status .given .1) (e .before .enum-told3 .given .1) (e .if3 .left) _ _ _ (w .write-answer .kept .0)
+    (w .before .before .before .answer-of .ensures .0) (w .before .before .equal-after .ensures) (w .write-answer .ensures))
 
 refused-ill : tie.Need-returns-3 Inv-loop μ-loop
 refused-ill c = rw (c .ended3 .ensures) (other-ill (other-at (c .before .before .before)) (sym (c .before .before .ill-formed .ensures) ∙ c .before .if4 .taken))
 
 refused-busy : tie.Need-returns-4 Inv-loop μ-loop
 unfolding idle
-refused-busy c = rw (c .ended4 .ensures) (begin-busy (other-at (c .before .before .before .before .before .before .before)) (well (c .before .before .before .before .before)) (c .before .before .before .before .wide2 .ensures) (sym (c .before .before .is-idle .ensures) ∙ not-true _ (c .before .if5 .taken)))
+refused-busy c =
+    let w = c .before .before .before .before in
+    rw (c .ended4 .ensures) (begin-busy (other-at (w .before .before .before)) (well (w .before)) (w .wide2 .ensures) (sym (c .before .before .is-idle .ensures) ∙ not-true _ (c .before .if5 .taken)))
 
 refused-all : tie.Need-returns-5 Inv-loop μ-loop
 unfolding idle
-refused-all c = rw (c .ended5 .ensures) (begin-all (other-at (c .before .before .before .before .before .before .before .before .before)) (well (c .before .before .before .before .before .before .before)) (c .before .before .before .before .before .before .wide2 .ensures) (idles (c .before .before .before)) (c .before .if6 .taken))
+refused-all c =
+    let w = c .before .before .before .before .before .before in
+    rw (c .ended5 .ensures) (begin-all (other-at (w .before .before .before)) (well (w .before)) (w .wide2 .ensures) (idles (c .before .before .before)) (c .before .if6 .taken))
 
 opened-requires : tie.Need-opened-requires Inv-loop μ-loop
 unfolding idle
-opened-requires c κs = omega (arith, begin-few (other-at (c .before .before .before .before .before .before .before .before)) (well (c .before .before .before .before .before .before)) (c .before .before .before .before .before .wide2 .ensures))
+opened-requires c κs =
+    let w = c .before .before .before .before .before in
+    omega (arith, begin-few (other-at (w .before .before .before)) (well (w .before)) (w .wide2 .ensures))
 
 again-begin : tie.Need-loop-again-15 Inv-loop μ-loop
 unfolding idle
-again-begin c = rw (c .opened .ensures) (begin-moves (other-at (c .before .before .before .before .before .before .before .before .before)) (well (c .before .before .before .before .before .before .before)) (c .before .before .before .before .before .before .wide2 .ensures) (idles (c .before .before .before)) (c .before .if6 .left))
+again-begin c =
+    let w = c .before .before .before .before .before .before in
+    rw (c .opened .ensures) (begin-moves (other-at (w .before .before .before)) (well (w .before)) (w .wide2 .ensures) (idles (c .before .before .before)) (c .before .if6 .left))
 
 ends : tie.Need-returns-6 Inv-loop μ-loop
 ends c = rw (c .ended6 .ensures) (loop-ends (c .before .before .loop .inv) (c .before .loop-test .left))
@@ -521,7 +536,7 @@ play-spec =
     -- a begin
     (λ c κs. search needs)
     (λ c. search needs)
-    (λ c. begin-low (other-at (c .before .before .before)) (well (c .before)) (c .wide2 .ensures))
+    (λ c. low c)
     (λ c κs. search needs)
     (λ c κs. search needs)
     (λ c. search needs)
@@ -534,8 +549,8 @@ play-spec =
     (λ c. search needs)
     refused-all
     opened-requires
-    (λ c. record { fits = omega (arith, begin-low (other-at (c .before .before .before .before .before .before .before .before .before)) (well (c .before .before .before .before .before .before .before)) (c .before .before .before .before .before .before .wide2 .ensures)) })
-    (λ c. begin-low (other-at (c .before .before .before .before .before .before .before .before .before)) (well (c .before .before .before .before .before .before .before)) (c .before .before .before .before .before .before .wide2 .ensures))
+    (λ c. record { fits = omega (arith, low (c .before .before .before .before .before .before)) })
+    (λ c. low (c .before .before .before .before .before .before))
     (λ c. record { fits = few (c .before .before .before .before .before .before .before .before .before .before .before .before .before) })
     (λ c. search needs)
     again-begin
