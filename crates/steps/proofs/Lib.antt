@@ -1,5 +1,6 @@
 pub mod Entries
 pub mod NodeReads
+pub mod Told
 pub mod Stages
 pub mod Turns
 pub mod Progress

@@ -52,27 +52,34 @@ pub fn step_a(
     advance(w, After::Up, leaf, h)
 }
 
-// V2: v's block gets its superblock, if it has none yet. x is the parent's head as it was read.
-pub fn step_v2(
-    table: &mut [u32],
-    starts: &[usize; 17],
-    w: Visit,
-    a: After,
-    v: u32,
-    h: u32,
-    x: u32,
-) -> Step
-    requires { ⌜ HasPlace (now starts) (now table) v h ⌝ }
-    ensures { λ r. ⌜ ((s : Shape) (k : ℕ) (o : Operation) (heads : List ℕ) → Begins s (now (starts .entry)) v →
+// V2: v's block gets its superblock, if it has none yet: the parent's head as V1 read it.
+pub fn step_v2(table: &mut [u32], starts: &[usize; 17], n: Step) -> Step
+    requires { ⌜ ((a : After) (w : Visit) (v h x : ℕ) → n ≡ Step.V2 a w v h x → HasPlace (now starts) (now table) v h) ⌝ }
+    ensures { λ r. ⌜ ((s : Shape) (k : ℕ) (o : Operation) (heads : List ℕ) (a : After) (w : Visit) (v h x : ℕ) → n ≡ Step.V2 a w v h x →
+        Begins s (now (starts .entry)) v →
         let m : Memory = record { table = now (table .entry); heads = heads } in
-        step s k o m (Step.V2 a w v h x) ≡ go s k o m (record { table = now (table .exit); heads = heads }) r) ⌝ }
+        step s k o m n ≡ go s k o m (record { table = now (table .exit); heads = heads }) r) ⌝ }
 {
-    set_super_at(table, starts, v, h, x);
+    let Step::V2 {
+        after,
+        visit,
+        node,
+        place,
+        above,
+    } = n
+    else {
+        return n;
+    };
+    set_super_at(table, starts, node, place, above);
     Step::V3 {
-        after: a,
-        visit: w,
-        node: v,
-        place: h,
+        after: after,
+        visit: Visit {
+            node: visit.node,
+            head: visit.head,
+            second: visit.second,
+        },
+        node: node,
+        place: place,
     }
 }
 
@@ -87,31 +94,45 @@ fn help(missing: bool, w: Visit, a: After, child: u32, c: u32) -> Step
 }
 
 // R3: the left child's block at the head that was read is looked at.
-pub fn step_r3(table: &[u32], starts: &[usize; 17], w: Visit, c: u32) -> Step
-    requires { ⌜ HasPart (now starts) (now table) (2 * w .node) ⌝ }
-    ensures { λ r. ⌜ ((s : Shape) (k : ℕ) (o : Operation) (heads : List ℕ) → Begins s (now (starts .entry)) (2 * w .node) →
+pub fn step_r3(table: &[u32], starts: &[usize; 17], n: Step) -> Step
+    requires { ⌜ ((w : Visit) (c : ℕ) → n ≡ Step.R3 w c → HasPart (now starts) (now table) (2 * w .node)) ⌝ }
+    ensures { λ r. ⌜ ((s : Shape) (k : ℕ) (o : Operation) (heads : List ℕ) (w : Visit) (c : ℕ) → n ≡ Step.R3 w c →
+        Begins s (now (starts .entry)) (2 * w .node) →
         let m : Memory = record { table = now (table .entry); heads = heads } in
-        step s k o m (Step.R3 w c) ≡ go s k o m m r) ⌝ }
+        step s k o m n ≡ go s k o m m r) ⌝ }
 {
-    let child = 2 * w.node;
+    let Step::R3 { visit, child } = n else {
+        return n;
+    };
+    let v = 2 * visit.node;
     help(
-        absent_at(table, starts, child, c),
-        w,
+        absent_at(table, starts, v, child),
+        visit,
         After::Right,
+        v,
         child,
-        c,
     )
 }
 
 // R5: the same of the right child.
-pub fn step_r5(table: &[u32], starts: &[usize; 17], w: Visit, c: u32) -> Step
-    requires { ⌜ HasPart (now starts) (now table) (2 * w .node + 1) ⌝ }
-    ensures { λ r. ⌜ ((s : Shape) (k : ℕ) (o : Operation) (heads : List ℕ) → Begins s (now (starts .entry)) (2 * w .node + 1) →
+pub fn step_r5(table: &[u32], starts: &[usize; 17], n: Step) -> Step
+    requires { ⌜ ((w : Visit) (c : ℕ) → n ≡ Step.R5 w c → HasPart (now starts) (now table) (2 * w .node + 1)) ⌝ }
+    ensures { λ r. ⌜ ((s : Shape) (k : ℕ) (o : Operation) (heads : List ℕ) (w : Visit) (c : ℕ) → n ≡ Step.R5 w c →
+        Begins s (now (starts .entry)) (2 * w .node + 1) →
         let m : Memory = record { table = now (table .entry); heads = heads } in
-        step s k o m (Step.R5 w c) ≡ go s k o m m r) ⌝ }
+        step s k o m n ≡ go s k o m m r) ⌝ }
 {
-    let child = 2 * w.node + 1;
-    help(absent_at(table, starts, child, c), w, After::Ends, child, c)
+    let Step::R5 { visit, child } = n else {
+        return n;
+    };
+    let v = 2 * visit.node + 1;
+    help(
+        absent_at(table, starts, v, child),
+        visit,
+        After::Ends,
+        v,
+        child,
+    )
 }
 
 // A block that would add nothing is not written: the operation is in a block of the node already.
@@ -124,28 +145,36 @@ fn settle(w: Visit, n: Built, old: Block) -> Step
     Step::C4 { visit: w, built: n }
 }
 
-// C3: the block is made of the children's blocks at the ends l and r.
-pub fn step_c3(table: &[u32], starts: &[usize; 17], w: Visit, l: u32, r: u32) -> Step
-    requires { ⌜ Builds (now starts) (now table) w l r ⌝ }
-    ensures { λ n. ⌜ ((s : Shape) (k : ℕ) (o : Operation) (heads : List ℕ) →
+// C3: the block is made of the children's blocks at the ends that C1 and C2 found.
+pub fn step_c3(table: &[u32], starts: &[usize; 17], n: Step) -> Step
+    requires { ⌜ ((w : Visit) (l r : ℕ) → n ≡ Step.C3 w l r → Builds (now starts) (now table) w l r) ⌝ }
+    ensures { λ z. ⌜ ((s : Shape) (k : ℕ) (o : Operation) (heads : List ℕ) (w : Visit) (l r : ℕ) → n ≡ Step.C3 w l r →
         Begins s (now (starts .entry)) (w .node) → Begins s (now (starts .entry)) (2 * w .node) → Begins s (now (starts .entry)) (2 * w .node + 1) →
         let m : Memory = record { table = now (table .entry); heads = heads } in
-        step s k o m (Step.C3 w l r) ≡ go s k o m m n) ⌝ }
+        step s k o m n ≡ go s k o m m z) ⌝ }
 {
-    let v = w.node;
-    let old = block_at(table, starts, v, w.head - 1);
-    let x = block_at(table, starts, 2 * v, l);
-    let y = block_at(table, starts, 2 * v + 1, r);
-    settle(w, joined(v, old, x, y, l, r), old)
+    let Step::C3 { visit, left, right } = n else {
+        return n;
+    };
+    let v = visit.node;
+    let old = block_at(table, starts, v, visit.head - 1);
+    let x = block_at(table, starts, 2 * v, left);
+    let y = block_at(table, starts, 2 * v + 1, right);
+    settle(visit, joined(v, old, x, y, left, right), old)
 }
 
 // C4: the block is written if its place is still empty. The refresh has then succeeded.
-pub fn step_c4(table: &mut [u32], starts: &[usize; 17], w: Visit, n: Built) -> Step
-    requires { ⌜ HasPlace (now starts) (now table) (w .node) (w .head) ⌝ }
-    ensures { λ r. ⌜ ((s : Shape) (k : ℕ) (o : Operation) (heads : List ℕ) → Begins s (now (starts .entry)) (w .node) →
+pub fn step_c4(table: &mut [u32], starts: &[usize; 17], n: Step) -> Step
+    requires { ⌜ ((w : Visit) (b : Built) → n ≡ Step.C4 w b → HasPlace (now starts) (now table) (w .node) (w .head)) ⌝ }
+    ensures { λ r. ⌜ ((s : Shape) (k : ℕ) (o : Operation) (heads : List ℕ) (w : Visit) (b : Built) → n ≡ Step.C4 w b →
+        Begins s (now (starts .entry)) (w .node) →
         let m : Memory = record { table = now (table .entry); heads = heads } in
-        step s k o m (Step.C4 w n) ≡ go s k o m (record { table = now (table .exit); heads = heads }) r) ⌝ }
+        step s k o m n ≡ go s k o m (record { table = now (table .exit); heads = heads }) r) ⌝ }
 {
-    let success = write_if_absent(table, starts, w.node, w.head, block_of(n));
-    advance(w, after_refresh(w.second, success), w.node, w.head)
+    let Step::C4 { visit, built } = n else {
+        return n;
+    };
+    let v = visit.node;
+    let success = write_if_absent(table, starts, v, visit.head, block_of(built));
+    advance(visit, after_refresh(visit.second, success), v, visit.head)
 }

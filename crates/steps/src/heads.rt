@@ -4,6 +4,7 @@ use crate::Step;
 use crate::Visit;
 use crate::order::resume;
 ghost use mathlib.Core.Path.{_≡_};
+ghost use mathlib.Core.Bool.{Bool};
 ghost use mathlib.Core.List.{List, []};
 ghost use Prim.Native.Nat.{ℕ, _+_, _*_, _/_, _≤_, _<_};
 ghost use lib.ListN.{length, getD};
@@ -39,97 +40,134 @@ pub fn raise(heads: &mut [u32], v: u32, h: u32)
 }
 
 // V1: the parent's head is what v's block is to remember as its superblock.
-pub fn step_v1(heads: &[u32], w: Visit, a: After, v: u32, h: u32) -> Step
-    requires { ⌜ v / 2 < length (now heads) ⌝ }
-    ensures { λ r. ⌜ ((s : Shape) (k : ℕ) (o : Operation) (t : List ℕ) →
+pub fn step_v1(heads: &[u32], n: Step) -> Step
+    requires { ⌜ ((a : After) (w : Visit) (v h : ℕ) → n ≡ Step.V1 a w v h → v / 2 < length (now heads)) ⌝ }
+    ensures { λ r. ⌜ ((s : Shape) (k : ℕ) (o : Operation) (t : List ℕ) (a : After) (w : Visit) (v h : ℕ) → n ≡ Step.V1 a w v h →
         let m : Memory = record { table = t; heads = now (heads .entry) } in
-        step s k o m (Step.V1 a w v h) ≡ go s k o m m r) ⌝ }
+        step s k o m n ≡ go s k o m m r) ⌝ }
 {
+    let Step::V1 {
+        after,
+        visit,
+        node,
+        place,
+    } = n
+    else {
+        return n;
+    };
     Step::V2 {
-        after: a,
-        visit: w,
-        node: v,
-        place: h,
-        above: head_of(heads, v / 2),
+        after: after,
+        visit: Visit {
+            node: visit.node,
+            head: visit.head,
+            second: visit.second,
+        },
+        node: node,
+        place: place,
+        above: head_of(heads, node / 2),
     }
 }
 
 // V3: the head of v is raised past the block at h, and what was put off goes on.
-pub fn step_v3(heads: &mut [u32], w: Visit, a: After, v: u32, h: u32) -> Step
-    requires { ⌜ (v < length (now heads)) × (h < 65536) ⌝ }
-    ensures { λ r. ⌜ ((s : Shape) (k : ℕ) (o : Operation) (t : List ℕ) →
+pub fn step_v3(heads: &mut [u32], n: Step) -> Step
+    requires { ⌜ ((a : After) (w : Visit) (v h : ℕ) → n ≡ Step.V3 a w v h → (v < length (now heads)) × (h < 65536)) ⌝ }
+    ensures { λ r. ⌜ ((s : Shape) (k : ℕ) (o : Operation) (t : List ℕ) (a : After) (w : Visit) (v h : ℕ) → n ≡ Step.V3 a w v h →
         let m : Memory = record { table = t; heads = now (heads .entry) } in
-        step s k o m (Step.V3 a w v h) ≡ go s k o m (record { table = t; heads = now (heads .exit) }) r) ⌝ }
+        step s k o m n ≡ go s k o m (record { table = t; heads = now (heads .exit) }) r) ⌝ }
 {
-    raise(heads, v, h);
-    resume(a, w)
+    let Step::V3 {
+        after,
+        visit,
+        node,
+        place,
+    } = n
+    else {
+        return n;
+    };
+    raise(heads, node, place);
+    resume(after, visit)
 }
 
 // R1: the head of v is the place at which this refresh is to write.
-pub fn step_r1(heads: &[u32], v: u32, second: bool) -> Step
-    requires { ⌜ v < length (now heads) ⌝ }
-    ensures { λ r. ⌜ ((s : Shape) (k : ℕ) (o : Operation) (t : List ℕ) →
+pub fn step_r1(heads: &[u32], n: Step) -> Step
+    requires { ⌜ ((b : Bool) (v : ℕ) → n ≡ Step.R1 b v → v < length (now heads)) ⌝ }
+    ensures { λ r. ⌜ ((s : Shape) (k : ℕ) (o : Operation) (t : List ℕ) (b : Bool) (v : ℕ) → n ≡ Step.R1 b v →
         let m : Memory = record { table = t; heads = now (heads .entry) } in
-        step s k o m (Step.R1 second v) ≡ go s k o m m r) ⌝ }
+        step s k o m n ≡ go s k o m m r) ⌝ }
 {
+    let Step::R1 { second, node } = n else {
+        return n;
+    };
     Step::R2 {
         visit: Visit {
-            node: v,
-            head: head_of(heads, v),
+            node: node,
+            head: head_of(heads, node),
             second: second,
         },
     }
 }
 
 // R2: the left child's head, where a block may stand that its writer has not advanced yet.
-pub fn step_r2(heads: &[u32], w: Visit) -> Step
-    requires { ⌜ Children (now heads) w ⌝ }
-    ensures { λ r. ⌜ ((s : Shape) (k : ℕ) (o : Operation) (t : List ℕ) →
+pub fn step_r2(heads: &[u32], n: Step) -> Step
+    requires { ⌜ ((w : Visit) → n ≡ Step.R2 w → Children (now heads) w) ⌝ }
+    ensures { λ r. ⌜ ((s : Shape) (k : ℕ) (o : Operation) (t : List ℕ) (w : Visit) → n ≡ Step.R2 w →
         let m : Memory = record { table = t; heads = now (heads .entry) } in
-        step s k o m (Step.R2 w) ≡ go s k o m m r) ⌝ }
+        step s k o m n ≡ go s k o m m r) ⌝ }
 {
+    let Step::R2 { visit } = n else {
+        return n;
+    };
     Step::R3 {
-        visit: w,
-        child: head_of(heads, 2 * w.node),
+        visit: visit,
+        child: head_of(heads, 2 * visit.node),
     }
 }
 
 // R4: the same of the right child.
-pub fn step_r4(heads: &[u32], w: Visit) -> Step
-    requires { ⌜ Children (now heads) w ⌝ }
-    ensures { λ r. ⌜ ((s : Shape) (k : ℕ) (o : Operation) (t : List ℕ) →
+pub fn step_r4(heads: &[u32], n: Step) -> Step
+    requires { ⌜ ((w : Visit) → n ≡ Step.R4 w → Children (now heads) w) ⌝ }
+    ensures { λ r. ⌜ ((s : Shape) (k : ℕ) (o : Operation) (t : List ℕ) (w : Visit) → n ≡ Step.R4 w →
         let m : Memory = record { table = t; heads = now (heads .entry) } in
-        step s k o m (Step.R4 w) ≡ go s k o m m r) ⌝ }
+        step s k o m n ≡ go s k o m m r) ⌝ }
 {
+    let Step::R4 { visit } = n else {
+        return n;
+    };
     Step::R5 {
-        visit: w,
-        child: head_of(heads, 2 * w.node + 1),
+        visit: visit,
+        child: head_of(heads, 2 * visit.node + 1),
     }
 }
 
 // C1: the left end is the last block below the left child's head, which is at least 1.
-pub fn step_c1(heads: &[u32], w: Visit) -> Step
-    requires { ⌜ Children (now heads) w × (1 ≤ getD (now heads) (2 * w .node) 1) ⌝ }
-    ensures { λ r. ⌜ ((s : Shape) (k : ℕ) (o : Operation) (t : List ℕ) →
+pub fn step_c1(heads: &[u32], n: Step) -> Step
+    requires { ⌜ ((w : Visit) → n ≡ Step.C1 w → Children (now heads) w × (1 ≤ getD (now heads) (2 * w .node) 1)) ⌝ }
+    ensures { λ r. ⌜ ((s : Shape) (k : ℕ) (o : Operation) (t : List ℕ) (w : Visit) → n ≡ Step.C1 w →
         let m : Memory = record { table = t; heads = now (heads .entry) } in
-        step s k o m (Step.C1 w) ≡ go s k o m m r) ⌝ }
+        step s k o m n ≡ go s k o m m r) ⌝ }
 {
+    let Step::C1 { visit } = n else {
+        return n;
+    };
     Step::C2 {
-        visit: w,
-        left: head_of(heads, 2 * w.node) - 1,
+        visit: visit,
+        left: head_of(heads, 2 * visit.node) - 1,
     }
 }
 
 // C2: the same of the right child.
-pub fn step_c2(heads: &[u32], w: Visit, l: u32) -> Step
-    requires { ⌜ Children (now heads) w × (1 ≤ getD (now heads) (2 * w .node + 1) 1) ⌝ }
-    ensures { λ r. ⌜ ((s : Shape) (k : ℕ) (o : Operation) (t : List ℕ) →
+pub fn step_c2(heads: &[u32], n: Step) -> Step
+    requires { ⌜ ((w : Visit) (l : ℕ) → n ≡ Step.C2 w l → Children (now heads) w × (1 ≤ getD (now heads) (2 * w .node + 1) 1)) ⌝ }
+    ensures { λ r. ⌜ ((s : Shape) (k : ℕ) (o : Operation) (t : List ℕ) (w : Visit) (l : ℕ) → n ≡ Step.C2 w l →
         let m : Memory = record { table = t; heads = now (heads .entry) } in
-        step s k o m (Step.C2 w l) ≡ go s k o m m r) ⌝ }
+        step s k o m n ≡ go s k o m m r) ⌝ }
 {
+    let Step::C2 { visit, left } = n else {
+        return n;
+    };
     Step::C3 {
-        visit: w,
-        left: l,
-        right: head_of(heads, 2 * w.node + 1) - 1,
+        visit: visit,
+        left: left,
+        right: head_of(heads, 2 * visit.node + 1) - 1,
     }
 }

@@ -3,64 +3,67 @@ use Rattle.tree.specs.Shape.{leftOf, rightOf}
 use Rattle.tree.specs.Memory.{block}
 use Rattle.steps.specs.Rules.{built, step, go}
 use Rattle.steps.proofs.NodeReads.{node-read}
+use Rattle.steps.proofs.Told.{begun, other}
 use borrow.Author.Needs.{needs}
 use Rattle.steps.proofs.blocks.step_c3.Statement.{statement}
 use Rattle.steps.proofs.blocks.step_c3.Tie as tie
 
+enum-known-n : tie.Need-enum-known-n
+enum-known-n c = search needs
+
+returns : tie.Need-returns
+returns c = λ s k o heads w l r e i x y. absurd (other (c .match .keys2) e tt)
+
 sub-block-at : tie.Need-sub-block-at
-sub-block-at c = search needs
+sub-block-at c =
+    let p = c .before .before .before .before .before .pre _ _ _ (c .before .before .n .given .1) in
+    search needs
 
 block-at-requires : tie.Need-block-at-requires
-block-at-requires c κs = search needs
+block-at-requires c κs =
+    let p = c .before .before .before .before .before .pre _ _ _ (c .before .before .n .given .1) in
+    search needs
 
 mul-block-at : tie.Need-mul-block-at
-mul-block-at c = search needs
+mul-block-at c =
+    let p = c .before .before .before .before .before .before .pre _ _ _ (c .before .before .before .n .given .1) in
+    search needs
 
 block-at-requires-2 : tie.Need-block-at-requires-2
-block-at-requires-2 c κs = search needs
+block-at-requires-2 c κs =
+    let p = c .before .before .before .before .before .before .pre _ _ _ (c .before .before .before .n .given .1) in
+    search needs
 
 mul-block-at-2 : tie.Need-mul-block-at-2
-mul-block-at-2 c = search needs
+mul-block-at-2 c =
+    let p = c .before .before .before .before .before .before .before .pre _ _ _ (c .before .before .before .before .n .given .1) in
+    search needs
 
 add-block-at : tie.Need-add-block-at
-add-block-at c = search needs
+add-block-at c =
+    let p = c .before .before .before .before .before .before .before .pre _ _ _ (c .before .before .before .before .n .given .1) in
+    search needs
 
 block-at-requires-3 : tie.Need-block-at-requires-3
-block-at-requires-3 c κs = search needs
+block-at-requires-3 c κs =
+    let p = c .before .before .before .before .before .before .before .pre _ _ _ (c .before .before .before .before .n .given .1) in
+    search needs
 
 joined-requires : tie.Need-joined-requires
-joined-requires c κs = let p = c .before .before .before .before .before .pre in
+joined-requires c κs =
+    let p = c .before .before .before .before .before .before .before .before .pre _ _ _ (c .before .before .before .before .before .n .given .1) in
     rw (c .block-at3 .ensures, c .before .block-at2 .ensures, c .before .before .block-at .ensures) ((p .puts, p .takes, p .size), (p .putsRise, p .takesRise))
 
 settle-requires : tie.Need-settle-requires
 settle-requires c κs = search needs
 
-returns : tie.Need-returns
+returns-2 : tie.Need-returns-2
 unfolding step go built block leftOf rightOf
-returns c = λ s k o heads n x y.
-    let a = c .before .before .before .before .before .before .before .args in
-    rw (
-      c .settle .ensures,
-      c .before .joined .ensures,
-      c .before .before .block-at3 .ensures,
-      c .before .before .before .block-at2 .ensures,
-      c .before .before .before .before .block-at .ensures,
-      node-read s (a .starts .now) (a .table .now) (a .w .node) _ n,
-      node-read s (a .starts .now) (a .table .now) _ (a .l) x,
-      node-read s (a .starts .now) (a .table .now) _ (a .r) y,
-    )
+returns-2 c = λ s k o heads w l r e i x y.
+    let a = c .before .before .before .before .before .before .before .before .before .before .args in
+    let told = c .before .before .before .before .before .before .before .n .given .1 in
+    let g = begun s (a .starts .now) e told (i, x, y) in
+    rw (told, c .settle .ensures, c .before .joined .ensures, c .before .before .block-at3 .ensures, c .before .before .before .block-at2 .ensures, c .before .before .before .before .block-at .ensures, node-read s (a .starts .now) (a .table .now) _ _ (g .0), node-read s (a .starts .now) (a .table .now) _ _ (g .1), node-read s (a .starts .now) (a .table .now) _ _ (g .2))
 
 pub step-c3-spec : {M : Type 1} → statement M
-step-c3-spec =
-    tie.close
-    (tie.spec
-    sub-block-at
-    block-at-requires
-    mul-block-at
-    block-at-requires-2
-    mul-block-at-2
-    add-block-at
-    block-at-requires-3
-    joined-requires
-    settle-requires
-    returns)
+step-c3-spec = tie.close (tie.spec enum-known-n returns sub-block-at block-at-requires mul-block-at block-at-requires-2 mul-block-at-2 add-block-at block-at-requires-3 joined-requires settle-requires returns-2)

@@ -3,24 +3,37 @@ use Rattle.tree.specs.Shape.{leftOf}
 use Rattle.tree.specs.Memory.{block}
 use Rattle.steps.specs.Rules.{help, step, go}
 use Rattle.steps.proofs.NodeReads.{node-read}
+use Rattle.steps.proofs.Told.{begun, other}
 use borrow.Author.Needs.{needs}
 use Rattle.steps.proofs.blocks.step_r3.Statement.{statement}
 use Rattle.steps.proofs.blocks.step_r3.Tie as tie
 
-mul-child : tie.Need-mul-child
-mul-child c = search needs
+enum-known-n : tie.Need-enum-known-n
+enum-known-n c = search needs
+
+returns : tie.Need-returns
+returns c = λ s k o heads w x e i. absurd (other (c .match .keys2) e tt)
+
+mul-v : tie.Need-mul-v
+mul-v c =
+    let p = c .before .before .before .before .before .pre _ _ (c .before .before .n .given .1) in
+    search needs
 
 absent-at-requires : tie.Need-absent-at-requires
-absent-at-requires c κs = search needs
+absent-at-requires c κs =
+    let p = c .before .before .before .before .before .pre _ _ (c .before .before .n .given .1) in
+    search needs
 
 help-requires : tie.Need-help-requires
 help-requires c κs = search needs
 
-returns : tie.Need-returns
+returns-2 : tie.Need-returns-2
 unfolding step go help block leftOf
-returns c = λ s k o heads n.
-    let a = c .before .before .before .before .args in
-    rw (c .help .ensures, c .before .absent-at .ensures, node-read s (a .starts .now) (a .table .now) _ (a .c) n)
+returns-2 c = λ s k o heads w x e i.
+    let a = c .before .before .before .before .before .before .before .args in
+    let told = c .before .before .before .before .n .given .1 in
+    let g = begun s (a .starts .now) e told i in
+    rw (told, c .help .ensures, c .before .absent-at .ensures, node-read s (a .starts .now) (a .table .now) _ _ g)
 
 pub step-r3-spec : {M : Type 1} → statement M
-step-r3-spec = tie.close (tie.spec mul-child absent-at-requires help-requires returns)
+step-r3-spec = tie.close (tie.spec enum-known-n returns mul-v absent-at-requires help-requires returns-2)

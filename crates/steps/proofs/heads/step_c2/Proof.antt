@@ -2,25 +2,40 @@
 use Rattle.tree.specs.Shape.{rightOf}
 use Rattle.tree.specs.Memory.{headOf}
 use Rattle.steps.specs.Rules.{step, go}
+use Rattle.steps.proofs.Told.{other}
 use borrow.Author.Needs.{needs}
 use Rattle.steps.proofs.heads.step_c2.Statement.{statement}
 use Rattle.steps.proofs.heads.step_c2.Tie as tie
 
-mul-head-of : tie.Need-mul-head-of
-mul-head-of c = search needs
-
-add-head-of : tie.Need-add-head-of
-add-head-of c = search needs
-
-head-of-requires : tie.Need-head-of-requires
-head-of-requires c κs = search needs
-
-sub-t7 : tie.Need-sub-t7
-sub-t7 c = search needs
+enum-known-n : tie.Need-enum-known-n
+enum-known-n c = search needs
 
 returns : tie.Need-returns
+returns c = λ s k o t w l e. absurd (other (c .match .keys2) e tt)
+
+mul-head-of : tie.Need-mul-head-of
+mul-head-of c =
+    let p = c .before .before .before .before .before .pre _ _ (c .before .before .n .given .1) in
+    search needs
+
+add-head-of : tie.Need-add-head-of
+add-head-of c =
+    let p = c .before .before .before .before .before .pre _ _ (c .before .before .n .given .1) in
+    search needs
+
+head-of-requires : tie.Need-head-of-requires
+head-of-requires c κs =
+    let p = c .before .before .before .before .before .pre _ _ (c .before .before .n .given .1) in
+    search needs
+
+sub-t8 : tie.Need-sub-t8
+sub-t8 c =
+    let p = c .before .before .before .before .before .before .pre _ _ (c .before .before .before .n .given .1) in
+    search needs
+
+returns-2 : tie.Need-returns-2
 unfolding step go headOf rightOf
-returns c = λ s k o t. rw (c .head-of .ensures)
+returns-2 c = λ s k o t w l e. rw (c .before .before .before .n .given .1, c .head-of .ensures)
 
 pub step-c2-spec : {M : Type 1} → statement M
-step-c2-spec = tie.close (tie.spec mul-head-of add-head-of head-of-requires sub-t7 returns)
+step-c2-spec = tie.close (tie.spec enum-known-n returns mul-head-of add-head-of head-of-requires sub-t8 returns-2)

@@ -2,19 +2,30 @@
 use Rattle.tree.specs.Shape.{leftOf}
 use Rattle.tree.specs.Memory.{headOf}
 use Rattle.steps.specs.Rules.{step, go}
+use Rattle.steps.proofs.Told.{other}
 use borrow.Author.Needs.{needs}
 use Rattle.steps.proofs.heads.step_r2.Statement.{statement}
 use Rattle.steps.proofs.heads.step_r2.Tie as tie
 
-mul-head-of : tie.Need-mul-head-of
-mul-head-of c = search needs
-
-head-of-requires : tie.Need-head-of-requires
-head-of-requires c κs = search needs
+enum-known-n : tie.Need-enum-known-n
+enum-known-n c = search needs
 
 returns : tie.Need-returns
+returns c = λ s k o t w e. absurd (other (c .match .keys2) e tt)
+
+mul-head-of : tie.Need-mul-head-of
+mul-head-of c =
+    let p = c .before .before .before .before .before .pre _ (c .before .before .n .given .1) in
+    search needs
+
+head-of-requires : tie.Need-head-of-requires
+head-of-requires c κs =
+    let p = c .before .before .before .before .before .pre _ (c .before .before .n .given .1) in
+    search needs
+
+returns-2 : tie.Need-returns-2
 unfolding step go headOf leftOf
-returns c = λ s k o t. rw (c .head-of .ensures)
+returns-2 c = λ s k o t w e. rw (c .before .before .before .n .given .1, c .head-of .ensures)
 
 pub step-r2-spec : {M : Type 1} → statement M
-step-r2-spec = tie.close (tie.spec mul-head-of head-of-requires returns)
+step-r2-spec = tie.close (tie.spec enum-known-n returns mul-head-of head-of-requires returns-2)

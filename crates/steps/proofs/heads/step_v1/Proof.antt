@@ -2,16 +2,25 @@
 use Rattle.tree.specs.Shape.{parentOf}
 use Rattle.tree.specs.Memory.{headOf}
 use Rattle.steps.specs.Rules.{step, go}
+use Rattle.steps.proofs.Told.{other}
 use borrow.Author.Needs.{needs}
 use Rattle.steps.proofs.heads.step_v1.Statement.{statement}
 use Rattle.steps.proofs.heads.step_v1.Tie as tie
 
-head-of-requires : tie.Need-head-of-requires
-head-of-requires c κs = search needs
+enum-known-n : tie.Need-enum-known-n
+enum-known-n c = search needs
 
 returns : tie.Need-returns
+returns c = λ s k o t a w v h e. absurd (other (c .match .keys2) e tt)
+
+head-of-requires : tie.Need-head-of-requires
+head-of-requires c κs =
+    let p = c .before .before .before .before .pre _ _ _ _ (c .before .n .given .1) in
+    search needs
+
+returns-2 : tie.Need-returns-2
 unfolding step go headOf parentOf
-returns c = λ s k o t. rw (c .head-of .ensures)
+returns-2 c = λ s k o t a w v h e. rw (c .before .before .n .given .1, c .head-of .ensures)
 
 pub step-v1-spec : {M : Type 1} → statement M
-step-v1-spec = tie.close (tie.spec head-of-requires returns)
+step-v1-spec = tie.close (tie.spec enum-known-n returns head-of-requires returns-2)
