@@ -28,26 +28,26 @@ use Rattle.rules.specs.Run.{play}
 use Rattle.log.specs.Leading.{leadingOf, written}
 use Rattle.answer.proofs.PlaysLaws.{plays-ready}
 use Rattle.answer.specs.Playing.{machineOf, Plays, Playing}
-use Rattle.player.specs.Turns.{moved, rested}
+use Rattle.player.specs.Turns.{operationIn, stepIn, moved, rested}
 use Rattle.player.specs.Playing.{Leaves}
 use Rattle.player.proofs.StepWords.{stepOf, step-formed, words-step}
 use Rattle.player.proofs.StepTurns.{idle-turn, full-turn, last-turn, next-turn}
 use Rattle.player.proofs.Loop.{Loop, loop-narrow, loop-laid, loop-spare, loop-plays, loop-fits, loop-record, loop-refused, loop-moves, loop-finishes}
 
 -- record i, which is before the last one, is a step of process `first`: its words are `first` and 0. j is the place of `first` among the processes
-pub record StepAt (p l : ℕ) (starts records heads₀ table₀ : List ℕ) (room : ℕ) (out₀ log : List ℕ) (n : ℕ) (heads table out : List ℕ) (procs : List Process)
+pub record StepAt (p l : ℕ) (starts records heads₀ table₀ : List ℕ) (room : ℕ) (out₀ log : List ℕ) (n₀ : ℕ) (heads table out : List ℕ) (procs : List Process)
     (answers equal left i first j : ℕ) : Type 0
   where
-    pub inv : Loop p l starts records heads₀ table₀ room out₀ log n heads table out procs answers equal left i
-    pub more : i < n
+    pub inv : Loop p l starts records heads₀ table₀ room out₀ log n₀ heads table out procs answers equal left i
+    pub more : i < n₀
     pub word : first ≡ numberOf (take 4 (drop (8 * i) records))
     pub zero : numberOf (take 4 (drop (8 * i + 4) records)) ≡ 0
     pub low : first < p
     pub at : j ≡ first
 
-module _ {p l : ℕ} {starts records heads₀ table₀ : List ℕ} {room : ℕ} {out₀ log : List ℕ} {n : ℕ} {heads table out : List ℕ} {procs : List Process}
+module _ {p l : ℕ} {starts records heads₀ table₀ : List ℕ} {room : ℕ} {out₀ log : List ℕ} {n₀ : ℕ} {heads table out : List ℕ} {procs : List Process}
     {answers equal left i first j : ℕ}
-    (w : StepAt p l starts records heads₀ table₀ room out₀ log n heads table out procs answers equal left i first j)
+    (w : StepAt p l starts records heads₀ table₀ room out₀ log n₀ heads table out procs answers equal left i first j)
   where
     abbrev s : Shape
     s = shapeFor p l
@@ -87,31 +87,39 @@ module _ {p l : ℕ} {starts records heads₀ table₀ : List ℕ} {room : ℕ} 
         loop-refused (w .inv) (w .more) (stepOf first) step-is StepWhileIdle
         (idle-turn s left (take (processes s) procs) starts heads table (stepOf first) q step-plays well refl (ap isIdle e))
 
-    -- any step but Q
-    module _ {o : Operation} {x y : Step} (busy : q .status ≡ Busy o x) (is : x ≡ y) (goes : isQ y ≡ false) where
-      abbrev busy-at : q .status ≡ Busy o y
-      busy-at = busy ∙ ap (Busy o) is
+    -- where the process is busy: its operation, and its step by any name that it was told
+    module _ {o : Operation} {x : Step} (busy : q .status ≡ Busy o x) where
+      pub step-named : {y : Step} → x ≡ y → y ≡ stepIn (q .status)
+      step-named is = sym (ap stepIn busy ∙ is)
 
-      pub step-ready : Ready starts heads table (p + first) y
+      pub step-busy : {o' : Operation} {y : Step} → o' ≡ operationIn (q .status) → y ≡ stepIn (q .status) → q .status ≡ Busy o' y
+      step-busy {o'} named at =
+          busy ∙ ap (λ (k : Operation). Busy k x) (sym (named ∙ ap operationIn busy)) ∙ ap (Busy o') (sym (at ∙ ap stepIn busy))
+
+      -- any step but Q
+      pub step-ready : {n y : Step} → n ≡ stepIn (q .status) → n ≡ y → isQ y ≡ false → Ready starts heads table (p + first) y
       unfolding leafOf
-      step-ready =
+      step-ready {n} {y} at is goes =
           subst (λ (v : ℕ). Ready starts heads table v y) (ap (λ (x : ℕ). x + first) (w .inv .width))
-          (plays-ready s (take (processes s) procs) starts heads table first q step-plays o y busy-at goes)
+          (plays-ready s (take (processes s) procs) starts heads table first q step-plays (operationIn (q .status)) y (step-busy refl (sym is ∙ at)) goes)
 
-      pub step-moves : (table' heads' : List ℕ) (next : Step) → length heads' ≡ length heads → length table' ≡ length table
-          → step s first o (record { table = table; heads = heads }) y ≡ go s first o (record { table = table; heads = heads }) (record { table = table'; heads = heads' }) next
-          → Loop p l starts records heads₀ table₀ room out₀ log n heads' table' out (set procs j (moved q o next)) answers equal left (i + 1)
+      pub step-moves : {n y : Step} {o' : Operation} → n ≡ stepIn (q .status) → x ≡ y → isQ y ≡ false → o' ≡ operationIn (q .status)
+          → (table' heads' : List ℕ) (next : Step) → length heads' ≡ length heads → length table' ≡ length table
+          → (n ≡ y → Ready starts heads table (p + first) y
+          → step s first o' (record { table = table; heads = heads }) n ≡ go s first o' (record { table = table; heads = heads }) (record { table = table'; heads = heads' }) next)
+          → Loop p l starts records heads₀ table₀ room out₀ log n₀ heads' table' out (set procs j (moved q (operationIn (q .status)) next)) answers equal left (i + 1)
       unfolding isStep
-      step-moves table' heads' next eh et e =
-          subst (λ (y : ℕ). Loop p l starts records heads₀ table₀ room out₀ log n heads' table' out (set procs y (moved q o next)) answers equal left (i + 1)) (sym (w .at))
-          (loop-moves (w .inv) (w .more) (stepOf first) step-is (moved q o next) table' heads' (w .low) eh et
-          (next-turn s left (take (processes s) procs) starts heads table (stepOf first) q step-plays well refl o y busy-at goes (record { table = table'; heads = heads' }) next e))
+      step-moves {n} {y} {o'} at is goes named table' heads' next eh et turn =
+          let told : n ≡ y = at ∙ ap stepIn busy ∙ is in
+          subst (λ (y : ℕ). Loop p l starts records heads₀ table₀ room out₀ log n₀ heads' table' out (set procs y (moved q (operationIn (q .status)) next)) answers equal left (i + 1)) (sym (w .at))
+          (loop-moves (w .inv) (w .more) (stepOf first) step-is (moved q (operationIn (q .status)) next) table' heads' (w .low) eh et
+          (next-turn s left (take (processes s) procs) starts heads table (stepOf first) q step-plays well refl (operationIn (q .status)) n (step-busy refl at) (ap isQ told ∙ goes)
+          (record { table = table'; heads = heads' }) next
+          (subst (λ (k : Operation). step s first k (record { table = table; heads = heads }) n ≡ go s first k (record { table = table; heads = heads }) (record { table = table'; heads = heads' }) next) named
+          (turn told (step-ready at told goes)))))
 
     -- Q
-    module _ {o : Operation} {x : Step} (busy : q .status ≡ Busy o x) (is : x ≡ Q) where
-      pub finish-busy : q .status ≡ Busy o Q
-      finish-busy = busy ∙ ap (Busy o) is
-
+    module _ {o : Operation} (finish-busy : q .status ≡ Busy o Q) where
       pub finish-full : left < 16 → Leaves (play s room rs) log out₀ (record { refusal = AnswersFull; taken = i; answers = answers; equal = equal }) table heads out
       unfolding isStep isQ
       finish-full h =
@@ -123,11 +131,11 @@ module _ {p l : ℕ} {starts records heads₀ table₀ : List ℕ} {room : ℕ} 
           → ((xs : List AnswerRecord) → answers ≡ length xs → equal ≡ leadingOf xs log → equal' ≡ leadingOf (xs ++ (a ∷ [])) log)
           → ((before : List ℕ) (xs : List AnswerRecord) → answers ≡ length xs → (length before ≡ 0) ⊎ (16 * answers + 16 ≤ length before) → out ≡ written before xs
           → out' ≡ written before (xs ++ (a ∷ [])))
-          → Loop p l starts records heads₀ table₀ room out₀ log n heads table out' (set procs j (rested q)) (answers + 1) equal' (left - 16) (i + 1)
+          → Loop p l starts records heads₀ table₀ room out₀ log n₀ heads table out' (set procs j (rested q)) (answers + 1) equal' (left - 16) (i + 1)
       unfolding isStep isQ
       finish-moves enough a out' equal' eo told-a told-e told-w =
           let xs : List AnswerRecord = play s room (take i rs) .answers in
-          subst (λ (y : ℕ). Loop p l starts records heads₀ table₀ room out₀ log n heads table out' (set procs y (rested (getD procs y idle))) (answers + 1) equal' (left - 16) (i + 1)) (sym (w .at))
+          subst (λ (y : ℕ). Loop p l starts records heads₀ table₀ room out₀ log n₀ heads table out' (set procs y (rested (getD procs y idle))) (answers + 1) equal' (left - 16) (i + 1)) (sym (w .at))
           (loop-finishes (w .inv) (w .more) (stepOf first) step-is o a out' equal' (w .low) eo
           (last-turn s left (take (processes s) procs) starts heads table (stepOf first) q step-plays well refl o Q finish-busy refl enough)
           (told-a s (take (processes s) procs) (w .inv .width) step-plays) enough (told-e xs (w .inv .going .answered) (w .inv .going .same))

@@ -3,7 +3,9 @@ use crate::Outcome;
 use crate::records::is_idle;
 use crate::records::moved;
 use crate::records::opened;
+use crate::records::operation_in;
 use crate::records::rested;
+use crate::records::step_in;
 use answer::answers::answer_of;
 use log::compare::equal_after;
 use log::write::write_answer;
@@ -47,8 +49,8 @@ fn ended(refusal: Refusal, taken: usize, answers: usize, equal: usize) -> Outcom
 }
 
 // Plays the records from the start, where there is room for `room` bytes of answers. Each answer is written to `out`, if that has any bytes, and compared with the one in the
-// same place of `log`. A step is told from the other records by two words, which is all that most records are. Each named step has its own arm, which stores the process, so
-// that only the registers that the step changes are written.
+// same place of `log`. A step is told from the other records by two words, which is all that most records are. Each named step has its own arm, which reads the process again
+// and stores it, so that a step loads and stores only the registers that it uses.
 pub fn play(
     p: u32,
     l: u32,
@@ -75,88 +77,105 @@ pub fn play(
         if word_at(records, at + 4) == 0 {
             if first < p {
                 let k = wide(first);
-                let q = procs[k];
-                let status = q.status;
+                let seen = procs[k];
+                let status = seen.status;
                 match status {
                     Status::Idle => return ended(Refusal::StepWhileIdle, i, answers, equal),
-                    Status::Busy(o, step) => match step {
+                    Status::Busy(_, step) => match step {
                         Step::A => {
-                            procs[k] = moved(q, o, step_a(heads, table, starts, p + first, o));
-                            continue;
-                        }
-                        Step::V1 {
-                            after,
-                            visit,
-                            node,
-                            place,
-                        } => {
-                            procs[k] = moved(q, o, step_v1(heads, visit, after, node, place));
-                            continue;
-                        }
-                        Step::V2 {
-                            after,
-                            visit,
-                            node,
-                            place,
-                            above,
-                        } => {
+                            let q = procs[k];
                             procs[k] = moved(
                                 q,
-                                o,
-                                step_v2(table, starts, visit, after, node, place, above),
+                                step_a(heads, table, starts, p + first, operation_in(q)),
                             );
                             continue;
                         }
-                        Step::V3 {
-                            after,
-                            visit,
-                            node,
-                            place,
+                        Step::V1 {
+                            after: _,
+                            visit: _,
+                            node: _,
+                            place: _,
                         } => {
-                            procs[k] = moved(q, o, step_v3(heads, visit, after, node, place));
+                            let q = procs[k];
+                            procs[k] = moved(q, step_v1(heads, step_in(q)));
                             continue;
                         }
-                        Step::R1 { second, node } => {
-                            procs[k] = moved(q, o, step_r1(heads, node, second));
+                        Step::V2 {
+                            after: _,
+                            visit: _,
+                            node: _,
+                            place: _,
+                            above: _,
+                        } => {
+                            let q = procs[k];
+                            procs[k] = moved(q, step_v2(table, starts, step_in(q)));
                             continue;
                         }
-                        Step::R2 { visit } => {
-                            procs[k] = moved(q, o, step_r2(heads, visit));
+                        Step::V3 {
+                            after: _,
+                            visit: _,
+                            node: _,
+                            place: _,
+                        } => {
+                            let q = procs[k];
+                            procs[k] = moved(q, step_v3(heads, step_in(q)));
                             continue;
                         }
-                        Step::R3 { visit, child } => {
-                            procs[k] = moved(q, o, step_r3(table, starts, visit, child));
+                        Step::R1 { second: _, node: _ } => {
+                            let q = procs[k];
+                            procs[k] = moved(q, step_r1(heads, step_in(q)));
                             continue;
                         }
-                        Step::R4 { visit } => {
-                            procs[k] = moved(q, o, step_r4(heads, visit));
+                        Step::R2 { visit: _ } => {
+                            let q = procs[k];
+                            procs[k] = moved(q, step_r2(heads, step_in(q)));
                             continue;
                         }
-                        Step::R5 { visit, child } => {
-                            procs[k] = moved(q, o, step_r5(table, starts, visit, child));
+                        Step::R3 { visit: _, child: _ } => {
+                            let q = procs[k];
+                            procs[k] = moved(q, step_r3(table, starts, step_in(q)));
                             continue;
                         }
-                        Step::C1 { visit } => {
-                            procs[k] = moved(q, o, step_c1(heads, visit));
+                        Step::R4 { visit: _ } => {
+                            let q = procs[k];
+                            procs[k] = moved(q, step_r4(heads, step_in(q)));
                             continue;
                         }
-                        Step::C2 { visit, left } => {
-                            procs[k] = moved(q, o, step_c2(heads, visit, left));
+                        Step::R5 { visit: _, child: _ } => {
+                            let q = procs[k];
+                            procs[k] = moved(q, step_r5(table, starts, step_in(q)));
                             continue;
                         }
-                        Step::C3 { visit, left, right } => {
-                            procs[k] = moved(q, o, step_c3(table, starts, visit, left, right));
+                        Step::C1 { visit: _ } => {
+                            let q = procs[k];
+                            procs[k] = moved(q, step_c1(heads, step_in(q)));
                             continue;
                         }
-                        Step::C4 { visit, built } => {
-                            procs[k] = moved(q, o, step_c4(table, starts, visit, built));
+                        Step::C2 { visit: _, left: _ } => {
+                            let q = procs[k];
+                            procs[k] = moved(q, step_c2(heads, step_in(q)));
+                            continue;
+                        }
+                        Step::C3 {
+                            visit: _,
+                            left: _,
+                            right: _,
+                        } => {
+                            let q = procs[k];
+                            procs[k] = moved(q, step_c3(table, starts, step_in(q)));
+                            continue;
+                        }
+                        Step::C4 { visit: _, built: _ } => {
+                            let q = procs[k];
+                            procs[k] = moved(q, step_c4(table, starts, step_in(q)));
                             continue;
                         }
                         Step::Q => {
                             if free < 16 {
                                 return ended(Refusal::AnswersFull, i, answers, equal);
                             }
-                            let a = answer_of(heads, table, starts, p, first, q, o);
+                            let q = procs[k];
+                            let a = answer_of(heads, table, starts, p, first, q, operation_in(q));
                             equal = equal_after(log, answers, equal, a);
                             write_answer(out, answers, a);
                             answers = answers + 1;

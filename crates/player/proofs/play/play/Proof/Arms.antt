@@ -1,0 +1,203 @@
+-- The arms of `play`'s loop, one a named step: what the step needs, and that the loop's invariant holds after it. Used by its proof alone.
+use native.Mathlib.Omega.{arith}
+use mathlib.Core.Path.{refl}
+use Rattle.steps.specs.Process.{idle}
+use Rattle.steps.specs.Machine.{isQ}
+use Rattle.player.proofs.StepLoop.{step-named, step-leaf, step-begins, step-ready, step-moves}
+use Rattle.player.proofs.play.play.Proof.Places.{Inv-loop, μ-loop, found}
+use Rattle.player.proofs.play.play.Tie as tie
+
+pub ready-a : tie.Need-step-a-requires Inv-loop μ-loop
+unfolding idle isQ
+ready-a c κs =
+    let b = c .before .before .before .before .before .before in
+    step-ready (found b) (b .before .status .given .1) (step-named (found b) (b .before .status .given .1) (c .before .before .before .before .enum-told2 .given .1)) refl refl
+
+pub again-a : tie.Need-loop-again Inv-loop μ-loop
+unfolding idle isQ
+again-a c =
+    let b = c .before .before .before .before .before .before .before .before .before .before in
+    let f = found b in
+    rw (c .moved .ensures)
+    (step-moves f (b .before .status .given .1) (step-named f (b .before .status .given .1) (c .before .before .before .before .before .before .before .before .enum-told2 .given .1)) (c .before .before .before .before .before .before .before .before .enum-told2 .given .1) refl (c .before .before .before .before .operation-in .ensures) _ _ _ refl (c .before .before .before .step-a .kept .1 .0)
+    (λ told ready. c .before .before .before .step-a .ensures _ _ (step-leaf f) (step-begins f _ (ready .node))))
+
+pub ready-v1 : tie.Need-step-v1-requires Inv-loop μ-loop
+unfolding idle isQ
+ready-v1 c κs = λ x y z u e.
+    let b = c .before .before .before .before .before in
+    step-ready (found b) (b .before .status .given .1) (c .step-in .ensures) e refl
+
+pub again-v1 : tie.Need-loop-again-2 Inv-loop μ-loop
+unfolding idle isQ
+again-v1 c =
+    let b = c .before .before .before .before .before .before .before in
+    let f = found b in
+    rw (c .moved2 .ensures)
+    (step-moves f (b .before .status .given .1) (c .before .before .step-in .ensures) (c .before .before .before .before .before .enum-told3 .given .1) refl refl _ _ _ refl refl
+    (λ told ready. c .before .step-v1 .ensures _ _ _ _ _ _ _ _ told))
+
+pub ready-v2 : tie.Need-step-v2-requires Inv-loop μ-loop
+unfolding idle isQ
+ready-v2 c κs = λ x y z u v e.
+    let b = c .before .before .before .before .before in
+    (step-ready (found b) (b .before .status .given .1) (c .step-in2 .ensures) e refl) .1
+
+pub again-v2 : tie.Need-loop-again-3 Inv-loop μ-loop
+unfolding idle isQ
+again-v2 c =
+    let b = c .before .before .before .before .before .before .before .before .before in
+    let f = found b in
+    rw (c .moved3 .ensures)
+    (step-moves f (b .before .status .given .1) (c .before .before .before .before .step-in2 .ensures) (c .before .before .before .before .before .before .before .enum-told4 .given .1) refl refl _ _ _ refl (c .before .before .before .step-v2 .kept .0)
+    (λ told ready. c .before .before .before .step-v2 .ensures _ _ _ _ _ _ _ _ _ told (step-begins f _ (ready .0))))
+
+pub ready-v3 : tie.Need-step-v3-requires Inv-loop μ-loop
+unfolding idle isQ
+ready-v3 c κs = λ x y z u e.
+    let b = c .before .before .before .before .before in
+    step-ready (found b) (b .before .status .given .1) (c .step-in3 .ensures) e refl
+
+pub again-v3 : tie.Need-loop-again-4 Inv-loop μ-loop
+unfolding idle isQ
+again-v3 c =
+    let b = c .before .before .before .before .before .before .before .before .before in
+    let f = found b in
+    rw (c .moved4 .ensures)
+    (step-moves f (b .before .status .given .1) (c .before .before .before .before .step-in3 .ensures) (c .before .before .before .before .before .before .before .enum-told5 .given .1) refl refl _ _ _ (c .before .before .before .step-v3 .kept .0) refl
+    (λ told ready. c .before .before .before .step-v3 .ensures _ _ _ _ _ _ _ _ told))
+
+pub ready-r1 : tie.Need-step-r1-requires Inv-loop μ-loop
+unfolding idle isQ
+ready-r1 c κs = λ x y e.
+    let b = c .before .before .before .before .before in
+    step-ready (found b) (b .before .status .given .1) (c .step-in4 .ensures) e refl
+
+pub again-r1 : tie.Need-loop-again-5 Inv-loop μ-loop
+unfolding idle isQ
+again-r1 c =
+    let b = c .before .before .before .before .before .before .before in
+    let f = found b in
+    rw (c .moved5 .ensures)
+    (step-moves f (b .before .status .given .1) (c .before .before .step-in4 .ensures) (c .before .before .before .before .before .enum-told6 .given .1) refl refl _ _ _ refl refl
+    (λ told ready. c .before .step-r1 .ensures _ _ _ _ _ _ told))
+
+pub ready-r2 : tie.Need-step-r2-requires Inv-loop μ-loop
+unfolding idle isQ
+ready-r2 c κs = λ x e.
+    let b = c .before .before .before .before .before in
+    step-ready (found b) (b .before .status .given .1) (c .step-in5 .ensures) e refl
+
+pub again-r2 : tie.Need-loop-again-6 Inv-loop μ-loop
+unfolding idle isQ
+again-r2 c =
+    let b = c .before .before .before .before .before .before .before in
+    let f = found b in
+    rw (c .moved6 .ensures)
+    (step-moves f (b .before .status .given .1) (c .before .before .step-in5 .ensures) (c .before .before .before .before .before .enum-told7 .given .1) refl refl _ _ _ refl refl
+    (λ told ready. c .before .step-r2 .ensures _ _ _ _ _ told))
+
+pub ready-r3 : tie.Need-step-r3-requires Inv-loop μ-loop
+unfolding idle isQ
+ready-r3 c κs = λ x y e.
+    let b = c .before .before .before .before .before in
+    (step-ready (found b) (b .before .status .given .1) (c .step-in6 .ensures) e refl) .1
+
+pub again-r3 : tie.Need-loop-again-7 Inv-loop μ-loop
+unfolding idle isQ
+again-r3 c =
+    let b = c .before .before .before .before .before .before .before in
+    let f = found b in
+    rw (c .moved7 .ensures)
+    (step-moves f (b .before .status .given .1) (c .before .before .step-in6 .ensures) (c .before .before .before .before .before .enum-told8 .given .1) refl refl _ _ _ refl refl
+    (λ told ready. c .before .step-r3 .ensures _ _ _ _ _ _ told (step-begins f _ (omega (arith, ready .0 .both)))))
+
+pub ready-r4 : tie.Need-step-r4-requires Inv-loop μ-loop
+unfolding idle isQ
+ready-r4 c κs = λ x e.
+    let b = c .before .before .before .before .before in
+    step-ready (found b) (b .before .status .given .1) (c .step-in7 .ensures) e refl
+
+pub again-r4 : tie.Need-loop-again-8 Inv-loop μ-loop
+unfolding idle isQ
+again-r4 c =
+    let b = c .before .before .before .before .before .before .before in
+    let f = found b in
+    rw (c .moved8 .ensures)
+    (step-moves f (b .before .status .given .1) (c .before .before .step-in7 .ensures) (c .before .before .before .before .before .enum-told9 .given .1) refl refl _ _ _ refl refl
+    (λ told ready. c .before .step-r4 .ensures _ _ _ _ _ told))
+
+pub ready-r5 : tie.Need-step-r5-requires Inv-loop μ-loop
+unfolding idle isQ
+ready-r5 c κs = λ x y e.
+    let b = c .before .before .before .before .before in
+    (step-ready (found b) (b .before .status .given .1) (c .step-in8 .ensures) e refl) .1
+
+pub again-r5 : tie.Need-loop-again-9 Inv-loop μ-loop
+unfolding idle isQ
+again-r5 c =
+    let b = c .before .before .before .before .before .before .before in
+    let f = found b in
+    rw (c .moved9 .ensures)
+    (step-moves f (b .before .status .given .1) (c .before .before .step-in8 .ensures) (c .before .before .before .before .before .enum-told10 .given .1) refl refl _ _ _ refl refl
+    (λ told ready. c .before .step-r5 .ensures _ _ _ _ _ _ told (step-begins f _ (ready .0 .both))))
+
+pub ready-c1 : tie.Need-step-c1-requires Inv-loop μ-loop
+unfolding idle isQ
+ready-c1 c κs = λ x e.
+    let b = c .before .before .before .before .before in
+    step-ready (found b) (b .before .status .given .1) (c .step-in9 .ensures) e refl
+
+pub again-c1 : tie.Need-loop-again-10 Inv-loop μ-loop
+unfolding idle isQ
+again-c1 c =
+    let b = c .before .before .before .before .before .before .before in
+    let f = found b in
+    rw (c .moved10 .ensures)
+    (step-moves f (b .before .status .given .1) (c .before .before .step-in9 .ensures) (c .before .before .before .before .before .enum-told11 .given .1) refl refl _ _ _ refl refl
+    (λ told ready. c .before .step-c1 .ensures _ _ _ _ _ told))
+
+pub ready-c2 : tie.Need-step-c2-requires Inv-loop μ-loop
+unfolding idle isQ
+ready-c2 c κs = λ x y e.
+    let b = c .before .before .before .before .before in
+    step-ready (found b) (b .before .status .given .1) (c .step-in10 .ensures) e refl
+
+pub again-c2 : tie.Need-loop-again-11 Inv-loop μ-loop
+unfolding idle isQ
+again-c2 c =
+    let b = c .before .before .before .before .before .before .before in
+    let f = found b in
+    rw (c .moved11 .ensures)
+    (step-moves f (b .before .status .given .1) (c .before .before .step-in10 .ensures) (c .before .before .before .before .before .enum-told12 .given .1) refl refl _ _ _ refl refl
+    (λ told ready. c .before .step-c2 .ensures _ _ _ _ _ _ told))
+
+pub ready-c3 : tie.Need-step-c3-requires Inv-loop μ-loop
+unfolding idle isQ
+ready-c3 c κs = λ x y z e.
+    let b = c .before .before .before .before .before in
+    (step-ready (found b) (b .before .status .given .1) (c .step-in11 .ensures) e refl) .1
+
+pub again-c3 : tie.Need-loop-again-12 Inv-loop μ-loop
+unfolding idle isQ
+again-c3 c =
+    let b = c .before .before .before .before .before .before .before in
+    let f = found b in
+    rw (c .moved12 .ensures)
+    (step-moves f (b .before .status .given .1) (c .before .before .step-in11 .ensures) (c .before .before .before .before .before .enum-told13 .given .1) refl refl _ _ _ refl refl
+    (λ told ready. c .before .step-c3 .ensures _ _ _ _ _ _ _ told (step-begins f _ (omega (arith, ready .0 .both))) (step-begins f _ (omega (arith, ready .0 .both))) (step-begins f _ (ready .0 .both))))
+
+pub ready-c4 : tie.Need-step-c4-requires Inv-loop μ-loop
+unfolding idle isQ
+ready-c4 c κs = λ x y e.
+    let b = c .before .before .before .before .before in
+    (step-ready (found b) (b .before .status .given .1) (c .step-in12 .ensures) e refl) .1
+
+pub again-c4 : tie.Need-loop-again-13 Inv-loop μ-loop
+unfolding idle isQ
+again-c4 c =
+    let b = c .before .before .before .before .before .before .before .before .before in
+    let f = found b in
+    rw (c .moved13 .ensures)
+    (step-moves f (b .before .status .given .1) (c .before .before .before .before .step-in12 .ensures) (c .before .before .before .before .before .before .before .enum-told14 .given .1) refl refl _ _ _ refl (c .before .before .before .step-c4 .kept .0)
+    (λ told ready. c .before .before .before .step-c4 .ensures _ _ _ _ _ _ told (step-begins f _ (ready .0))))
