@@ -105,4 +105,4 @@ module _ {s : Shape} {ps : List Process} {starts heads table : List ℕ} {k : �
           → _≡_ {A = AnswerRecord} (record { process = k; reply = r; steps = q .steps + 1; serial = q .begun; block = at .block })
           (answerOf s (machineOf table heads ps) k o)
       unfolding answerOf
-      answer-is f = rw (plays .here, f, stands .block)
+      answer-is f = rw (plays .here, f, stands .block .own)

@@ -27,11 +27,11 @@ module _ {s : Shape} {k i : ℕ} {heads starts table : List ℕ} {height : ℕ} 
           record {
             settles = h .settles;
             tall = h .tall;
-            some = h .stands .first;
-            most = h .stands .last;
+            some = h .stands .block .first;
+            most = h .stands .block .last;
             first = takes .stands .some (takes .kind);
           }
 
       pub take-replies : {r : Reply} → r ≡ takeReply s table (at .block) (at .rank) → r ≡ replyOf s table (record { process = k; serial = i }) o
       unfolding replyOf
-      take-replies f = rw (e, ← takes .stands .block, ← takes .stands .rank (takes .kind)) f
+      take-replies f = rw (e, ← takes .stands .block .own, ← takes .stands .rank (takes .kind)) f

@@ -9,7 +9,7 @@ use tree::blocks::total;
 ghost use mathlib.Core.Path.{_≡_};
 ghost use Prim.Native.Nat.{ℕ};
 ghost use Rattle.tree.specs.Shape.{Shape};
-ghost use Rattle.search.specs.Stands.{StandsAs, Stands, StandsAt};
+ghost use Rattle.search.specs.Stands.{StandsAs, Stands, InBlock, StandsAt};
 ghost use Rattle.search.specs.Climbing.{Ascends, FirstAbove, Beside, besideOf};
 
 // The block of v's parent that holds v's block `place`: the first whose end towards v reaches it. The superblock word of v's block is a guess only: the parent's head may
@@ -37,9 +37,26 @@ fn beside(table: &[u32], starts: &[usize; 17], v: u32, b: u32, kind: Kind) -> u3
     total(kind, block_at(table, starts, v - 1, end))
 }
 
-// Where operation `serial` of the process with that leaf stands, found from the leaf up to the root, which is node 1. The number counts v's operations of the kind from its
-// first block on. Counted so, a leaf's is its block's total, the parent's is v's and what comes before from the sibling, and only the root's blocks before the operation's
-// own are taken off.
+// The root block of operation `serial` of the process with that leaf, found from the leaf up to the root, which is node 1. The answer of a put needs no more than this: it
+// is spared the reads that counting takes.
+pub fn root_block(heads: &[u32], table: &[u32], starts: &[usize; 17], leaf: u32, serial: u32) -> u32
+    requires { ⌜ Stands (now starts) (now heads) (now table) leaf serial ⌝ }
+    ensures { λ r. ⌜ ((s : Shape) (k : ℕ) →
+        StandsAs s k (now (starts .entry)) (now (heads .entry)) (now (table .entry)) leaf serial →
+        InBlock s (now (table .entry)) k serial r) ⌝ }
+{
+    let mut v = leaf;
+    let mut place = serial;
+    while v != 1 {
+        place = holder(heads, table, starts, v, place);
+        v = v / 2;
+    }
+    place
+}
+
+// Where operation `serial` of the process with that leaf stands: the same climb, with a count. The number counts v's operations of the kind from its first block on.
+// Counted so, a leaf's is its block's total, the parent's is v's and what comes before from the sibling, and only the root's blocks before the operation's own are taken
+// off.
 pub fn standing(
     heads: &[u32],
     table: &[u32],
