@@ -7,7 +7,6 @@ use search::climb::root_block;
 use search::climb::standing;
 use steps::Operation;
 use steps::Process;
-use tree::Kind;
 ghost use mathlib.Core.Path.{_≡_};
 ghost use mathlib.Core.List.{List};
 ghost use Prim.Native.Nat.{_<_};
@@ -55,7 +54,7 @@ pub fn answer_of(
             answer(k, q, Reply::Done, block)
         }
         Operation::Take => {
-            let at = standing(heads, table, starts, leaf, q.begun, Kind::Takes);
+            let at = standing(heads, table, starts, leaf, q.begun);
             let reply = take_reply(table, starts, height_for(p), at.block, at.rank);
             answer(k, q, reply, at.block)
         }

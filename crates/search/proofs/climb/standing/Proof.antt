@@ -1,8 +1,9 @@
 -- `climb::standing` meets its contract. The loop's invariant is that of `root_block` with the count, `Counted`; the measure is the node, which each turn halves. Assumes nothing.
 use Prim.Native.Nat.{ℕ}
 use native.Mathlib.Omega.{arith}
-use borrow.Author.Needs.{needs}
+use Rattle.tree.specs.declared.Kind.the-variants.{Takes}
 use Rattle.tree.specs.Shape.{Shape}
+use Rattle.tree.specs.Order.{total}
 use Rattle.search.proofs.Holding.{Counted, OfEach}
 use Rattle.search.proofs.LeafHolds.{leaf-place, leaf-counted}
 use Rattle.search.proofs.ClimbLaws.{node-first, top-place, node-ascends, node-beside, number-small, top-low, top-stands, climbs-counted, of-one, of-next}
@@ -10,22 +11,20 @@ use Rattle.search.proofs.climb.standing.Statement.{statement}
 use Rattle.search.proofs.climb.standing.Tie as tie
 
 abbrev Inv-loop : tie.InvT-loop
-Inv-loop heads table starts leaf serial kind v₀ place₀ number₀ v place number =
-    OfEach starts heads table leaf serial (λ (s : Shape) (k : ℕ). Counted s k serial starts heads table kind v place number)
+Inv-loop heads table starts leaf serial v₀ place₀ number₀ v place number =
+    OfEach starts heads table leaf serial (λ (s : Shape) (k : ℕ). Counted s k serial starts heads table Takes v place number)
 
 abbrev μ-loop : tie.MeasureT-loop
-μ-loop heads table starts leaf serial kind v₀ place₀ number₀ v place number = v
+μ-loop heads table starts leaf serial v₀ place₀ number₀ v place number = v
 
 block-at-requires : tie.Need-block-at-requires Inv-loop μ-loop
 block-at-requires c κs = let p = c .before .before .pre in leaf-place (p .shape) (p .process) _ _ _ _ _ (p .stands)
 
-total-requires : tie.Need-total-requires Inv-loop μ-loop
-total-requires c κs = search needs
-
 loop-holds : tie.Need-loop-holds Inv-loop μ-loop
+unfolding total
 loop-holds c =
-    rw (c .total .ensures, c .before .block-at .ensures)
-    (record { stands = c .before .before .before .before .pre; each = λ s k h. leaf-counted s k _ _ _ _ _ h _ })
+    rw (c .block-at .ensures)
+    (record { stands = c .before .before .before .pre; each = λ s k h. leaf-counted s k _ _ _ _ _ h _ })
 
 holder-requires : tie.Need-holder-requires Inv-loop μ-loop
 holder-requires c κs = node-ascends (of-one (c .before .loop .inv) .at) (c .loop-test .taken)
@@ -55,18 +54,13 @@ sub-block-at c = of-one (c .before .loop .inv) .at .holds .some
 block-at-requires-2 : tie.Need-block-at-requires-2 Inv-loop μ-loop
 block-at-requires-2 c κs = top-place (of-one (c .before .loop .inv) .at) (c .loop-test .left)
 
-total-requires-2 : tie.Need-total-requires-2 Inv-loop μ-loop
-total-requires-2 c κs = search needs
-
-sub-t15 : tie.Need-sub-t15 Inv-loop μ-loop
-sub-t15 c =
-    rw (c .total2 .ensures, c .before .block-at2 .ensures)
-    (top-low (of-one (c .before .before .before .loop .inv)) (c .before .before .loop-test .left))
+sub-t14 : tie.Need-sub-t14 Inv-loop μ-loop
+unfolding total
+sub-t14 c = rw (c .block-at2 .ensures) (top-low (of-one (c .before .before .loop .inv)) (c .before .loop-test .left))
 
 returns : tie.Need-returns Inv-loop μ-loop
-returns c = λ s k h.
-    rw (c .total2 .ensures, c .before .block-at2 .ensures)
-    (top-stands (c .before .before .before .loop .inv .each s k h) (c .before .before .loop-test .left))
+unfolding total
+returns c = λ s k h. rw (c .block-at2 .ensures) (top-stands (c .before .before .loop .inv .each s k h) (c .before .loop-test .left))
 
 pub standing-spec : {M : Type 1} → statement M
 standing-spec =
@@ -75,7 +69,6 @@ standing-spec =
     Inv-loop
     μ-loop
     block-at-requires
-    total-requires
     loop-holds
     holder-requires
     beside-requires
@@ -84,6 +77,5 @@ standing-spec =
     loop-again
     sub-block-at
     block-at-requires-2
-    total-requires-2
-    sub-t15
+    sub-t14
     returns)
