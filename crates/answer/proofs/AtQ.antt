@@ -4,9 +4,9 @@ use native.Mathlib.Omega.{arith}
 use mathlib.Core.Path.{_≡_, refl, subst, _∙_}
 use mathlib.Core.List.{List}
 use Rattle.record.specs.declared.Reply.{Reply}
+use Rattle.record.specs.declared.Reply.the-variants.{Done}
 use Rattle.record.specs.declared.AnswerRecord.{AnswerRecord}
-use Rattle.tree.specs.declared.Block.{Block}
-use Rattle.tree.specs.declared.Kind.{Kind}
+use Rattle.tree.specs.declared.Kind.the-variants.{Takes}
 use Rattle.tree.specs.Shape.{Shape, processes, root, leafOf}
 use Rattle.tree.specs.Memory.{Memory, headOf, block}
 use Rattle.tree.specs.Order.{total}
@@ -25,12 +25,12 @@ use Rattle.steps.proofs.Progress.{Rooted, Way}
 use Rattle.steps.proofs.Invariant.{holding}
 use Rattle.steps.proofs.Places.{processes-most}
 use Rattle.rules.specs.Refusals.{heightFor}
-use Rattle.rules.specs.Answer.{replyOf, answerOf}
-use Rattle.rules.proofs.Leaves.{IsBlockOf}
+use Rattle.rules.specs.Answer.{takeReply, replyOf, answerOf}
 use Rattle.search.specs.declared.Standing.{Standing}
-use Rattle.search.specs.Stands.{StandsAs, OfKind, StandsAt}
+use Rattle.search.specs.Stands.{StandsAs, InBlock, OfKind, StandsAt}
 use Rattle.answer.specs.Playing.{machineOf, Plays}
-use Rattle.answer.specs.Answering.{kindOf, RepliesAs}
+use Rattle.answer.specs.Answering.{recordOf, TakenAs}
+use Rattle.answer.proofs.PlaysLaws.{steps-small}
 
 -- the height of the tree for so many processes
 height-by : (H : ℕ) → 1 ≤ H → H ≤ 3 → heightFor (2 ^ H) ≡ H
@@ -41,18 +41,15 @@ height-by (suc (suc zero)) f l = refl
 height-by (suc (suc (suc zero))) f l = refl
 height-by (suc (suc (suc (suc H)))) f l = absurd (omega arith)
 
--- the block of an operation adds one of its kind
-block-kind : (o : Operation) (b c : Block) → IsBlockOf o b c → total (kindOf o) b < total (kindOf o) c
-unfolding total
-block-kind (Put x) b c e = omega (arith, e .0)
-block-kind Take b c e = omega (arith, e .1)
-
 module _ {s : Shape} {ps : List Process} {starts heads table : List ℕ} {k : ℕ} {q : Process} (plays : Plays s ps starts heads table k q) {p : ℕ} (width : processes s ≡ p) where
   abbrev m : Memory
   m = record { table = table; heads = heads }
 
   pub leaf-small : p + k < 16
   leaf-small = omega (arith, plays .low, processes-most s (plays .tall) (plays .few))
+
+  pub answer-small : {r : Reply} {b : ℕ} {x : AnswerRecord} → x ≡ recordOf k q r b → (x .process < 256) × (x .steps < 65536)
+  answer-small e = rw e (omega (arith, leaf-small), omega (arith, steps-small s ps starts heads table k q plays))
 
   height-is : heightFor p ≡ s .height
   unfolding processes
@@ -81,28 +78,36 @@ module _ {s : Shape} {ps : List Process} {starts heads table : List ℕ} {k : �
     unfolding leafOf
     stands-as = record { settles = settles; process = plays .low; own = rw width; first = plays .some o Q status; rooted = rooted }
 
-    -- and its leaf has its block
-    of-kind : OfKind s table (kindOf o) k (q .begun)
-    unfolding block
-    of-kind =
-        let n = root-sound s m (settles .sound) in
-        block-kind o _ _
-        (plays .own o Q status
-        (reached-present s m (settles .sound) (plays .inner) k (plays .low) (headOf m root - 1) (below-head n _ (omega (arith, n .head))) (q .begun) (plays .some o Q status) rooted))
+    -- the record that is made is its answer
+    answer-is : {b : ℕ} {r : Reply} → InBlock s table k (q .begun) b → r ≡ replyOf s table (record { process = k; serial = q .begun }) o
+        → recordOf k q r b ≡ answerOf s (machineOf table heads ps) k o
+    unfolding answerOf
+    answer-is stands f = rw (plays .here, f, stands .own)
 
-    module _ {height : ℕ} (tall : height ≡ heightFor p) {κ : Kind} (kind : κ ≡ kindOf o) {at : Standing} (stands : StandsAt s table κ k (q .begun) at) where
-      pub replies-as : RepliesAs s k (q .begun) heads starts table height o at
-      replies-as =
-          record {
-            settles = settles;
-            tall = tall ∙ height-is;
-            kind = of-kind;
-            stands = subst (λ (x : Kind). StandsAt s table x k (q .begun) at) kind stands;
-          }
+    pub put-answer : {x b : ℕ} → o ≡ Put x → InBlock s table k (q .begun) b → recordOf k q Done b ≡ answerOf s (machineOf table heads ps) k o
+    unfolding replyOf
+    put-answer e stands = answer-is stands (rw e)
 
-      -- the record that is made is its answer
-      pub answer-is : {r : Reply} → r ≡ replyOf s table (record { process = k; serial = q .begun }) o
-          → _≡_ {A = AnswerRecord} (record { process = k; reply = r; steps = q .steps + 1; serial = q .begun; block = at .block })
-          (answerOf s (machineOf table heads ps) k o)
-      unfolding answerOf
-      answer-is f = rw (plays .here, f, stands .block)
+    module _ (e : o ≡ Take) where
+      -- the leaf of a take has its block
+      of-takes : OfKind s table Takes k (q .begun)
+      unfolding total block
+      of-takes =
+          let n = root-sound s m (settles .sound) in
+          let held = reached-present s m (settles .sound) (plays .inner) k (plays .low) (headOf m root - 1) (below-head n _ (omega (arith, n .head))) (q .begun) (plays .some o Q status) rooted in
+          omega (arith, plays .own Take Q (rw e at status) held .1)
+
+      module _ {at : Standing} (stands : StandsAt s table Takes k (q .begun) at) where
+        pub taken-as : {height : ℕ} → height ≡ heightFor p → TakenAs s heads starts table height (at .block) (at .rank)
+        taken-as tall =
+            record {
+              settles = settles;
+              tall = tall ∙ height-is;
+              some = stands .block .first;
+              most = stands .block .last;
+              first = stands .some of-takes;
+            }
+
+        pub take-answer : {r : Reply} → r ≡ takeReply s table (at .block) (at .rank) → recordOf k q r (at .block) ≡ answerOf s (machineOf table heads ps) k o
+        unfolding replyOf
+        take-answer f = answer-is (stands .block) (rw (e, ← stands .block .own, ← stands .rank of-takes) f)

@@ -1,11 +1,12 @@
 // The answer record of an operation whose next step is Q.
-use crate::replies::reply_of;
+use crate::replies::take_reply;
 use record::AnswerRecord;
+use record::Reply;
 use refusals::sooner::height_for;
+use search::climb::root_block;
 use search::climb::standing;
 use steps::Operation;
 use steps::Process;
-use tree::Kind;
 ghost use mathlib.Core.Path.{_≡_};
 ghost use mathlib.Core.List.{List};
 ghost use Prim.Native.Nat.{_<_};
@@ -15,19 +16,23 @@ ghost use Rattle.steps.specs.declared.Status.the-variants.{Busy};
 ghost use Rattle.steps.specs.declared.Step.the-variants.{Q};
 ghost use Rattle.rules.specs.Answer.{answerOf};
 ghost use Rattle.answer.specs.Playing.{machineOf, Plays, Playing};
-ghost use Rattle.answer.specs.Answering.{kindOf};
+ghost use Rattle.answer.specs.Answering.{recordOf};
 
-// The kind of an operation.
-fn kind_of(o: Operation) -> Kind
-    ensures { λ r. ⌜ r ≡ kindOf o ⌝ }
+// The answer record of process k, which is q, with a reply and a root block. Q is one more own step.
+fn answer(k: u32, q: Process, reply: Reply, block: u32) -> AnswerRecord
+    requires { ⌜ q .steps < 65535 ⌝ }
+    ensures { λ r. ⌜ r ≡ recordOf k q reply block ⌝ }
 {
-    match o {
-        Operation::Put(_) => Kind::Puts,
-        Operation::Take => Kind::Takes,
+    AnswerRecord {
+        process: k,
+        reply: reply,
+        steps: q.steps + 1,
+        serial: q.begun,
+        block: block,
     }
 }
 
-// The answer of operation o of process k, which is q. Its leaf is node p + k, and Q is one more own step.
+// The answer of operation o of process k, which is q. Its leaf is node p + k. Only a take's reply goes by its number in the root block.
 pub fn answer_of(
     heads: &[u32],
     table: &[u32],
@@ -42,13 +47,16 @@ pub fn answer_of(
         r ≡ answerOf s (machineOf (now (table .entry)) (now (heads .entry)) ps) k o) ⌝ }
     ensures bounds { λ r. ⌜ (r .process < 256) × (r .steps < 65536) ⌝ }
 {
-    let at = standing(heads, table, starts, p + k, q.begun, kind_of(o));
-    let reply = reply_of(table, starts, height_for(p), o, at);
-    AnswerRecord {
-        process: k,
-        reply: reply,
-        steps: q.steps + 1,
-        serial: q.begun,
-        block: at.block,
+    let leaf = p + k;
+    match o {
+        Operation::Put(_) => {
+            let block = root_block(heads, table, starts, leaf, q.begun);
+            answer(k, q, Reply::Done, block)
+        }
+        Operation::Take => {
+            let at = standing(heads, table, starts, leaf, q.begun);
+            let reply = take_reply(table, starts, height_for(p), at.block, at.rank);
+            answer(k, q, reply, at.block)
+        }
     }
 }

@@ -1,19 +1,17 @@
-// What an operation replies, from where it stands.
+// What a take replies, from where it stands.
 use crate::margin::margin;
 use record::Reply;
-use search::Standing;
 use search::find::put_value;
-use steps::Operation;
 use steps::nodes::block_at;
 ghost use mathlib.Core.Path.{_≡_};
 ghost use mathlib.Core.List.{List};
 ghost use Prim.Native.Nat.{ℕ};
 ghost use Rattle.tree.specs.Shape.{Shape};
-ghost use Rattle.rules.specs.Answer.{takeReply, replyOf};
-ghost use Rattle.answer.specs.Answering.{TakenAs, Taken, RepliesAs, Replies};
+ghost use Rattle.rules.specs.Answer.{takeReply};
+ghost use Rattle.answer.specs.Answering.{TakenAs, Taken};
 
 // The reply of the i-th take of root block b. The root is node 1. Where the margin is not below 0, the put with that number is in the root blocks up to b.
-fn take_reply(table: &[u32], starts: &[usize; 17], height: usize, b: u32, i: u32) -> Reply
+pub fn take_reply(table: &[u32], starts: &[usize; 17], height: usize, b: u32, i: u32) -> Reply
     requires { ⌜ Taken (now starts) (now table) height b i ⌝ }
     ensures { λ r. ⌜ ((s : Shape) (heads : List ℕ) →
         TakenAs s heads (now (starts .entry)) (now (table .entry)) height b i →
@@ -27,23 +25,4 @@ fn take_reply(table: &[u32], starts: &[usize; 17], height: usize, b: u32, i: u32
     let number = i + before.puts - before.size;
     let value = put_value(table, starts, height, b, number);
     Reply::Value(value)
-}
-
-// The reply of an operation: a put is done, and a take goes by its margin.
-pub fn reply_of(
-    table: &[u32],
-    starts: &[usize; 17],
-    height: usize,
-    o: Operation,
-    at: Standing,
-) -> Reply
-    requires { ⌜ Replies (now starts) (now table) height o at ⌝ }
-    ensures { λ r. ⌜ ((s : Shape) (k i : ℕ) (heads : List ℕ) →
-        RepliesAs s k i heads (now (starts .entry)) (now (table .entry)) height o at →
-        r ≡ replyOf s (now (table .entry)) (record { process = k; serial = i }) o) ⌝ }
-{
-    match o {
-        Operation::Put(_) => Reply::Done,
-        Operation::Take => take_reply(table, starts, height, at.block, at.rank),
-    }
 }

@@ -26,7 +26,13 @@ use Rattle.search.proofs.ChildReads.{end-place, end-total}
 use Rattle.search.proofs.Rooted.{end-reaches}
 use Rattle.search.proofs.NumbersUp.{besideTotal, number-low, number-high, number-rank}
 
-module _ (s : Shape) (k i j : ℕ) (starts heads table : List ℕ) (κ : Kind) (place number : ℕ) (h : HoldsAs s k i j starts heads table κ place number) (low : suc j ≤ s .height) where
+-- Block b of the parent of v, the node of height j, holds the operation that v's block `place` holds. Its number there is larger by what is beside it.
+pub record Above (s : Shape) (k i j : ℕ) (starts heads table : List ℕ) (v place b : ℕ) : Type 0 where
+  pub beside : Beside starts table v b
+  pub holds : HoldsAs s k i (suc j) starts heads table b
+  pub counts : {κ : Kind} {number : ℕ} → CountsAs s k i j table κ place number → CountsAs s k i (suc j) table κ b (number + besideOf starts table κ v b)
+
+module _ (s : Shape) (k i j : ℕ) (starts heads table : List ℕ) (place : ℕ) (h : HoldsAs s k i j starts heads table place) (low : suc j ≤ s .height) where
   abbrev m : Memory
   m = record { table = table; heads = heads }
 
@@ -77,16 +83,17 @@ module _ (s : Shape) (k i j : ℕ) (starts heads table : List ℕ) (κ : Kind) (
       small onLeft = omega arith
       small onRight = omega arith
 
-  pub ascends : Ascends starts heads table (ancestor s k j) place
+  pub ascends : {v : ℕ} → v ≡ ancestor s k j → Ascends starts heads table v place
   unfolding parentOf headOf
-  ascends =
-      record {
+  ascends e =
+      rw e
+      (record {
         here = written-place s starts heads table sets here place here-node (inr (sound .node here here-node .filled place (h .some) (h .below)));
         above = node-part s starts heads table sets up up-node;
         headed = node-headed s starts heads table sets up up-node;
         head = sound .node up up-node .head;
         ends = rw (side-word here) ends;
-      }
+      })
 
   -- ---- the block that is found
   module _ (b : ℕ)
@@ -122,39 +129,7 @@ module _ (s : Shape) (k i j : ℕ) (starts heads table : List ℕ) (κ : Kind) (
             left = λ e. let f : here - 1 ≡ leftOf up = omega arith in rw f (end-place s starts heads table sets up inner onLeft (suc b) (up-written (suc b) (omega arith)));
           }
 
-      beside-is : besideOf starts table κ here (suc b) ≡ besideTotal s m κ up b side
-      unfolding besideOf parentOf leftOf rightOf
-      beside-is =
-          side-cases (λ d. besideOf starts table κ here (suc b) ≡ besideTotal s m κ up b d) here
-          (λ e.
-          let f : here + 1 ≡ rightOf up = omega arith in
-          let g : suc b - 1 ≡ b = omega arith in
-          rw (eq-eqb (here % 2) 0 e, f, g) (end-total s starts heads table sets up inner onRight b κ))
-          (λ e. let f : here - 1 ≡ leftOf up = omega arith in rw (ne-eqb (here % 2) 0 e, f) (end-total s starts heads table sets up inner onLeft (suc b) κ))
-
-      -- the operation's number in it is larger by what is beside it
-      up-counts : CountsAs s k i (suc j) table κ (suc b) (number + besideOf starts table κ here (suc b))
-      unfolding block
-      up-counts =
-          let level = ancestor-level s k kp (suc j) low in
-          let e : suc b - 1 ≡ b = omega arith in
-          let child = child-at s k j in
-          let x : OpId = record { process = k; serial = i } in
-          record {
-            low = rw e (omega (arith, beside-is, h .counts .low, rw child at (number-low s m sound κ j up level b has side place past upto)));
-            high = omega (arith, beside-is, h .counts .high, rw child at (number-high s m sound κ j up level b has side place past upto));
-            inside = λ o. times-step s m sound κ j up level b has x side place past upto (rw child (h .counts .inside o));
-            exact = λ o.
-                rw e
-                (omega (
-                  arith,
-                  beside-is,
-                  h .counts .exact o,
-                  rw child at (number-rank s m sound κ j up level b has side place past upto x (rw child (h .counts .inside o))),
-                ));
-          }
-
-      up-holds : HoldsAs s k i (suc j) starts heads table κ (suc b) (number + besideOf starts table κ here (suc b))
+      up-holds : HoldsAs s k i (suc j) starts heads table (suc b)
       up-holds =
           let reaches = climb-step s m sound k kp j low b place has past upto i (h .past) (h .upto) in
           let e : suc b - 1 ≡ b = omega arith in
@@ -165,12 +140,45 @@ module _ (s : Shape) (k i j : ℕ) (starts heads table : List ℕ) (κ : Kind) (
             below = below;
             past = rw e (reaches .0);
             upto = reaches .1;
-            counts = up-counts;
           }
 
-  -- both, of the block that was found
-  pub above : (b : ℕ) → FirstAbove starts heads table (ancestor s k j) place b
-      → Beside starts table (ancestor s k j) b × HoldsAs s k i (suc j) starts heads table κ b (number + besideOf starts table κ (ancestor s k j) b)
+      module _ {κ : Kind} {number : ℕ} (counts : CountsAs s k i j table κ place number) where
+        beside-is : besideOf starts table κ here (suc b) ≡ besideTotal s m κ up b side
+        unfolding besideOf parentOf leftOf rightOf
+        beside-is =
+            side-cases (λ d. besideOf starts table κ here (suc b) ≡ besideTotal s m κ up b d) here
+            (λ e.
+            let f : here + 1 ≡ rightOf up = omega arith in
+            let g : suc b - 1 ≡ b = omega arith in
+            rw (eq-eqb (here % 2) 0 e, f, g) (end-total s starts heads table sets up inner onRight b κ))
+            (λ e. let f : here - 1 ≡ leftOf up = omega arith in rw (ne-eqb (here % 2) 0 e, f) (end-total s starts heads table sets up inner onLeft (suc b) κ))
+
+        -- the operation's number in it is larger by what is beside it
+        up-counts : CountsAs s k i (suc j) table κ (suc b) (number + besideOf starts table κ here (suc b))
+        unfolding block
+        up-counts =
+            let level = ancestor-level s k kp (suc j) low in
+            let e : suc b - 1 ≡ b = omega arith in
+            let child = child-at s k j in
+            let x : OpId = record { process = k; serial = i } in
+            record {
+              low = rw e (omega (arith, beside-is, counts .low, rw child at (number-low s m sound κ j up level b has side place past upto)));
+              high = omega (arith, beside-is, counts .high, rw child at (number-high s m sound κ j up level b has side place past upto));
+              inside = λ o. times-step s m sound κ j up level b has x side place past upto (rw child (counts .inside o));
+              exact = λ o.
+                  rw e
+                  (omega (
+                    arith,
+                    beside-is,
+                    counts .exact o,
+                    rw child at (number-rank s m sound κ j up level b has side place past upto x (rw child (counts .inside o))),
+                  ));
+            }
+
+  -- all of it, of the block that was found
+  pub above : {v : ℕ} → v ≡ ancestor s k j → (b : ℕ) → FirstAbove starts heads table v place b → Above s k i j starts heads table v place b
   unfolding parentOf headOf
-  above zero f = absurd (omega (arith, f .some))
-  above (suc b) f = let g = rw (side-word here) at f in (besides b g, up-holds b g)
+  above e zero f = absurd (omega (arith, f .some))
+  above e (suc b) f =
+      let g = rw (e, side-word here) at f in
+      rw e (record { beside = besides b g; holds = up-holds b g; counts = up-counts b g })

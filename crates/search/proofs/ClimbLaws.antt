@@ -1,4 +1,4 @@
--- The climb by node numbers: what each level of it needs and gives, at the root and below it. Used by proofs; no promise cites it.
+-- The climb by node numbers: what each level of it needs and gives, at the root and below it, without and with the count. Used by proofs; no promise cites it.
 use Prim.Native.Nat.{ℕ, suc, _+_, _-_, _/_, _≤_, _<_}
 use native.Mathlib.Omega.{arith}
 use mathlib.Core.Path.{_≡_, sym, ap, subst, _∙_}
@@ -13,76 +13,89 @@ use Rattle.tree.proofs.Presence.{count}
 use Rattle.tree.proofs.Ancestors.{ancestor, ancestor-node, root-height, not-root}
 use Rattle.steps.specs.Ready.{HasPlace, nodeBlock}
 use Rattle.steps.proofs.Places.{places-most}
-use Rattle.search.specs.Stands.{StandsAt}
+use Rattle.search.specs.Stands.{InBlock, StandsAt}
 use Rattle.search.specs.Climbing.{Ascends, FirstAbove, Beside, besideOf}
-use Rattle.search.proofs.Holding.{HoldsAs, Reached, Climbing}
-use Rattle.search.proofs.Ascent.{ascends, above}
-use Rattle.search.proofs.RootStands.{root-place, root-low, root-stands}
+use Rattle.search.proofs.Holding.{CountsAs, HoldsAs, Reached, Counted, OfEach}
+use Rattle.search.proofs.Ascent.{Above, ascends, above}
+use Rattle.search.proofs.RootStands.{root-place, root-block, root-low, root-stands}
 
 total-most : (κ : Kind) (b : Block) → total κ b ≤ count b
 unfolding total
 total-most Puts b = omega arith
 total-most Takes b = omega arith
 
-module _ {s : Shape} {k i j : ℕ} {starts heads table : List ℕ} {κ : Kind} {place number : ℕ} (h : HoldsAs s k i j starts heads table κ place number) where
+module _ {s : Shape} {k i : ℕ} {starts heads table : List ℕ} {v place : ℕ} (r : Reached s k i starts heads table v place) where
+  pub node-first : 1 ≤ v
+  node-first = rw (r .node) (ancestor-node s k (r .holds .stands .process) (r .level) (r .holds .tall) .first)
+
+  -- at the root, which is node 1
+  module _ (top : v ≡ 1) where
+    top-level : r .level ≡ s .height
+    top-level = root-height s k (r .holds .stands .process) (r .level) (r .holds .tall) (sym (r .node) ∙ top)
+
+    at-top : HoldsAs s k i (s .height) starts heads table place
+    at-top = subst (λ (l : ℕ). HoldsAs s k i l starts heads table place) top-level (r .holds)
+
+    pub top-place : HasPlace starts table 1 (place - 1)
+    unfolding root
+    top-place = root-place s k i starts heads table place at-top
+
+    pub top-block : InBlock s table k i place
+    top-block = root-block s k i starts heads table place at-top
+
+  -- below it
+  module _ (ne : v ≡ 1 → ⊥) where
+    low : suc (r .level) ≤ s .height
+    low = not-root s k (r .holds .stands .process) (r .level) (r .holds .tall) (λ e. ne (r .node ∙ e))
+
+    pub node-ascends : Ascends starts heads table v place
+    node-ascends = ascends s k i (r .level) starts heads table place (r .holds) low (r .node)
+
+    module _ {b : ℕ} (f : FirstAbove starts heads table v place b) where
+      node-above : Above s k i (r .level) starts heads table v place b
+      node-above = above s k i (r .level) starts heads table place (r .holds) low (r .node) b f
+
+      pub node-beside : Beside starts table v b
+      node-beside = node-above .beside
+
+      pub climbs : Reached s k i starts heads table (v / 2) b
+      unfolding parentOf
+      climbs = record { level = suc (r .level); node = ap parentOf (r .node); holds = node-above .holds }
+
+module _ {s : Shape} {k i : ℕ} {starts heads table : List ℕ} {κ : Kind} {v place number : ℕ} (c : Counted s k i starts heads table κ v place number) where
   pub number-small : number < 65536
   unfolding block
   number-small =
+      let h = c .at .holds in
       let sets = h .stands .settles in
+      let node = ancestor s k (c .at .level) in
       omega (
         arith,
-        h .counts .high,
-        total-most κ (block s (record { table = table; heads = heads }) (ancestor s k j) place),
-        sets .sound .node (ancestor s k j) (ancestor-node s k (h .stands .process) j (h .tall)) .within place,
-        places-most s (sets .tall) (sets .few) (ancestor s k j),
+        c .counts .high,
+        total-most κ (block s (record { table = table; heads = heads }) node place),
+        sets .sound .node node (ancestor-node s k (h .stands .process) (c .at .level) (h .tall)) .within place,
+        places-most s (sets .tall) (sets .few) node,
       )
 
-  module _ {v : ℕ} (node : v ≡ ancestor s k j) where
-    -- at the root, which is node 1
-    module _ (top : v ≡ 1) where
-      at-top : HoldsAs s k i (s .height) starts heads table κ place number
-      at-top = subst (λ (l : ℕ). HoldsAs s k i l starts heads table κ place number) (root-height s k (h .stands .process) j (h .tall) (sym node ∙ top)) h
+  module _ (top : v ≡ 1) where
+    top-counts : CountsAs s k i (s .height) table κ place number
+    top-counts = subst (λ (l : ℕ). CountsAs s k i l table κ place number) (top-level (c .at) top) (c .counts)
 
-      pub top-place : HasPlace starts table 1 (place - 1)
-      unfolding root
-      top-place = root-place s k i starts heads table κ place number at-top
+    pub top-low : total κ (nodeBlock starts table 1 (place - 1)) ≤ number
+    unfolding root
+    top-low = root-low s k i starts heads table place (at-top (c .at) top) κ number top-counts
 
-      pub top-low : total κ (nodeBlock starts table 1 (place - 1)) ≤ number
-      unfolding root
-      top-low = root-low s k i starts heads table κ place number at-top
+    pub top-stands : StandsAt s table κ k i (record { block = place; rank = number - total κ (nodeBlock starts table 1 (place - 1)) })
+    unfolding root
+    top-stands = root-stands s k i starts heads table place (at-top (c .at) top) κ number top-counts
 
-      pub top-stands : StandsAt s table κ k i (record { block = place; rank = number - total κ (nodeBlock starts table 1 (place - 1)) })
-      unfolding root
-      top-stands = root-stands s k i starts heads table κ place number at-top
+  pub climbs-counted : (v ≡ 1 → ⊥) → {b : ℕ} → FirstAbove starts heads table v place b → Counted s k i starts heads table κ (v / 2) b (number + besideOf starts table κ v b)
+  unfolding climbs
+  climbs-counted ne f = record { at = climbs (c .at) ne f; counts = node-above (c .at) ne f .counts (c .counts) }
 
-    -- below it
-    module _ (ne : v ≡ 1 → ⊥) where
-      low : suc j ≤ s .height
-      low = not-root s k (h .stands .process) j (h .tall) (λ e. ne (node ∙ e))
+module _ {starts heads table : List ℕ} {leaf serial : ℕ} {P : Shape → ℕ → Type 0} (c : OfEach starts heads table leaf serial P) where
+  pub of-one : P (c .stands .shape) (c .stands .process)
+  of-one = c .each (c .stands .shape) (c .stands .process) (c .stands .stands)
 
-      pub node-ascends : Ascends starts heads table v place
-      node-ascends = rw node (ascends s k i j starts heads table κ place number h low)
-
-      pub node-above : (b : ℕ) → FirstAbove starts heads table v place b
-          → Beside starts table v b × HoldsAs s k i (suc j) starts heads table κ b (number + besideOf starts table κ v b)
-      node-above b = rw node (above s k i j starts heads table κ place number h low b)
-
-    pub node-first : 1 ≤ v
-    node-first = rw node (ancestor-node s k (h .stands .process) j (h .tall) .first)
-
-    node-parent : v / 2 ≡ ancestor s k (suc j)
-    unfolding parentOf
-    node-parent = ap parentOf node
-
-module _ {starts heads table : List ℕ} {κ : Kind} {leaf serial v place number : ℕ} (c : Climbing starts heads table κ leaf serial v place number) where
-  pub reached-one : Reached (c .stands .shape) (c .stands .process) serial starts heads table κ v place number
-  reached-one = c .reached (c .stands .shape) (c .stands .process) (c .stands .stands)
-
-  pub climbs-up : (v ≡ 1 → ⊥) → (b : ℕ) → FirstAbove starts heads table v place b → Climbing starts heads table κ leaf serial (v / 2) b (number + besideOf starts table κ v b)
-  climbs-up ne b f =
-      record {
-        stands = c .stands;
-        reached = λ s k h.
-            let r = c .reached s k h in
-            record { level = suc (r .level); node = node-parent (r .holds) (r .node); holds = node-above (r .holds) (r .node) ne b f .1 };
-      }
+  pub of-next : {Q : Shape → ℕ → Type 0} → ((s : Shape) (k : ℕ) → P s k → Q s k) → OfEach starts heads table leaf serial Q
+  of-next f = record { stands = c .stands; each = λ s k h. f s k (c .each s k h) }

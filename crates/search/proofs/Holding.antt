@@ -1,4 +1,4 @@
--- Which block of a node holds an operation, and its number there. Used by proofs; no promise cites it.
+-- Which block of a node holds an operation, and its number there: the invariants of the climb, without and with the count. Used by proofs; no promise cites it.
 use Prim.Native.Nat.{ℕ, _+_, _-_, _≤_, _<_}
 use mathlib.Core.Path.{_≡_}
 use mathlib.Core.List.{List}
@@ -21,23 +21,27 @@ pub record CountsAs (s : Shape) (k i j : ℕ) (table : List ℕ) (κ : Kind) (pl
   pub exact : OfKind s table κ k i
       → number ≡ total κ (blockAt s table (ancestor s k j) (place - 1)) + rankIn (record { process = k; serial = i }) (opened s table κ j (ancestor s k j) place)
 
--- in the node of height j above the leaf of process k, block `place` holds operation i of k, and `number` is its number
-pub record HoldsAs (s : Shape) (k i j : ℕ) (starts heads table : List ℕ) (κ : Kind) (place number : ℕ) : Type 0 where
+-- in the node of height j above the leaf of process k, block `place` holds operation i of k
+pub record HoldsAs (s : Shape) (k i j : ℕ) (starts heads table : List ℕ) (place : ℕ) : Type 0 where
   pub stands : StandsAs s k starts heads table (leafOf s k) i
   pub tall : j ≤ s .height
   pub some : 1 ≤ place
   pub below : place < headOf (record { table = table; heads = heads }) (ancestor s k j)
   pub past : reach s (record { table = table; heads = heads }) k j (place - 1) < i
   pub upto : i ≤ reach s (record { table = table; heads = heads }) k j place
-  pub counts : CountsAs s k i j table κ place number
 
--- the climb has come to node v: its block `place` holds operation i of process k, and `number` is the operation's number there
-pub record Reached (s : Shape) (k i : ℕ) (starts heads table : List ℕ) (κ : Kind) (v place number : ℕ) : Type 0 where
+-- the climb has come to node v: its block `place` holds operation i of process k
+pub record Reached (s : Shape) (k i : ℕ) (starts heads table : List ℕ) (v place : ℕ) : Type 0 where
   pub level : ℕ
   pub node : v ≡ ancestor s k level
-  pub holds : HoldsAs s k i level starts heads table κ place number
+  pub holds : HoldsAs s k i level starts heads table place
 
--- it has done so in each tree and of each process that the leaf and the operation may be of, of which there is one
-pub record Climbing (starts heads table : List ℕ) (κ : Kind) (leaf serial v place number : ℕ) : Type 0 where
+-- it has done so with a count: `number` is the operation's number there
+pub record Counted (s : Shape) (k i : ℕ) (starts heads table : List ℕ) (κ : Kind) (v place number : ℕ) : Type 0 where
+  pub at : Reached s k i starts heads table v place
+  pub counts : CountsAs s k i (at .level) table κ place number
+
+-- P holds of each tree and process that the leaf and the operation may be of, of which there is one
+pub record OfEach (starts heads table : List ℕ) (leaf serial : ℕ) (P : Shape → ℕ → Type 0) : Type 0 where
   pub stands : Stands starts heads table leaf serial
-  pub reached : (s : Shape) (k : ℕ) → StandsAs s k starts heads table leaf serial → Reached s k serial starts heads table κ v place number
+  pub each : (s : Shape) (k : ℕ) → StandsAs s k starts heads table leaf serial → P s k

@@ -20,7 +20,7 @@ use Rattle.tree.proofs.Rank.{rank-leaf, times-leaf}
 use Rattle.steps.specs.Ready.{HasPlace, nodeBlock}
 use Rattle.steps.specs.Settled.{Settles}
 use Rattle.search.specs.Stands.{StandsAs}
-use Rattle.search.proofs.Holding.{CountsAs, HoldsAs}
+use Rattle.search.proofs.Holding.{CountsAs, Reached, Counted}
 use Rattle.search.proofs.Words.{node-reads, written-place}
 
 module _ (s : Shape) (k : ℕ) (starts heads table : List ℕ) (leaf i : ℕ) (h : StandsAs s k starts heads table leaf i) where
@@ -57,7 +57,24 @@ module _ (s : Shape) (k : ℕ) (starts heads table : List ℕ) (leaf i : ℕ) (h
       let e : suc (i - 1) ≡ i = omega (arith, h .first) in
       rw e at (sets .sound .adds k kp (i - 1) (rw e present))
 
-  -- its block there holds it, and its number is the block's total
+  -- its block there holds it
+  pub leaf-reached : Reached s k i starts heads table leaf i
+  leaf-reached =
+      let c = climb-leaf s m (sets .sound) k kp i (h .first) in
+      record {
+        level = 0;
+        node = h .own;
+        holds = record {
+          stands = record { settles = sets; process = kp; own = refl; first = h .first; rooted = h .rooted };
+          tall = omega arith;
+          some = h .first;
+          below = below;
+          past = c .0;
+          upto = c .1;
+        };
+      }
+
+  -- and its number is the block's total
   leaf-counts : (κ : Kind) → CountsAs s k i 0 table κ i (total κ (block s m (leafOf s k) i))
   unfolding block
   leaf-counts κ =
@@ -68,16 +85,8 @@ module _ (s : Shape) (k : ℕ) (starts heads table : List ℕ) (leaf i : ℕ) (h
         exact = λ o. omega (arith, rank-leaf s m κ k i o, at-most-one κ _ _ follows adds, o);
       }
 
-  pub leaf-holds : (κ : Kind) → HoldsAs s k i 0 starts heads table κ i (total κ (nodeBlock starts table leaf i))
-  leaf-holds κ =
-      let c = climb-leaf s m (sets .sound) k kp i (h .first) in
+  pub leaf-counted : (κ : Kind) → Counted s k i starts heads table κ leaf i (total κ (nodeBlock starts table leaf i))
+  unfolding leaf-reached
+  leaf-counted κ =
       let e : nodeBlock starts table leaf i ≡ block s m (leafOf s k) i = rw (h .own) (node-reads s starts heads table sets (leafOf s k) i node) in
-      record {
-        stands = record { settles = sets; process = kp; own = refl; first = h .first; rooted = h .rooted };
-        tall = omega arith;
-        some = h .first;
-        below = below;
-        past = c .0;
-        upto = c .1;
-        counts = rw e (leaf-counts κ);
-      }
+      record { at = leaf-reached; counts = rw e (leaf-counts κ) }

@@ -17,19 +17,16 @@ use Rattle.tree.proofs.Reached.{ancestor-top}
 use Rattle.tree.proofs.Climb.{climb-root}
 use Rattle.steps.specs.Ready.{HasPlace, nodeBlock}
 use Rattle.steps.specs.Settled.{Settles}
-use Rattle.search.specs.Stands.{StandsAt}
-use Rattle.search.proofs.Holding.{HoldsAs}
+use Rattle.search.specs.Stands.{InBlock, StandsAt}
+use Rattle.search.proofs.Holding.{CountsAs, HoldsAs}
 use Rattle.search.proofs.Words.{node-reads, written-place}
 
-module _ (s : Shape) (k i : ℕ) (starts heads table : List ℕ) (κ : Kind) (place number : ℕ) (h : HoldsAs s k i (s .height) starts heads table κ place number) where
+module _ (s : Shape) (k i : ℕ) (starts heads table : List ℕ) (place : ℕ) (h : HoldsAs s k i (s .height) starts heads table place) where
   abbrev m : Memory
   m = record { table = table; heads = heads }
 
   abbrev sets : Settles s starts heads table
   sets = h .stands .settles
-
-  abbrev x : OpId
-  x = record { process = k; serial = i }
 
   top : ancestor s k (s .height) ≡ root
   top = ancestor-top s k (h .stands .process)
@@ -45,25 +42,34 @@ module _ (s : Shape) (k i : ℕ) (starts heads table : List ℕ) (κ : Kind) (pl
       written-place s starts heads table sets root (place - 1) (node-root s)
       (below-head (root-sound s m (sets .sound)) (place - 1) (omega (arith, rw top at (h .below))))
 
-  root-reads : total κ (nodeBlock starts table root (place - 1)) ≡ total κ (blockAt s table root (place - 1))
-  unfolding block
-  root-reads = ap (total κ) (node-reads s starts heads table sets root (place - 1) (node-root s))
-
-  pub root-low : total κ (nodeBlock starts table root (place - 1)) ≤ number
-  root-low = omega (arith, root-reads, rw top at (h .counts .low))
-
-  pub root-stands : StandsAt s table κ k i (record { block = place; rank = number - total κ (nodeBlock starts table root (place - 1)) })
-  unfolding inRoot
-  root-stands =
+  pub root-block : InBlock s table k i place
+  root-block =
       let e : suc (place - 1) ≡ place = omega (arith, h .some) in
-      let low = rw top at (h .counts .low) in
-      let high = rw top at (h .counts .high) in
-      rw root-reads
-      (record {
+      record {
         first = h .some;
         last = last;
-        block = sym (rw e at (climb-root s m (sets .sound) k (h .stands .process) (place - 1) i (rw e last) (h .past) (rw e (h .upto))));
-        rank = λ o. omega (arith, rw top at (h .counts .exact o));
-        some = λ o. omega (arith, rw top at (h .counts .exact o), rw top at (rank-some x _ (h .counts .inside o)));
-        most = omega arith;
-      })
+        own = sym (rw e at (climb-root s m (sets .sound) k (h .stands .process) (place - 1) i (rw e last) (h .past) (rw e (h .upto))));
+      }
+
+  -- with the number there
+  module _ (κ : Kind) (number : ℕ) (counts : CountsAs s k i (s .height) table κ place number) where
+    root-reads : total κ (nodeBlock starts table root (place - 1)) ≡ total κ (blockAt s table root (place - 1))
+    unfolding block
+    root-reads = ap (total κ) (node-reads s starts heads table sets root (place - 1) (node-root s))
+
+    pub root-low : total κ (nodeBlock starts table root (place - 1)) ≤ number
+    root-low = omega (arith, root-reads, rw top at (counts .low))
+
+    pub root-stands : StandsAt s table κ k i (record { block = place; rank = number - total κ (nodeBlock starts table root (place - 1)) })
+    unfolding inRoot
+    root-stands =
+        let low = rw top at (counts .low) in
+        let high = rw top at (counts .high) in
+        let x : OpId = record { process = k; serial = i } in
+        rw root-reads
+        (record {
+          block = root-block;
+          rank = λ o. omega (arith, rw top at (counts .exact o));
+          some = λ o. omega (arith, rw top at (counts .exact o), rw top at (rank-some x _ (counts .inside o)));
+          most = omega arith;
+        })

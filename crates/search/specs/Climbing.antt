@@ -7,7 +7,6 @@ use lib.Dec.{eqb}
 use Rattle.base.specs.Choice.{if_then_else_}
 use Rattle.tree.specs.declared.Kind.{Kind}
 use Rattle.tree.specs.Order.{total}
-use Rattle.tree.proofs.Reach.{reach}
 use Rattle.steps.specs.Ready.{HasPart, HasPlace, nodePart, nodeBlock}
 use Rattle.search.specs.Searched.{Reaches, First}
 

@@ -30,11 +30,15 @@ pub record Stands (starts heads table : List ℕ) (leaf serial : ℕ) : Type 0 w
 abbrev pub OfKind : Shape → List ℕ → Kind → ℕ → ℕ → Type 0
 OfKind s t κ k i = total κ (blockAt s t (leafOf s k) (i - 1)) < total κ (blockAt s t (leafOf s k) i)
 
--- r is where operation i of process k stands: a present root block, and the operation's number among those of kind κ there, if it is of that kind
+-- b is the root block of operation i of process k, and is present
+pub record InBlock (s : Shape) (t : List ℕ) (k i b : ℕ) : Type 0 where
+  pub first : 1 ≤ b
+  pub last : b ≤ lastRoot s t
+  pub own : b ≡ rootBlockOf s t (record { process = k; serial = i })
+
+-- r is where operation i of process k stands: its root block, and its number among those of kind κ there, if it is of that kind
 pub record StandsAt (s : Shape) (t : List ℕ) (κ : Kind) (k i : ℕ) (r : Standing) : Type 0 where
-  pub first : 1 ≤ r .block
-  pub last : r .block ≤ lastRoot s t
-  pub block : r .block ≡ rootBlockOf s t (record { process = k; serial = i })
+  pub block : InBlock s t k i (r .block)
   pub rank : OfKind s t κ k i → r .rank ≡ rankIn (record { process = k; serial = i }) (inRoot s t κ (r .block))
   pub some : OfKind s t κ k i → 1 ≤ r .rank
   pub most : r .rank ≤ total κ (blockAt s t root (r .block)) - total κ (blockAt s t root (r .block - 1))

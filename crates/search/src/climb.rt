@@ -4,12 +4,11 @@ use crate::places::first_place;
 use steps::heads::head_of;
 use steps::heads::wide;
 use steps::nodes::block_at;
-use tree::Kind;
-use tree::blocks::total;
 ghost use mathlib.Core.Path.{_≡_};
 ghost use Prim.Native.Nat.{ℕ};
+ghost use Rattle.tree.specs.declared.Kind.the-variants.{Takes};
 ghost use Rattle.tree.specs.Shape.{Shape};
-ghost use Rattle.search.specs.Stands.{StandsAs, Stands, StandsAt};
+ghost use Rattle.search.specs.Stands.{StandsAs, Stands, InBlock, StandsAt};
 ghost use Rattle.search.specs.Climbing.{Ascends, FirstAbove, Beside, besideOf};
 
 // The block of v's parent that holds v's block `place`: the first whose end towards v reaches it. The superblock word of v's block is a guess only: the parent's head may
@@ -23,46 +22,62 @@ fn holder(heads: &[u32], table: &[u32], starts: &[usize; 17], v: u32, place: u32
     first_place(table, starts, v / 2, 3 + wide(v % 2), last, place, guess)
 }
 
-// How many operations of v's sibling, from its first block on, come before v's in block b of the parent. In a block the left child's come first, so they are those up to the
+// How many takes of v's sibling, from its first block on, come before v's in block b of the parent. In a block the left child's come first, so they are those up to the
 // sibling's end in the block before b if v is on the left, and in b if v is on the right.
-fn beside(table: &[u32], starts: &[usize; 17], v: u32, b: u32, kind: Kind) -> u32
+fn beside(table: &[u32], starts: &[usize; 17], v: u32, b: u32) -> u32
     requires { ⌜ Beside (now starts) (now table) v b ⌝ }
-    ensures { λ r. ⌜ r ≡ besideOf (now (starts .entry)) (now (table .entry)) kind v b ⌝ }
+    ensures { λ r. ⌜ r ≡ besideOf (now (starts .entry)) (now (table .entry)) Takes v b ⌝ }
 {
     if v % 2 == 0 {
         let end = block_at(table, starts, v / 2, b - 1).right;
-        return total(kind, block_at(table, starts, v + 1, end));
+        return block_at(table, starts, v + 1, end).takes;
     }
     let end = block_at(table, starts, v / 2, b).left;
-    total(kind, block_at(table, starts, v - 1, end))
+    block_at(table, starts, v - 1, end).takes
 }
 
-// Where operation `serial` of the process with that leaf stands, found from the leaf up to the root, which is node 1. The number counts v's operations of the kind from its
-// first block on. Counted so, a leaf's is its block's total, the parent's is v's and what comes before from the sibling, and only the root's blocks before the operation's
-// own are taken off.
+// The root block of operation `serial` of the process with that leaf, found from the leaf up to the root, which is node 1. The answer of a put needs no more than this: it
+// is spared the reads that counting takes.
+pub fn root_block(heads: &[u32], table: &[u32], starts: &[usize; 17], leaf: u32, serial: u32) -> u32
+    requires { ⌜ Stands (now starts) (now heads) (now table) leaf serial ⌝ }
+    ensures { λ r. ⌜ ((s : Shape) (k : ℕ) →
+        StandsAs s k (now (starts .entry)) (now (heads .entry)) (now (table .entry)) leaf serial →
+        InBlock s (now (table .entry)) k serial r) ⌝ }
+{
+    let mut v = leaf;
+    let mut place = serial;
+    while v != 1 {
+        place = holder(heads, table, starts, v, place);
+        v = v / 2;
+    }
+    place
+}
+
+// Where operation `serial` of the process with that leaf stands among the takes: the same climb, with a count. The number counts v's takes from its first block on. Counted
+// so, a leaf's is its block's total, the parent's is v's and what comes before from the sibling, and only the root's blocks before the operation's own are taken off. Takes
+// alone are counted, since nothing asks for the number of a put in its block.
 pub fn standing(
     heads: &[u32],
     table: &[u32],
     starts: &[usize; 17],
     leaf: u32,
     serial: u32,
-    kind: Kind,
 ) -> Standing
     requires { ⌜ Stands (now starts) (now heads) (now table) leaf serial ⌝ }
     ensures { λ r. ⌜ ((s : Shape) (k : ℕ) →
         StandsAs s k (now (starts .entry)) (now (heads .entry)) (now (table .entry)) leaf serial →
-        StandsAt s (now (table .entry)) kind k serial r) ⌝ }
+        StandsAt s (now (table .entry)) Takes k serial r) ⌝ }
 {
     let mut v = leaf;
     let mut place = serial;
-    let mut number = total(kind, block_at(table, starts, leaf, serial));
+    let mut number = block_at(table, starts, leaf, serial).takes;
     while v != 1 {
         let b = holder(heads, table, starts, v, place);
-        number = number + beside(table, starts, v, b, kind);
+        number = number + beside(table, starts, v, b);
         v = v / 2;
         place = b;
     }
-    let before = total(kind, block_at(table, starts, 1, place - 1));
+    let before = block_at(table, starts, 1, place - 1).takes;
     Standing {
         block: place,
         rank: number - before,

@@ -4,7 +4,7 @@ pub mod climb;
 pub mod find;
 pub mod places;
 
-// Where an operation stands: its root block, and its number among the operations of its kind there, from 1.
+// Where an operation stands: its root block, and its number among the takes there, from 1.
 pub struct Standing {
     pub block: u32,
     pub rank: u32,

@@ -1,61 +1,85 @@
 -- `answers::answer_of` meets its contract. Assumes nothing.
 use native.Mathlib.Omega.{arith}
+use mathlib.Core.Path.{_∙_}
 use borrow.Author.Needs.{needs}
 use Rattle.answer.proofs.PlaysLaws.{steps-small}
-use Rattle.answer.proofs.AtQ.{leaf-small, stands-as, replies-as, answer-is}
+use Rattle.answer.proofs.AtQ.{leaf-small, answer-small, stands-as, put-answer, taken-as, take-answer}
 use Rattle.answer.proofs.answers.answer_of.Statement.{statement}
 use Rattle.answer.proofs.answers.answer_of.Tie as tie
 
-add-standing : tie.Need-add-standing
-add-standing c = let p = c .before .before .pre .0 in omega (arith, leaf-small (p .plays) (p .width))
+add-leaf : tie.Need-add-leaf
+add-leaf c = let p = c .before .before .pre .0 in omega (arith, leaf-small (p .plays) (p .width))
 
-kind-of-requires : tie.Need-kind-of-requires
-kind-of-requires c κs = search needs
+enum-told : tie.Need-enum-told
+enum-told c = search needs
+
+root-block-requires : tie.Need-root-block-requires
+root-block-requires c κs =
+    let p = c .before .before .before .before .pre in
+    record { shape = p .0 .shape; process = c .before .before .before .before .args .k; stands = stands-as (p .0 .plays) (p .0 .width) (p .1) }
+
+answer-requires : tie.Need-answer-requires
+answer-requires c κs = omega (arith, steps-small _ _ _ _ _ _ _ (c .before .before .before .before .before .pre .0 .plays))
+
+enum-told-2 : tie.Need-enum-told-2
+enum-told-2 c = search needs
 
 standing-requires : tie.Need-standing-requires
 standing-requires c κs =
-    let p = c .before .before .before .pre in
-    record { shape = p .0 .shape; process = c .before .before .before .args .k; stands = stands-as (p .0 .plays) (p .0 .width) (p .1) }
+    let p = c .before .before .before .before .pre in
+    record { shape = p .0 .shape; process = c .before .before .before .before .args .k; stands = stands-as (p .0 .plays) (p .0 .width) (p .1) }
 
 height-for-requires : tie.Need-height-for-requires
 height-for-requires c κs = search needs
 
-reply-of-requires : tie.Need-reply-of-requires
-reply-of-requires c κs =
-    let a = c .before .before .before .before .before .args in
-    let p = c .before .before .before .before .before .pre in
+take-reply-requires : tie.Need-take-reply-requires
+take-reply-requires c κs =
+    let a = c .before .before .before .before .before .before .args in
+    let p = c .before .before .before .before .before .before .pre in
     let z = c .before .standing .ensures (p .0 .shape) (a .k) (stands-as (p .0 .plays) (p .0 .width) (p .1)) in
     record {
       shape = p .0 .shape;
-      process = a .k;
-      serial = a .q .begun;
       heads = a .heads .now;
-      replies = replies-as (p .0 .plays) (p .0 .width) (p .1) (c .height-for .ensures .0) (c .before .before .kind-of .ensures) z;
+      taken = taken-as (p .0 .plays) (p .0 .width) (p .1) (c .before .before .enum-told2 .given .1) z (c .height-for .ensures .0);
     }
 
-add-t10 : tie.Need-add-t10
-add-t10 c = omega (arith, steps-small _ _ _ _ _ _ _ (c .before .before .before .before .before .before .before .pre .0 .plays))
+answer-requires-2 : tie.Need-answer-requires-2
+answer-requires-2 c κs = omega (arith, steps-small _ _ _ _ _ _ _ (c .before .before .before .before .before .before .before .pre .0 .plays))
 
 returns : tie.Need-returns
 returns c =
-    let a = c .before .before .before .before .before .before .before .args in
-    let p = c .before .before .before .before .before .before .before .pre in (
+    let a = c .before .before .before .before .before .before .args in
+    let p = c .before .before .before .before .before .before .pre in (
+      λ s ps w plays.
+          c .answer .ensures
+          ∙ put-answer plays w (p .1) (c .before .before .enum-told .given .1) (c .before .root-block .ensures s (a .k) (stands-as plays w (p .1))),
+      answer-small (p .0 .plays) (p .0 .width) (c .answer .ensures),
+    )
+
+returns-2 : tie.Need-returns-2
+returns-2 c =
+    let a = c .before .before .before .before .before .before .before .before .args in
+    let p = c .before .before .before .before .before .before .before .before .pre in
+    let e = c .before .before .before .before .enum-told2 .given .1 in (
       λ s ps w plays.
           let z = c .before .before .before .standing .ensures s (a .k) (stands-as plays w (p .1)) in
-          let t = c .before .before .height-for .ensures .0 in
-          let n = c .before .before .before .before .kind-of .ensures in
-          answer-is plays w (p .1) t n z (c .before .reply-of .ensures s (a .k) (a .q .begun) (a .heads .now) (replies-as plays w (p .1) t n z)),
-      (omega (arith, leaf-small (p .0 .plays) (p .0 .width)), omega (arith, steps-small _ _ _ _ _ _ _ (p .0 .plays))),
+          c .answer2 .ensures
+          ∙ take-answer plays w (p .1) e z (c .before .take-reply .ensures s (a .heads .now) (taken-as plays w (p .1) e z (c .before .before .height-for .ensures .0))),
+      answer-small (p .0 .plays) (p .0 .width) (c .answer2 .ensures),
     )
 
 pub answer-of-spec : {M : Type 1} → statement M
 answer-of-spec =
     tie.close
     (tie.spec
-    add-standing
-    kind-of-requires
+    add-leaf
+    enum-told
+    root-block-requires
+    answer-requires
+    enum-told-2
     standing-requires
     height-for-requires
-    reply-of-requires
-    add-t10
-    returns)
+    take-reply-requires
+    answer-requires-2
+    returns
+    returns-2)

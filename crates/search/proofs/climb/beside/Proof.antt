@@ -1,5 +1,6 @@
 -- `climb::beside` meets its contract. Assumes nothing.
 use borrow.Author.Tests.{eq-eqb, ne-eqb}
+use Rattle.tree.specs.Order.{total}
 use Rattle.search.specs.Climbing.{besideOf}
 use borrow.Author.Needs.{needs}
 use Rattle.search.proofs.climb.beside.Statement.{statement}
@@ -17,14 +18,9 @@ add-block-at c = search needs
 block-at-requires-2 : tie.Need-block-at-requires-2
 block-at-requires-2 c κs = rw (c .block-at .ensures) (c .before .before .before .pre .right (c .before .if1 .taken))
 
-total-requires : tie.Need-total-requires
-total-requires c κs = search needs
-
 returns : tie.Need-returns
-unfolding besideOf
-returns c =
-    rw (eq-eqb _ _ (c .before .before .before .if1 .taken), ← c .before .before .block-at .ensures, ← c .before .block-at2 .ensures)
-    (c .total .ensures)
+unfolding besideOf total
+returns c = rw (eq-eqb _ _ (c .before .before .if1 .taken), ← c .before .block-at .ensures, ← c .block-at2 .ensures)
 
 block-at-requires-3 : tie.Need-block-at-requires-3
 block-at-requires-3 c κs = search needs
@@ -35,14 +31,9 @@ sub-block-at-2 c = search needs
 block-at-requires-4 : tie.Need-block-at-requires-4
 block-at-requires-4 c κs = rw (c .block-at3 .ensures) (c .before .before .before .pre .left (c .before .if1 .left))
 
-total-requires-2 : tie.Need-total-requires-2
-total-requires-2 c κs = search needs
-
 returns-2 : tie.Need-returns-2
-unfolding besideOf
-returns-2 c =
-    rw (ne-eqb _ _ (c .before .before .before .if1 .left), ← c .before .before .block-at3 .ensures, ← c .before .block-at4 .ensures)
-    (c .total2 .ensures)
+unfolding besideOf total
+returns-2 c = rw (ne-eqb _ _ (c .before .before .if1 .left), ← c .before .block-at3 .ensures, ← c .block-at4 .ensures)
 
 pub beside-spec : {M : Type 1} → statement M
 beside-spec =
@@ -52,10 +43,8 @@ beside-spec =
     block-at-requires
     add-block-at
     block-at-requires-2
-    total-requires
     returns
     block-at-requires-3
     sub-block-at-2
     block-at-requires-4
-    total-requires-2
     returns-2)

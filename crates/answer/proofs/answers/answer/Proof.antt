@@ -1,0 +1,14 @@
+-- `answers::answer` meets its contract. Assumes nothing.
+use mathlib.Core.Path.{refl}
+use borrow.Author.Needs.{needs}
+use Rattle.answer.proofs.answers.answer.Statement.{statement}
+use Rattle.answer.proofs.answers.answer.Tie as tie
+
+add-t5 : tie.Need-add-t5
+add-t5 c = search needs
+
+returns : tie.Need-returns
+returns c = refl
+
+pub answer-spec : {M : Type 1} → statement M
+answer-spec = tie.close (tie.spec add-t5 returns)
