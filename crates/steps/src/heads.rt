@@ -55,6 +55,7 @@ pub fn step_v1(heads: &[u32], n: Step) -> Step
     else {
         return n;
     };
+    // Copied field by field, as in V2: a copy of the whole visit is one wide read, which has to wait for the narrow writes before it.
     Step::V2 {
         after: after,
         visit: Visit {

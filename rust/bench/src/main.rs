@@ -24,7 +24,7 @@ const P: u32 = 8;
 const L: u32 = 500;
 /// Repetitions of each player on each schedule, of which the fastest counts. Other programs on the
 /// machine can only slow one down.
-const ROUNDS: usize = 100;
+const ROUNDS: usize = 400;
 
 struct Schedule {
     name: &'static str,
