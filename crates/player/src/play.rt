@@ -90,82 +90,62 @@ pub fn play(
                             );
                             continue;
                         }
-                        Step::V1 {
-                            after: _,
-                            visit: _,
-                            node: _,
-                            place: _,
-                        } => {
+                        Step::V1 { .. } => {
                             let q = procs[k];
                             procs[k] = moved(q, step_v1(heads, step_in(q)));
                             continue;
                         }
-                        Step::V2 {
-                            after: _,
-                            visit: _,
-                            node: _,
-                            place: _,
-                            above: _,
-                        } => {
+                        Step::V2 { .. } => {
                             let q = procs[k];
                             procs[k] = moved(q, step_v2(table, starts, step_in(q)));
                             continue;
                         }
-                        Step::V3 {
-                            after: _,
-                            visit: _,
-                            node: _,
-                            place: _,
-                        } => {
+                        Step::V3 { .. } => {
                             let q = procs[k];
                             procs[k] = moved(q, step_v3(heads, step_in(q)));
                             continue;
                         }
-                        Step::R1 { second: _, node: _ } => {
+                        Step::R1 { .. } => {
                             let q = procs[k];
                             procs[k] = moved(q, step_r1(heads, step_in(q)));
                             continue;
                         }
-                        Step::R2 { visit: _ } => {
+                        Step::R2 { .. } => {
                             let q = procs[k];
                             procs[k] = moved(q, step_r2(heads, step_in(q)));
                             continue;
                         }
-                        Step::R3 { visit: _, child: _ } => {
+                        Step::R3 { .. } => {
                             let q = procs[k];
                             procs[k] = moved(q, step_r3(table, starts, step_in(q)));
                             continue;
                         }
-                        Step::R4 { visit: _ } => {
+                        Step::R4 { .. } => {
                             let q = procs[k];
                             procs[k] = moved(q, step_r4(heads, step_in(q)));
                             continue;
                         }
-                        Step::R5 { visit: _, child: _ } => {
+                        Step::R5 { .. } => {
                             let q = procs[k];
                             procs[k] = moved(q, step_r5(table, starts, step_in(q)));
                             continue;
                         }
-                        Step::C1 { visit: _ } => {
+                        Step::C1 { .. } => {
                             let q = procs[k];
                             procs[k] = moved(q, step_c1(heads, step_in(q)));
                             continue;
                         }
-                        Step::C2 { visit: _, left: _ } => {
+                        Step::C2 { .. } => {
                             let q = procs[k];
                             procs[k] = moved(q, step_c2(heads, step_in(q)));
                             continue;
                         }
-                        Step::C3 {
-                            visit: _,
-                            left: _,
-                            right: _,
-                        } => {
+                        Step::C3 { .. } => {
                             let q = procs[k];
                             procs[k] = moved(q, step_c3(table, starts, step_in(q)));
                             continue;
                         }
-                        Step::C4 { visit: _, built: _ } => {
+                        Step::C4 { .. } => {
                             let q = procs[k];
                             procs[k] = moved(q, step_c4(table, starts, step_in(q)));
                             continue;

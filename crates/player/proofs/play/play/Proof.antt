@@ -10,7 +10,7 @@ use Rattle.player.proofs.Loop.{loop-start, loop-narrow, loop-ends}
 use Rattle.player.proofs.StepLoop.{step-named, step-busy, step-low, step-playing, step-idle, finish-full, finish-moves}
 use Rattle.player.proofs.BeginLoop.{other-ill, begin-few, begin-busy, begin-all, begin-moves}
 use Rattle.player.proofs.play.play.Proof.Places.{Inv-loop, μ-loop, few, step-at, found, few-steps, few-answers, other-at, well, low, idles}
-use Rattle.player.proofs.play.play.Proof.Arms.{ready-a, again-a, ready-v1, again-v1, ready-v2, again-v2, ready-v3, again-v3, ready-r1, again-r1, ready-r2, again-r2, ready-r3, again-r3, ready-r4, again-r4, ready-r5, again-r5, ready-c1, again-c1, ready-c2, again-c2, ready-c3, again-c3, ready-c4, again-c4}
+use Rattle.player.proofs.play.play.Proof.Arms as arms
 use Rattle.player.proofs.play.play.Statement.{statement}
 use Rattle.player.proofs.play.play.Tie as tie
 
@@ -114,157 +114,157 @@ play-spec =
     (λ c. step-low (found (c .before .before)))
     (λ c. record { fits = omega (arith, step-low (found (c .before .before .before .before .before)), found (c .before .before .before .before .before) .low, loop-narrow (found (c .before .before .before .before .before) .inv)) })
     (λ c κs. search needs)
-    ready-a
+    arms.ready-a
     (λ c κs. few-steps (c .before .before .before .before .before .before .before .before .before))
     (λ c. record { fits = omega (arith, step-low (found (c .before .before .before .before .before .before .before .before .before .before))) })
     (λ c. step-low (found (c .before .before .before .before .before .before .before .before .before .before)))
     (λ c. record { fits = few (c .before .before .before .before .before .before .before .before .before .before .before .before .before .before .before .before .before .before .before) })
     (λ c. search needs)
-    again-a
+    arms.again-a
     -- V1
     (λ c. search needs)
     (λ c. record { fits = omega (arith, step-low (found (c .before .before))) })
     (λ c. step-low (found (c .before .before)))
     (λ c κs. search needs)
-    ready-v1
+    arms.ready-v1
     (λ c κs. few-steps (c .before .before .before .before .before .before))
     (λ c. record { fits = omega (arith, step-low (found (c .before .before .before .before .before .before .before))) })
     (λ c. step-low (found (c .before .before .before .before .before .before .before)))
     (λ c. record { fits = few (c .before .before .before .before .before .before .before .before .before .before .before .before .before .before .before .before) })
     (λ c. search needs)
-    again-v1
+    arms.again-v1
     -- V2
     (λ c. search needs)
     (λ c. record { fits = omega (arith, step-low (found (c .before .before))) })
     (λ c. step-low (found (c .before .before)))
     (λ c κs. search needs)
-    ready-v2
+    arms.ready-v2
     (λ c κs. few-steps (c .before .before .before .before .before .before .before .before))
     (λ c. record { fits = omega (arith, step-low (found (c .before .before .before .before .before .before .before .before .before))) })
     (λ c. step-low (found (c .before .before .before .before .before .before .before .before .before)))
     (λ c. record { fits = few (c .before .before .before .before .before .before .before .before .before .before .before .before .before .before .before .before .before .before) })
     (λ c. search needs)
-    again-v2
+    arms.again-v2
     -- V3
     (λ c. search needs)
     (λ c. record { fits = omega (arith, step-low (found (c .before .before))) })
     (λ c. step-low (found (c .before .before)))
     (λ c κs. search needs)
-    ready-v3
+    arms.ready-v3
     (λ c κs. few-steps (c .before .before .before .before .before .before .before .before))
     (λ c. record { fits = omega (arith, step-low (found (c .before .before .before .before .before .before .before .before .before))) })
     (λ c. step-low (found (c .before .before .before .before .before .before .before .before .before)))
     (λ c. record { fits = few (c .before .before .before .before .before .before .before .before .before .before .before .before .before .before .before .before .before .before) })
     (λ c. search needs)
-    again-v3
+    arms.again-v3
     -- R1
     (λ c. search needs)
     (λ c. record { fits = omega (arith, step-low (found (c .before .before))) })
     (λ c. step-low (found (c .before .before)))
     (λ c κs. search needs)
-    ready-r1
+    arms.ready-r1
     (λ c κs. few-steps (c .before .before .before .before .before .before))
     (λ c. record { fits = omega (arith, step-low (found (c .before .before .before .before .before .before .before))) })
     (λ c. step-low (found (c .before .before .before .before .before .before .before)))
     (λ c. record { fits = few (c .before .before .before .before .before .before .before .before .before .before .before .before .before .before .before .before) })
     (λ c. search needs)
-    again-r1
+    arms.again-r1
     -- R2
     (λ c. search needs)
     (λ c. record { fits = omega (arith, step-low (found (c .before .before))) })
     (λ c. step-low (found (c .before .before)))
     (λ c κs. search needs)
-    ready-r2
+    arms.ready-r2
     (λ c κs. few-steps (c .before .before .before .before .before .before))
     (λ c. record { fits = omega (arith, step-low (found (c .before .before .before .before .before .before .before))) })
     (λ c. step-low (found (c .before .before .before .before .before .before .before)))
     (λ c. record { fits = few (c .before .before .before .before .before .before .before .before .before .before .before .before .before .before .before .before) })
     (λ c. search needs)
-    again-r2
+    arms.again-r2
     -- R3
     (λ c. search needs)
     (λ c. record { fits = omega (arith, step-low (found (c .before .before))) })
     (λ c. step-low (found (c .before .before)))
     (λ c κs. search needs)
-    ready-r3
+    arms.ready-r3
     (λ c κs. few-steps (c .before .before .before .before .before .before))
     (λ c. record { fits = omega (arith, step-low (found (c .before .before .before .before .before .before .before))) })
     (λ c. step-low (found (c .before .before .before .before .before .before .before)))
     (λ c. record { fits = few (c .before .before .before .before .before .before .before .before .before .before .before .before .before .before .before .before) })
     (λ c. search needs)
-    again-r3
+    arms.again-r3
     -- R4
     (λ c. search needs)
     (λ c. record { fits = omega (arith, step-low (found (c .before .before))) })
     (λ c. step-low (found (c .before .before)))
     (λ c κs. search needs)
-    ready-r4
+    arms.ready-r4
     (λ c κs. few-steps (c .before .before .before .before .before .before))
     (λ c. record { fits = omega (arith, step-low (found (c .before .before .before .before .before .before .before))) })
     (λ c. step-low (found (c .before .before .before .before .before .before .before)))
     (λ c. record { fits = few (c .before .before .before .before .before .before .before .before .before .before .before .before .before .before .before .before) })
     (λ c. search needs)
-    again-r4
+    arms.again-r4
     -- R5
     (λ c. search needs)
     (λ c. record { fits = omega (arith, step-low (found (c .before .before))) })
     (λ c. step-low (found (c .before .before)))
     (λ c κs. search needs)
-    ready-r5
+    arms.ready-r5
     (λ c κs. few-steps (c .before .before .before .before .before .before))
     (λ c. record { fits = omega (arith, step-low (found (c .before .before .before .before .before .before .before))) })
     (λ c. step-low (found (c .before .before .before .before .before .before .before)))
     (λ c. record { fits = few (c .before .before .before .before .before .before .before .before .before .before .before .before .before .before .before .before) })
     (λ c. search needs)
-    again-r5
+    arms.again-r5
     -- C1
     (λ c. search needs)
     (λ c. record { fits = omega (arith, step-low (found (c .before .before))) })
     (λ c. step-low (found (c .before .before)))
     (λ c κs. search needs)
-    ready-c1
+    arms.ready-c1
     (λ c κs. few-steps (c .before .before .before .before .before .before))
     (λ c. record { fits = omega (arith, step-low (found (c .before .before .before .before .before .before .before))) })
     (λ c. step-low (found (c .before .before .before .before .before .before .before)))
     (λ c. record { fits = few (c .before .before .before .before .before .before .before .before .before .before .before .before .before .before .before .before) })
     (λ c. search needs)
-    again-c1
+    arms.again-c1
     -- C2
     (λ c. search needs)
     (λ c. record { fits = omega (arith, step-low (found (c .before .before))) })
     (λ c. step-low (found (c .before .before)))
     (λ c κs. search needs)
-    ready-c2
+    arms.ready-c2
     (λ c κs. few-steps (c .before .before .before .before .before .before))
     (λ c. record { fits = omega (arith, step-low (found (c .before .before .before .before .before .before .before))) })
     (λ c. step-low (found (c .before .before .before .before .before .before .before)))
     (λ c. record { fits = few (c .before .before .before .before .before .before .before .before .before .before .before .before .before .before .before .before) })
     (λ c. search needs)
-    again-c2
+    arms.again-c2
     -- C3
     (λ c. search needs)
     (λ c. record { fits = omega (arith, step-low (found (c .before .before))) })
     (λ c. step-low (found (c .before .before)))
     (λ c κs. search needs)
-    ready-c3
+    arms.ready-c3
     (λ c κs. few-steps (c .before .before .before .before .before .before))
     (λ c. record { fits = omega (arith, step-low (found (c .before .before .before .before .before .before .before))) })
     (λ c. step-low (found (c .before .before .before .before .before .before .before)))
     (λ c. record { fits = few (c .before .before .before .before .before .before .before .before .before .before .before .before .before .before .before .before) })
     (λ c. search needs)
-    again-c3
+    arms.again-c3
     -- C4
     (λ c. search needs)
     (λ c. record { fits = omega (arith, step-low (found (c .before .before))) })
     (λ c. step-low (found (c .before .before)))
     (λ c κs. search needs)
-    ready-c4
+    arms.ready-c4
     (λ c κs. few-steps (c .before .before .before .before .before .before .before .before))
     (λ c. record { fits = omega (arith, step-low (found (c .before .before .before .before .before .before .before .before .before))) })
     (λ c. step-low (found (c .before .before .before .before .before .before .before .before .before)))
     (λ c. record { fits = few (c .before .before .before .before .before .before .before .before .before .before .before .before .before .before .before .before .before .before) })
     (λ c. search needs)
-    again-c4
+    arms.again-c4
     -- Q
     (λ c. search needs)
     (λ c κs. search needs)

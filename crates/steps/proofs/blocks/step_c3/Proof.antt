@@ -63,7 +63,31 @@ returns-2 c = λ s k o heads w l r e i x y.
     let a = c .before .before .before .before .before .before .before .before .before .before .args in
     let told = c .before .before .before .before .before .before .before .n .given .1 in
     let g = begun s (a .starts .now) e told (i, x, y) in
-    rw (told, c .settle .ensures, c .before .joined .ensures, c .before .before .block-at3 .ensures, c .before .before .before .block-at2 .ensures, c .before .before .before .before .block-at .ensures, node-read s (a .starts .now) (a .table .now) _ _ (g .0), node-read s (a .starts .now) (a .table .now) _ _ (g .1), node-read s (a .starts .now) (a .table .now) _ _ (g .2))
+    rw (
+      told,
+      c .settle .ensures,
+      c .before .joined .ensures,
+      c .before .before .block-at3 .ensures,
+      c .before .before .before .block-at2 .ensures,
+      c .before .before .before .before .block-at .ensures,
+      node-read s (a .starts .now) (a .table .now) _ _ (g .0),
+      node-read s (a .starts .now) (a .table .now) _ _ (g .1),
+      node-read s (a .starts .now) (a .table .now) _ _ (g .2),
+    )
 
 pub step-c3-spec : {M : Type 1} → statement M
-step-c3-spec = tie.close (tie.spec enum-known-n returns sub-block-at block-at-requires mul-block-at block-at-requires-2 mul-block-at-2 add-block-at block-at-requires-3 joined-requires settle-requires returns-2)
+step-c3-spec =
+    tie.close
+    (tie.spec
+    enum-known-n
+    returns
+    sub-block-at
+    block-at-requires
+    mul-block-at
+    block-at-requires-2
+    mul-block-at-2
+    add-block-at
+    block-at-requires-3
+    joined-requires
+    settle-requires
+    returns-2)

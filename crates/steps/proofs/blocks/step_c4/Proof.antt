@@ -37,7 +37,25 @@ returns-2 c = λ s k o heads w b e i.
     let told = c .before .before .before .before .before .before .before .before .n .given .1 in
     let g = begun s (a .starts .now) e told i in
     let p = c .before .before .before .before .write-if-absent .ensures in
-    rw (told, c .advance .ensures, c .before .after-refresh .ensures, p .1 s g, c .before .before .before .before .before .block-of .ensures, p .0, node-read s (a .starts .now) (a .table .now) _ _ g)
+    rw (
+      told,
+      c .advance .ensures,
+      c .before .after-refresh .ensures,
+      p .1 s g,
+      c .before .before .before .before .before .block-of .ensures,
+      p .0,
+      node-read s (a .starts .now) (a .table .now) _ _ g,
+    )
 
 pub step-c4-spec : {M : Type 1} → statement M
-step-c4-spec = tie.close (tie.spec enum-known-n returns block-of-requires write-if-absent-requires after-refresh-requires advance-requires same-length returns-2)
+step-c4-spec =
+    tie.close
+    (tie.spec
+    enum-known-n
+    returns
+    block-of-requires
+    write-if-absent-requires
+    after-refresh-requires
+    advance-requires
+    same-length
+    returns-2)

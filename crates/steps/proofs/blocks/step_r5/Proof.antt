@@ -41,4 +41,13 @@ returns-2 c = λ s k o heads w x e i.
     rw (told, c .help .ensures, c .before .absent-at .ensures, node-read s (a .starts .now) (a .table .now) _ _ g)
 
 pub step-r5-spec : {M : Type 1} → statement M
-step-r5-spec = tie.close (tie.spec enum-known-n returns mul-v add-v absent-at-requires help-requires returns-2)
+step-r5-spec =
+    tie.close
+    (tie.spec
+    enum-known-n
+    returns
+    mul-v
+    add-v
+    absent-at-requires
+    help-requires
+    returns-2)

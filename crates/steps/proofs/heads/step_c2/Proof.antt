@@ -38,4 +38,13 @@ unfolding step go headOf rightOf
 returns-2 c = λ s k o t w l e. rw (c .before .before .before .n .given .1, c .head-of .ensures)
 
 pub step-c2-spec : {M : Type 1} → statement M
-step-c2-spec = tie.close (tie.spec enum-known-n returns mul-head-of add-head-of head-of-requires sub-t8 returns-2)
+step-c2-spec =
+    tie.close
+    (tie.spec
+    enum-known-n
+    returns
+    mul-head-of
+    add-head-of
+    head-of-requires
+    sub-t8
+    returns-2)

@@ -11,20 +11,23 @@ pub ready-a : tie.Need-step-a-requires Inv-loop μ-loop
 unfolding idle isQ
 ready-a c κs =
     let b = c .before .before .before .before .before .before in
-    step-ready (found b) (b .before .status .given .1) (step-named (found b) (b .before .status .given .1) (c .before .before .before .before .enum-told2 .given .1)) refl refl
+    let busy = b .before .status .given .1 in
+    step-ready (found b) busy (step-named (found b) busy (c .before .before .before .before .enum-told2 .given .1)) refl refl
 
 pub again-a : tie.Need-loop-again Inv-loop μ-loop
 unfolding idle isQ
 again-a c =
     let b = c .before .before .before .before .before .before .before .before .before .before in
     let f = found b in
+    let busy = b .before .status .given .1 in
+    let told = c .before .before .before .before .before .before .before .before .enum-told2 .given .1 in
     rw (c .moved .ensures)
-    (step-moves f (b .before .status .given .1) (step-named f (b .before .status .given .1) (c .before .before .before .before .before .before .before .before .enum-told2 .given .1)) (c .before .before .before .before .before .before .before .before .enum-told2 .given .1) refl (c .before .before .before .before .operation-in .ensures) _ _ _ refl (c .before .before .before .step-a .kept .1 .0)
-    (λ told ready. c .before .before .before .step-a .ensures _ _ (step-leaf f) (step-begins f _ (ready .node))))
+    (step-moves f busy (step-named f busy told) told refl (c .before .before .before .before .operation-in .ensures) _ _ _ refl (c .before .before .before .step-a .kept .1 .0)
+    (λ _ ready. c .before .before .before .step-a .ensures _ _ (step-leaf f) (step-begins f _ (ready .node))))
 
 pub ready-v1 : tie.Need-step-v1-requires Inv-loop μ-loop
 unfolding idle isQ
-ready-v1 c κs = λ x y z u e.
+ready-v1 c κs = λ _ _ _ _ e.
     let b = c .before .before .before .before .before in
     step-ready (found b) (b .before .status .given .1) (c .step-in .ensures) e refl
 
@@ -33,13 +36,15 @@ unfolding idle isQ
 again-v1 c =
     let b = c .before .before .before .before .before .before .before in
     let f = found b in
+    let busy = b .before .status .given .1 in
+    let told = c .before .before .before .before .before .enum-told3 .given .1 in
     rw (c .moved2 .ensures)
-    (step-moves f (b .before .status .given .1) (c .before .before .step-in .ensures) (c .before .before .before .before .before .enum-told3 .given .1) refl refl _ _ _ refl refl
-    (λ told ready. c .before .step-v1 .ensures _ _ _ _ _ _ _ _ told))
+    (step-moves f busy (c .before .before .step-in .ensures) told refl refl _ _ _ refl refl
+    (λ is _. c .before .step-v1 .ensures _ _ _ _ _ _ _ _ is))
 
 pub ready-v2 : tie.Need-step-v2-requires Inv-loop μ-loop
 unfolding idle isQ
-ready-v2 c κs = λ x y z u v e.
+ready-v2 c κs = λ _ _ _ _ _ e.
     let b = c .before .before .before .before .before in
     (step-ready (found b) (b .before .status .given .1) (c .step-in2 .ensures) e refl) .1
 
@@ -48,13 +53,15 @@ unfolding idle isQ
 again-v2 c =
     let b = c .before .before .before .before .before .before .before .before .before in
     let f = found b in
+    let busy = b .before .status .given .1 in
+    let told = c .before .before .before .before .before .before .before .enum-told4 .given .1 in
     rw (c .moved3 .ensures)
-    (step-moves f (b .before .status .given .1) (c .before .before .before .before .step-in2 .ensures) (c .before .before .before .before .before .before .before .enum-told4 .given .1) refl refl _ _ _ refl (c .before .before .before .step-v2 .kept .0)
-    (λ told ready. c .before .before .before .step-v2 .ensures _ _ _ _ _ _ _ _ _ told (step-begins f _ (ready .0))))
+    (step-moves f busy (c .before .before .before .before .step-in2 .ensures) told refl refl _ _ _ refl (c .before .before .before .step-v2 .kept .0)
+    (λ is ready. c .before .before .before .step-v2 .ensures _ _ _ _ _ _ _ _ _ is (step-begins f _ (ready .0))))
 
 pub ready-v3 : tie.Need-step-v3-requires Inv-loop μ-loop
 unfolding idle isQ
-ready-v3 c κs = λ x y z u e.
+ready-v3 c κs = λ _ _ _ _ e.
     let b = c .before .before .before .before .before in
     step-ready (found b) (b .before .status .given .1) (c .step-in3 .ensures) e refl
 
@@ -63,13 +70,15 @@ unfolding idle isQ
 again-v3 c =
     let b = c .before .before .before .before .before .before .before .before .before in
     let f = found b in
+    let busy = b .before .status .given .1 in
+    let told = c .before .before .before .before .before .before .before .enum-told5 .given .1 in
     rw (c .moved4 .ensures)
-    (step-moves f (b .before .status .given .1) (c .before .before .before .before .step-in3 .ensures) (c .before .before .before .before .before .before .before .enum-told5 .given .1) refl refl _ _ _ (c .before .before .before .step-v3 .kept .0) refl
-    (λ told ready. c .before .before .before .step-v3 .ensures _ _ _ _ _ _ _ _ told))
+    (step-moves f busy (c .before .before .before .before .step-in3 .ensures) told refl refl _ _ _ (c .before .before .before .step-v3 .kept .0) refl
+    (λ is _. c .before .before .before .step-v3 .ensures _ _ _ _ _ _ _ _ is))
 
 pub ready-r1 : tie.Need-step-r1-requires Inv-loop μ-loop
 unfolding idle isQ
-ready-r1 c κs = λ x y e.
+ready-r1 c κs = λ _ _ e.
     let b = c .before .before .before .before .before in
     step-ready (found b) (b .before .status .given .1) (c .step-in4 .ensures) e refl
 
@@ -78,13 +87,15 @@ unfolding idle isQ
 again-r1 c =
     let b = c .before .before .before .before .before .before .before in
     let f = found b in
+    let busy = b .before .status .given .1 in
+    let told = c .before .before .before .before .before .enum-told6 .given .1 in
     rw (c .moved5 .ensures)
-    (step-moves f (b .before .status .given .1) (c .before .before .step-in4 .ensures) (c .before .before .before .before .before .enum-told6 .given .1) refl refl _ _ _ refl refl
-    (λ told ready. c .before .step-r1 .ensures _ _ _ _ _ _ told))
+    (step-moves f busy (c .before .before .step-in4 .ensures) told refl refl _ _ _ refl refl
+    (λ is _. c .before .step-r1 .ensures _ _ _ _ _ _ is))
 
 pub ready-r2 : tie.Need-step-r2-requires Inv-loop μ-loop
 unfolding idle isQ
-ready-r2 c κs = λ x e.
+ready-r2 c κs = λ _ e.
     let b = c .before .before .before .before .before in
     step-ready (found b) (b .before .status .given .1) (c .step-in5 .ensures) e refl
 
@@ -93,13 +104,15 @@ unfolding idle isQ
 again-r2 c =
     let b = c .before .before .before .before .before .before .before in
     let f = found b in
+    let busy = b .before .status .given .1 in
+    let told = c .before .before .before .before .before .enum-told7 .given .1 in
     rw (c .moved6 .ensures)
-    (step-moves f (b .before .status .given .1) (c .before .before .step-in5 .ensures) (c .before .before .before .before .before .enum-told7 .given .1) refl refl _ _ _ refl refl
-    (λ told ready. c .before .step-r2 .ensures _ _ _ _ _ told))
+    (step-moves f busy (c .before .before .step-in5 .ensures) told refl refl _ _ _ refl refl
+    (λ is _. c .before .step-r2 .ensures _ _ _ _ _ is))
 
 pub ready-r3 : tie.Need-step-r3-requires Inv-loop μ-loop
 unfolding idle isQ
-ready-r3 c κs = λ x y e.
+ready-r3 c κs = λ _ _ e.
     let b = c .before .before .before .before .before in
     (step-ready (found b) (b .before .status .given .1) (c .step-in6 .ensures) e refl) .1
 
@@ -108,13 +121,15 @@ unfolding idle isQ
 again-r3 c =
     let b = c .before .before .before .before .before .before .before in
     let f = found b in
+    let busy = b .before .status .given .1 in
+    let told = c .before .before .before .before .before .enum-told8 .given .1 in
     rw (c .moved7 .ensures)
-    (step-moves f (b .before .status .given .1) (c .before .before .step-in6 .ensures) (c .before .before .before .before .before .enum-told8 .given .1) refl refl _ _ _ refl refl
-    (λ told ready. c .before .step-r3 .ensures _ _ _ _ _ _ told (step-begins f _ (omega (arith, ready .0 .both)))))
+    (step-moves f busy (c .before .before .step-in6 .ensures) told refl refl _ _ _ refl refl
+    (λ is ready. c .before .step-r3 .ensures _ _ _ _ _ _ is (step-begins f _ (omega (arith, ready .0 .both)))))
 
 pub ready-r4 : tie.Need-step-r4-requires Inv-loop μ-loop
 unfolding idle isQ
-ready-r4 c κs = λ x e.
+ready-r4 c κs = λ _ e.
     let b = c .before .before .before .before .before in
     step-ready (found b) (b .before .status .given .1) (c .step-in7 .ensures) e refl
 
@@ -123,13 +138,15 @@ unfolding idle isQ
 again-r4 c =
     let b = c .before .before .before .before .before .before .before in
     let f = found b in
+    let busy = b .before .status .given .1 in
+    let told = c .before .before .before .before .before .enum-told9 .given .1 in
     rw (c .moved8 .ensures)
-    (step-moves f (b .before .status .given .1) (c .before .before .step-in7 .ensures) (c .before .before .before .before .before .enum-told9 .given .1) refl refl _ _ _ refl refl
-    (λ told ready. c .before .step-r4 .ensures _ _ _ _ _ told))
+    (step-moves f busy (c .before .before .step-in7 .ensures) told refl refl _ _ _ refl refl
+    (λ is _. c .before .step-r4 .ensures _ _ _ _ _ is))
 
 pub ready-r5 : tie.Need-step-r5-requires Inv-loop μ-loop
 unfolding idle isQ
-ready-r5 c κs = λ x y e.
+ready-r5 c κs = λ _ _ e.
     let b = c .before .before .before .before .before in
     (step-ready (found b) (b .before .status .given .1) (c .step-in8 .ensures) e refl) .1
 
@@ -138,13 +155,15 @@ unfolding idle isQ
 again-r5 c =
     let b = c .before .before .before .before .before .before .before in
     let f = found b in
+    let busy = b .before .status .given .1 in
+    let told = c .before .before .before .before .before .enum-told10 .given .1 in
     rw (c .moved9 .ensures)
-    (step-moves f (b .before .status .given .1) (c .before .before .step-in8 .ensures) (c .before .before .before .before .before .enum-told10 .given .1) refl refl _ _ _ refl refl
-    (λ told ready. c .before .step-r5 .ensures _ _ _ _ _ _ told (step-begins f _ (ready .0 .both))))
+    (step-moves f busy (c .before .before .step-in8 .ensures) told refl refl _ _ _ refl refl
+    (λ is ready. c .before .step-r5 .ensures _ _ _ _ _ _ is (step-begins f _ (ready .0 .both))))
 
 pub ready-c1 : tie.Need-step-c1-requires Inv-loop μ-loop
 unfolding idle isQ
-ready-c1 c κs = λ x e.
+ready-c1 c κs = λ _ e.
     let b = c .before .before .before .before .before in
     step-ready (found b) (b .before .status .given .1) (c .step-in9 .ensures) e refl
 
@@ -153,13 +172,15 @@ unfolding idle isQ
 again-c1 c =
     let b = c .before .before .before .before .before .before .before in
     let f = found b in
+    let busy = b .before .status .given .1 in
+    let told = c .before .before .before .before .before .enum-told11 .given .1 in
     rw (c .moved10 .ensures)
-    (step-moves f (b .before .status .given .1) (c .before .before .step-in9 .ensures) (c .before .before .before .before .before .enum-told11 .given .1) refl refl _ _ _ refl refl
-    (λ told ready. c .before .step-c1 .ensures _ _ _ _ _ told))
+    (step-moves f busy (c .before .before .step-in9 .ensures) told refl refl _ _ _ refl refl
+    (λ is _. c .before .step-c1 .ensures _ _ _ _ _ is))
 
 pub ready-c2 : tie.Need-step-c2-requires Inv-loop μ-loop
 unfolding idle isQ
-ready-c2 c κs = λ x y e.
+ready-c2 c κs = λ _ _ e.
     let b = c .before .before .before .before .before in
     step-ready (found b) (b .before .status .given .1) (c .step-in10 .ensures) e refl
 
@@ -168,13 +189,15 @@ unfolding idle isQ
 again-c2 c =
     let b = c .before .before .before .before .before .before .before in
     let f = found b in
+    let busy = b .before .status .given .1 in
+    let told = c .before .before .before .before .before .enum-told12 .given .1 in
     rw (c .moved11 .ensures)
-    (step-moves f (b .before .status .given .1) (c .before .before .step-in10 .ensures) (c .before .before .before .before .before .enum-told12 .given .1) refl refl _ _ _ refl refl
-    (λ told ready. c .before .step-c2 .ensures _ _ _ _ _ _ told))
+    (step-moves f busy (c .before .before .step-in10 .ensures) told refl refl _ _ _ refl refl
+    (λ is _. c .before .step-c2 .ensures _ _ _ _ _ _ is))
 
 pub ready-c3 : tie.Need-step-c3-requires Inv-loop μ-loop
 unfolding idle isQ
-ready-c3 c κs = λ x y z e.
+ready-c3 c κs = λ _ _ _ e.
     let b = c .before .before .before .before .before in
     (step-ready (found b) (b .before .status .given .1) (c .step-in11 .ensures) e refl) .1
 
@@ -183,13 +206,15 @@ unfolding idle isQ
 again-c3 c =
     let b = c .before .before .before .before .before .before .before in
     let f = found b in
+    let busy = b .before .status .given .1 in
+    let told = c .before .before .before .before .before .enum-told13 .given .1 in
     rw (c .moved12 .ensures)
-    (step-moves f (b .before .status .given .1) (c .before .before .step-in11 .ensures) (c .before .before .before .before .before .enum-told13 .given .1) refl refl _ _ _ refl refl
-    (λ told ready. c .before .step-c3 .ensures _ _ _ _ _ _ _ told (step-begins f _ (omega (arith, ready .0 .both))) (step-begins f _ (omega (arith, ready .0 .both))) (step-begins f _ (ready .0 .both))))
+    (step-moves f busy (c .before .before .step-in11 .ensures) told refl refl _ _ _ refl refl
+    (λ is ready. c .before .step-c3 .ensures _ _ _ _ _ _ _ is (step-begins f _ (omega (arith, ready .0 .both))) (step-begins f _ (omega (arith, ready .0 .both))) (step-begins f _ (ready .0 .both))))
 
 pub ready-c4 : tie.Need-step-c4-requires Inv-loop μ-loop
 unfolding idle isQ
-ready-c4 c κs = λ x y e.
+ready-c4 c κs = λ _ _ e.
     let b = c .before .before .before .before .before in
     (step-ready (found b) (b .before .status .given .1) (c .step-in12 .ensures) e refl) .1
 
@@ -198,6 +223,8 @@ unfolding idle isQ
 again-c4 c =
     let b = c .before .before .before .before .before .before .before .before .before in
     let f = found b in
+    let busy = b .before .status .given .1 in
+    let told = c .before .before .before .before .before .before .before .enum-told14 .given .1 in
     rw (c .moved13 .ensures)
-    (step-moves f (b .before .status .given .1) (c .before .before .before .before .step-in12 .ensures) (c .before .before .before .before .before .before .before .enum-told14 .given .1) refl refl _ _ _ refl (c .before .before .before .step-c4 .kept .0)
-    (λ told ready. c .before .before .before .step-c4 .ensures _ _ _ _ _ _ told (step-begins f _ (ready .0))))
+    (step-moves f busy (c .before .before .before .before .step-in12 .ensures) told refl refl _ _ _ refl (c .before .before .before .step-c4 .kept .0)
+    (λ is ready. c .before .before .before .step-c4 .ensures _ _ _ _ _ _ is (step-begins f _ (ready .0))))
