@@ -13,12 +13,13 @@ use Rattle.record.specs.StepRecords.{isStep, stepRecord, stepRecords, illFormed
 use Rattle.tree.specs.Shape.{Shape, processes, leafOf}
 use Rattle.steps.specs.declared.Operation.{Operation}
 use Rattle.steps.specs.declared.Step.{Step}
-use Rattle.steps.specs.declared.Step.the-variants.{Q}
+use Rattle.steps.specs.declared.Step.the-variants.{A, V1, V2, V3, R1, R2, R3, R4, R5, C1, C2, C3, C4, Q}
 use Rattle.steps.specs.declared.Status.the-variants.{Idle, Busy}
 use Rattle.steps.specs.declared.Process.{Process}
 use Rattle.steps.specs.Process.{idle}
 use Rattle.steps.specs.Rules.{step, go}
 use Rattle.steps.specs.Ready.{Begins, Ready}
+use Rattle.steps.specs.Next.{Placed}
 use Rattle.steps.proofs.NodeReads.{begins}
 use Rattle.steps.specs.Machine.{isIdle, isQ}
 use Rattle.rules.specs.declared.Refusal.the-variants.{StepWhileIdle, AnswersFull}
@@ -97,6 +98,22 @@ module _ {p l : ℕ} {starts records heads₀ table₀ : List ℕ} {room : ℕ} 
           busy ∙ ap (λ (k : Operation). Busy k x) (sym (named ∙ ap operationIn busy)) ∙ ap (Busy o') (sym (at ∙ ap stepIn busy))
 
       -- any step but Q
+      placed : (y : Step) → Ready starts heads table (p + first) y → Placed s starts y
+      placed A r = tt
+      placed (V1 a w v h) r = tt
+      placed (V2 a w v h x) r = step-begins v (r .0)
+      placed (V3 a w v h) r = tt
+      placed (R1 second v) r = tt
+      placed (R2 w) r = tt
+      placed (R3 w c) r = step-begins _ (omega (arith, r .0 .both))
+      placed (R4 w) r = tt
+      placed (R5 w c) r = step-begins _ (r .0 .both)
+      placed (C1 w) r = tt
+      placed (C2 w l) r = tt
+      placed (C3 w l e) r = (step-begins _ (omega (arith, r .0 .both)), step-begins _ (omega (arith, r .0 .both)), step-begins _ (r .0 .both))
+      placed (C4 w n) r = step-begins _ (r .0)
+      placed Q r = tt
+
       pub step-ready : {n y : Step} → n ≡ stepIn (q .status) → n ≡ y → isQ y ≡ false → Ready starts heads table (p + first) y
       unfolding leafOf
       step-ready {n} {y} at is goes =
@@ -105,7 +122,7 @@ module _ {p l : ℕ} {starts records heads₀ table₀ : List ℕ} {room : ℕ} 
 
       pub step-moves : {n y : Step} {o' : Operation} → n ≡ stepIn (q .status) → x ≡ y → isQ y ≡ false → o' ≡ operationIn (q .status)
           → (table' heads' : List ℕ) (next : Step) → length heads' ≡ length heads → length table' ≡ length table
-          → (n ≡ y → Ready starts heads table (p + first) y
+          → (n ≡ y → Ready starts heads table (p + first) y → Placed s starts n
           → step s first o' (record { table = table; heads = heads }) n ≡ go s first o' (record { table = table; heads = heads }) (record { table = table'; heads = heads' }) next)
           → Loop p l starts records heads₀ table₀ room out₀ log n₀ heads' table' out (set procs j (moved q (operationIn (q .status)) next)) answers equal left (i + 1)
       unfolding isStep
@@ -116,7 +133,7 @@ module _ {p l : ℕ} {starts records heads₀ table₀ : List ℕ} {room : ℕ} 
           (next-turn s left (take (processes s) procs) starts heads table (stepOf first) q step-plays well refl (operationIn (q .status)) n (step-busy refl at) (ap isQ told ∙ goes)
           (record { table = table'; heads = heads' }) next
           (subst (λ (k : Operation). step s first k (record { table = table; heads = heads }) n ≡ go s first k (record { table = table; heads = heads }) (record { table = table'; heads = heads' }) next) named
-          (turn told (step-ready at told goes)))))
+          (turn told (step-ready at told goes) (subst (Placed s starts) (sym told) (placed y (step-ready at told goes)))))))
 
     -- Q
     module _ {o : Operation} (finish-busy : q .status ≡ Busy o Q) where

@@ -3,4 +3,5 @@ pub mod Rules
 pub mod Machine
 pub mod All
 pub mod Ready
+pub mod Next
 pub mod Settled

@@ -20,12 +20,12 @@ use crate::order::after_refresh;
 use crate::order::resume;
 use tree::Block;
 ghost use mathlib.Core.Path.{_≡_};
-ghost use mathlib.Core.List.{List};
 ghost use Prim.Native.Nat.{ℕ, _+_, _*_};
 ghost use Rattle.base.specs.Choice.{if_then_else_};
 ghost use Rattle.tree.specs.Shape.{Shape, leafOf};
 ghost use Rattle.tree.specs.Memory.{Memory};
 ghost use Rattle.steps.specs.Rules.{above as aboveOf, resume as resumeOf, advance as advanceOf, sameTotals, step, go};
+ghost use Rattle.steps.specs.Next.{NextByTable};
 ghost use Rattle.steps.specs.Ready.{Begins, HasPart, HasPlace, Adds, Builds};
 
 // A: the operation's block at the head of its own leaf, where no other process writes.
@@ -55,10 +55,8 @@ pub fn step_a(
 // V2: v's block gets its superblock, if it has none yet: the parent's head as V1 read it.
 pub fn step_v2(table: &mut [u32], starts: &[usize; 17], n: Step) -> Step
     requires { ⌜ ((a : After) (w : Visit) (v h x : ℕ) → n ≡ Step.V2 a w v h x → HasPlace (now starts) (now table) v h) ⌝ }
-    ensures { λ r. ⌜ ((s : Shape) (k : ℕ) (o : Operation) (heads : List ℕ) (a : After) (w : Visit) (v h x : ℕ) → n ≡ Step.V2 a w v h x →
-        Begins s (now (starts .entry)) v →
-        let m : Memory = record { table = now (table .entry); heads = heads } in
-        step s k o m n ≡ go s k o m (record { table = now (table .exit); heads = heads }) r) ⌝ }
+    ensures { λ r. ⌜ ((a : After) (w : Visit) (v h x : ℕ) → n ≡ Step.V2 a w v h x →
+        NextByTable (now (starts .entry)) (now (table .entry)) (now (table .exit)) n r) ⌝ }
 {
     let Step::V2 {
         after,
@@ -96,10 +94,8 @@ fn help(missing: bool, w: Visit, a: After, child: u32, c: u32) -> Step
 // R3: the left child's block at the head that was read is looked at.
 pub fn step_r3(table: &[u32], starts: &[usize; 17], n: Step) -> Step
     requires { ⌜ ((w : Visit) (c : ℕ) → n ≡ Step.R3 w c → HasPart (now starts) (now table) (2 * w .node)) ⌝ }
-    ensures { λ r. ⌜ ((s : Shape) (k : ℕ) (o : Operation) (heads : List ℕ) (w : Visit) (c : ℕ) → n ≡ Step.R3 w c →
-        Begins s (now (starts .entry)) (2 * w .node) →
-        let m : Memory = record { table = now (table .entry); heads = heads } in
-        step s k o m n ≡ go s k o m m r) ⌝ }
+    ensures { λ r. ⌜ ((w : Visit) (c : ℕ) → n ≡ Step.R3 w c →
+        NextByTable (now (starts .entry)) (now (table .entry)) (now (table .entry)) n r) ⌝ }
 {
     let Step::R3 { visit, child } = n else {
         return n;
@@ -117,10 +113,8 @@ pub fn step_r3(table: &[u32], starts: &[usize; 17], n: Step) -> Step
 // R5: the same of the right child.
 pub fn step_r5(table: &[u32], starts: &[usize; 17], n: Step) -> Step
     requires { ⌜ ((w : Visit) (c : ℕ) → n ≡ Step.R5 w c → HasPart (now starts) (now table) (2 * w .node + 1)) ⌝ }
-    ensures { λ r. ⌜ ((s : Shape) (k : ℕ) (o : Operation) (heads : List ℕ) (w : Visit) (c : ℕ) → n ≡ Step.R5 w c →
-        Begins s (now (starts .entry)) (2 * w .node + 1) →
-        let m : Memory = record { table = now (table .entry); heads = heads } in
-        step s k o m n ≡ go s k o m m r) ⌝ }
+    ensures { λ r. ⌜ ((w : Visit) (c : ℕ) → n ≡ Step.R5 w c →
+        NextByTable (now (starts .entry)) (now (table .entry)) (now (table .entry)) n r) ⌝ }
 {
     let Step::R5 { visit, child } = n else {
         return n;
@@ -148,10 +142,8 @@ fn settle(w: Visit, n: Built, old: Block) -> Step
 // C3: the block is made of the children's blocks at the ends that C1 and C2 found.
 pub fn step_c3(table: &[u32], starts: &[usize; 17], n: Step) -> Step
     requires { ⌜ ((w : Visit) (l r : ℕ) → n ≡ Step.C3 w l r → Builds (now starts) (now table) w l r) ⌝ }
-    ensures { λ z. ⌜ ((s : Shape) (k : ℕ) (o : Operation) (heads : List ℕ) (w : Visit) (l r : ℕ) → n ≡ Step.C3 w l r →
-        Begins s (now (starts .entry)) (w .node) → Begins s (now (starts .entry)) (2 * w .node) → Begins s (now (starts .entry)) (2 * w .node + 1) →
-        let m : Memory = record { table = now (table .entry); heads = heads } in
-        step s k o m n ≡ go s k o m m z) ⌝ }
+    ensures { λ z. ⌜ ((w : Visit) (l r : ℕ) → n ≡ Step.C3 w l r →
+        NextByTable (now (starts .entry)) (now (table .entry)) (now (table .entry)) n z) ⌝ }
 {
     let Step::C3 { visit, left, right } = n else {
         return n;
@@ -166,10 +158,8 @@ pub fn step_c3(table: &[u32], starts: &[usize; 17], n: Step) -> Step
 // C4: the block is written if its place is still empty. The refresh has then succeeded.
 pub fn step_c4(table: &mut [u32], starts: &[usize; 17], n: Step) -> Step
     requires { ⌜ ((w : Visit) (b : Built) → n ≡ Step.C4 w b → HasPlace (now starts) (now table) (w .node) (w .head)) ⌝ }
-    ensures { λ r. ⌜ ((s : Shape) (k : ℕ) (o : Operation) (heads : List ℕ) (w : Visit) (b : Built) → n ≡ Step.C4 w b →
-        Begins s (now (starts .entry)) (w .node) →
-        let m : Memory = record { table = now (table .entry); heads = heads } in
-        step s k o m n ≡ go s k o m (record { table = now (table .exit); heads = heads }) r) ⌝ }
+    ensures { λ r. ⌜ ((w : Visit) (b : Built) → n ≡ Step.C4 w b →
+        NextByTable (now (starts .entry)) (now (table .entry)) (now (table .exit)) n r) ⌝ }
 {
     let Step::C4 { visit, built } = n else {
         return n;

@@ -5,13 +5,11 @@ use crate::Visit;
 use crate::order::resume;
 ghost use mathlib.Core.Path.{_≡_};
 ghost use mathlib.Core.Bool.{Bool};
-ghost use mathlib.Core.List.{List, []};
+ghost use mathlib.Core.List.{[]};
 ghost use Prim.Native.Nat.{ℕ, _+_, _*_, _/_, _≤_, _<_};
 ghost use lib.ListN.{length, getD};
-ghost use Rattle.tree.specs.Shape.{Shape};
-ghost use Rattle.tree.specs.Memory.{Memory, raise as raiseOf};
-ghost use Rattle.steps.specs.declared.Operation.{Operation};
-ghost use Rattle.steps.specs.Rules.{step, go};
+ghost use Rattle.tree.specs.Memory.{raise as raiseOf};
+ghost use Rattle.steps.specs.Next.{NextByHeads};
 ghost use Rattle.steps.specs.Ready.{Children};
 
 // A register as an index. Every index goes through here, so that no other place has a cast to prove.
@@ -42,9 +40,8 @@ pub fn raise(heads: &mut [u32], v: u32, h: u32)
 // V1: the parent's head is what v's block is to remember as its superblock.
 pub fn step_v1(heads: &[u32], n: Step) -> Step
     requires { ⌜ ((a : After) (w : Visit) (v h : ℕ) → n ≡ Step.V1 a w v h → v / 2 < length (now heads)) ⌝ }
-    ensures { λ r. ⌜ ((s : Shape) (k : ℕ) (o : Operation) (t : List ℕ) (a : After) (w : Visit) (v h : ℕ) → n ≡ Step.V1 a w v h →
-        let m : Memory = record { table = t; heads = now (heads .entry) } in
-        step s k o m n ≡ go s k o m m r) ⌝ }
+    ensures { λ r. ⌜ ((a : After) (w : Visit) (v h : ℕ) → n ≡ Step.V1 a w v h →
+        NextByHeads (now (heads .entry)) (now (heads .entry)) n r) ⌝ }
 {
     let Step::V1 {
         after,
@@ -72,9 +69,8 @@ pub fn step_v1(heads: &[u32], n: Step) -> Step
 // V3: the head of v is raised past the block at h, and what was put off goes on.
 pub fn step_v3(heads: &mut [u32], n: Step) -> Step
     requires { ⌜ ((a : After) (w : Visit) (v h : ℕ) → n ≡ Step.V3 a w v h → (v < length (now heads)) × (h < 65536)) ⌝ }
-    ensures { λ r. ⌜ ((s : Shape) (k : ℕ) (o : Operation) (t : List ℕ) (a : After) (w : Visit) (v h : ℕ) → n ≡ Step.V3 a w v h →
-        let m : Memory = record { table = t; heads = now (heads .entry) } in
-        step s k o m n ≡ go s k o m (record { table = t; heads = now (heads .exit) }) r) ⌝ }
+    ensures { λ r. ⌜ ((a : After) (w : Visit) (v h : ℕ) → n ≡ Step.V3 a w v h →
+        NextByHeads (now (heads .entry)) (now (heads .exit)) n r) ⌝ }
 {
     let Step::V3 {
         after,
@@ -92,9 +88,8 @@ pub fn step_v3(heads: &mut [u32], n: Step) -> Step
 // R1: the head of v is the place at which this refresh is to write.
 pub fn step_r1(heads: &[u32], n: Step) -> Step
     requires { ⌜ ((b : Bool) (v : ℕ) → n ≡ Step.R1 b v → v < length (now heads)) ⌝ }
-    ensures { λ r. ⌜ ((s : Shape) (k : ℕ) (o : Operation) (t : List ℕ) (b : Bool) (v : ℕ) → n ≡ Step.R1 b v →
-        let m : Memory = record { table = t; heads = now (heads .entry) } in
-        step s k o m n ≡ go s k o m m r) ⌝ }
+    ensures { λ r. ⌜ ((b : Bool) (v : ℕ) → n ≡ Step.R1 b v →
+        NextByHeads (now (heads .entry)) (now (heads .entry)) n r) ⌝ }
 {
     let Step::R1 { second, node } = n else {
         return n;
@@ -111,9 +106,8 @@ pub fn step_r1(heads: &[u32], n: Step) -> Step
 // R2: the left child's head, where a block may stand that its writer has not advanced yet.
 pub fn step_r2(heads: &[u32], n: Step) -> Step
     requires { ⌜ ((w : Visit) → n ≡ Step.R2 w → Children (now heads) w) ⌝ }
-    ensures { λ r. ⌜ ((s : Shape) (k : ℕ) (o : Operation) (t : List ℕ) (w : Visit) → n ≡ Step.R2 w →
-        let m : Memory = record { table = t; heads = now (heads .entry) } in
-        step s k o m n ≡ go s k o m m r) ⌝ }
+    ensures { λ r. ⌜ ((w : Visit) → n ≡ Step.R2 w →
+        NextByHeads (now (heads .entry)) (now (heads .entry)) n r) ⌝ }
 {
     let Step::R2 { visit } = n else {
         return n;
@@ -127,9 +121,8 @@ pub fn step_r2(heads: &[u32], n: Step) -> Step
 // R4: the same of the right child.
 pub fn step_r4(heads: &[u32], n: Step) -> Step
     requires { ⌜ ((w : Visit) → n ≡ Step.R4 w → Children (now heads) w) ⌝ }
-    ensures { λ r. ⌜ ((s : Shape) (k : ℕ) (o : Operation) (t : List ℕ) (w : Visit) → n ≡ Step.R4 w →
-        let m : Memory = record { table = t; heads = now (heads .entry) } in
-        step s k o m n ≡ go s k o m m r) ⌝ }
+    ensures { λ r. ⌜ ((w : Visit) → n ≡ Step.R4 w →
+        NextByHeads (now (heads .entry)) (now (heads .entry)) n r) ⌝ }
 {
     let Step::R4 { visit } = n else {
         return n;
@@ -143,9 +136,8 @@ pub fn step_r4(heads: &[u32], n: Step) -> Step
 // C1: the left end is the last block below the left child's head, which is at least 1.
 pub fn step_c1(heads: &[u32], n: Step) -> Step
     requires { ⌜ ((w : Visit) → n ≡ Step.C1 w → Children (now heads) w × (1 ≤ getD (now heads) (2 * w .node) 1)) ⌝ }
-    ensures { λ r. ⌜ ((s : Shape) (k : ℕ) (o : Operation) (t : List ℕ) (w : Visit) → n ≡ Step.C1 w →
-        let m : Memory = record { table = t; heads = now (heads .entry) } in
-        step s k o m n ≡ go s k o m m r) ⌝ }
+    ensures { λ r. ⌜ ((w : Visit) → n ≡ Step.C1 w →
+        NextByHeads (now (heads .entry)) (now (heads .entry)) n r) ⌝ }
 {
     let Step::C1 { visit } = n else {
         return n;
@@ -159,9 +151,8 @@ pub fn step_c1(heads: &[u32], n: Step) -> Step
 // C2: the same of the right child.
 pub fn step_c2(heads: &[u32], n: Step) -> Step
     requires { ⌜ ((w : Visit) (l : ℕ) → n ≡ Step.C2 w l → Children (now heads) w × (1 ≤ getD (now heads) (2 * w .node + 1) 1)) ⌝ }
-    ensures { λ r. ⌜ ((s : Shape) (k : ℕ) (o : Operation) (t : List ℕ) (w : Visit) (l : ℕ) → n ≡ Step.C2 w l →
-        let m : Memory = record { table = t; heads = now (heads .entry) } in
-        step s k o m n ≡ go s k o m m r) ⌝ }
+    ensures { λ r. ⌜ ((w : Visit) (l : ℕ) → n ≡ Step.C2 w l →
+        NextByHeads (now (heads .entry)) (now (heads .entry)) n r) ⌝ }
 {
     let Step::C2 { visit, left } = n else {
         return n;

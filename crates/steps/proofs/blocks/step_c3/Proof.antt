@@ -1,9 +1,11 @@
 -- `blocks::step_c3` meets its contract. Assumes nothing.
+use mathlib.Core.Path.{subst}
 use Rattle.tree.specs.Shape.{leftOf, rightOf}
 use Rattle.tree.specs.Memory.{block}
 use Rattle.steps.specs.Rules.{built, step, go}
+use Rattle.steps.specs.Next.{Placed}
 use Rattle.steps.proofs.NodeReads.{node-read}
-use Rattle.steps.proofs.Told.{begun, other}
+use Rattle.steps.proofs.Told.{other}
 use borrow.Author.Needs.{needs}
 use Rattle.steps.proofs.blocks.step_c3.Statement.{statement}
 use Rattle.steps.proofs.blocks.step_c3.Tie as tie
@@ -12,7 +14,7 @@ enum-known-n : tie.Need-enum-known-n
 enum-known-n c = search needs
 
 returns : tie.Need-returns
-returns c = λ s k o heads w l r e i x y. absurd (other (c .match .keys2) e tt)
+returns c = λ w l r e s k o heads i. absurd (other (c .match .keys2) e tt)
 
 sub-block-at : tie.Need-sub-block-at
 sub-block-at c =
@@ -59,10 +61,10 @@ settle-requires c κs = search needs
 
 returns-2 : tie.Need-returns-2
 unfolding step go built block leftOf rightOf
-returns-2 c = λ s k o heads w l r e i x y.
+returns-2 c = λ w l r e s k o heads i.
     let a = c .before .before .before .before .before .before .before .before .before .before .args in
     let told = c .before .before .before .before .before .before .before .n .given .1 in
-    let g = begun s (a .starts .now) e told (i, x, y) in
+    let g = subst (Placed s (a .starts .now)) told i in
     rw (
       told,
       c .settle .ensures,

@@ -1,8 +1,10 @@
 -- `blocks::step_c4` meets its contract. Assumes nothing.
+use mathlib.Core.Path.{subst}
 use Rattle.tree.specs.Memory.{block, writeIfAbsent}
 use Rattle.steps.specs.Rules.{step, go}
+use Rattle.steps.specs.Next.{Placed}
 use Rattle.steps.proofs.NodeReads.{node-read}
-use Rattle.steps.proofs.Told.{begun, other}
+use Rattle.steps.proofs.Told.{other}
 use borrow.Author.Needs.{needs}
 use Rattle.steps.proofs.blocks.step_c4.Statement.{statement}
 use Rattle.steps.proofs.blocks.step_c4.Tie as tie
@@ -11,7 +13,7 @@ enum-known-n : tie.Need-enum-known-n
 enum-known-n c = search needs
 
 returns : tie.Need-returns
-returns c = λ s k o heads w b e i. absurd (other (c .match .keys2) e tt)
+returns c = λ w b e s k o heads i. absurd (other (c .match .keys2) e tt)
 
 block-of-requires : tie.Need-block-of-requires
 block-of-requires c κs = search needs
@@ -32,10 +34,10 @@ same-length c = search needs
 
 returns-2 : tie.Need-returns-2
 unfolding step go writeIfAbsent block
-returns-2 c = λ s k o heads w b e i.
+returns-2 c = λ w b e s k o heads i.
     let a = c .before .before .before .before .before .before .before .before .before .before .before .args in
     let told = c .before .before .before .before .before .before .before .before .n .given .1 in
-    let g = begun s (a .starts .now) e told i in
+    let g = subst (Placed s (a .starts .now)) told i in
     let p = c .before .before .before .before .write-if-absent .ensures in
     rw (
       told,

@@ -1,9 +1,11 @@
 -- `blocks::step_r5` meets its contract. Assumes nothing.
+use mathlib.Core.Path.{subst}
 use Rattle.tree.specs.Shape.{rightOf}
 use Rattle.tree.specs.Memory.{block}
 use Rattle.steps.specs.Rules.{help, step, go}
+use Rattle.steps.specs.Next.{Placed}
 use Rattle.steps.proofs.NodeReads.{node-read}
-use Rattle.steps.proofs.Told.{begun, other}
+use Rattle.steps.proofs.Told.{other}
 use borrow.Author.Needs.{needs}
 use Rattle.steps.proofs.blocks.step_r5.Statement.{statement}
 use Rattle.steps.proofs.blocks.step_r5.Tie as tie
@@ -12,7 +14,7 @@ enum-known-n : tie.Need-enum-known-n
 enum-known-n c = search needs
 
 returns : tie.Need-returns
-returns c = λ s k o heads w x e i. absurd (other (c .match .keys2) e tt)
+returns c = λ w x e s k o heads i. absurd (other (c .match .keys2) e tt)
 
 mul-v : tie.Need-mul-v
 mul-v c =
@@ -34,10 +36,10 @@ help-requires c κs = search needs
 
 returns-2 : tie.Need-returns-2
 unfolding step go help block rightOf
-returns-2 c = λ s k o heads w x e i.
+returns-2 c = λ w x e s k o heads i.
     let a = c .before .before .before .before .before .before .before .args in
     let told = c .before .before .before .before .n .given .1 in
-    let g = begun s (a .starts .now) e told i in
+    let g = subst (Placed s (a .starts .now)) told i in
     rw (told, c .help .ensures, c .before .absent-at .ensures, node-read s (a .starts .now) (a .table .now) _ _ g)
 
 pub step-r5-spec : {M : Type 1} → statement M

@@ -1,7 +1,9 @@
 -- `blocks::step_v2` meets its contract. Assumes nothing.
+use mathlib.Core.Path.{subst}
 use Rattle.tree.specs.Memory.{block, write, setSuper}
 use Rattle.steps.specs.Rules.{step, go}
-use Rattle.steps.proofs.Told.{begun, other}
+use Rattle.steps.specs.Next.{Placed}
+use Rattle.steps.proofs.Told.{other}
 use borrow.Author.Needs.{needs}
 use Rattle.steps.proofs.blocks.step_v2.Statement.{statement}
 use Rattle.steps.proofs.blocks.step_v2.Tie as tie
@@ -10,7 +12,7 @@ enum-known-n : tie.Need-enum-known-n
 enum-known-n c = search needs
 
 returns : tie.Need-returns
-returns c = λ s k o heads a w v h x e i. absurd (other (c .match .keys2) e tt)
+returns c = λ a w v h x e s k o heads i. absurd (other (c .match .keys2) e tt)
 
 set-super-at-requires : tie.Need-set-super-at-requires
 set-super-at-requires c κs =
@@ -22,10 +24,10 @@ same-length c = search needs
 
 returns-2 : tie.Need-returns-2
 unfolding step go setSuper write block
-returns-2 c = λ s k o heads a w v h x e i.
+returns-2 c = λ a w v h x e s k o heads i.
     let a = c .before .before .before .before .before .before .before .before .args in
     let told = c .before .before .before .before .before .n .given .1 in
-    let g = begun s (a .starts .now) e told i in
+    let g = subst (Placed s (a .starts .now)) told i in
     rw (told, c .before .before .set-super-at .ensures s g)
 
 pub step-v2-spec : {M : Type 1} → statement M

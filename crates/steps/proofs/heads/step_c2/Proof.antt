@@ -11,7 +11,7 @@ enum-known-n : tie.Need-enum-known-n
 enum-known-n c = search needs
 
 returns : tie.Need-returns
-returns c = λ s k o t w l e. absurd (other (c .match .keys2) e tt)
+returns c = λ w l e s k o t. absurd (other (c .match .keys2) e tt)
 
 mul-head-of : tie.Need-mul-head-of
 mul-head-of c =
@@ -35,7 +35,7 @@ sub-t8 c =
 
 returns-2 : tie.Need-returns-2
 unfolding step go headOf rightOf
-returns-2 c = λ s k o t w l e. rw (c .before .before .before .n .given .1, c .head-of .ensures)
+returns-2 c = λ w l e s k o t. rw (c .before .before .before .n .given .1, c .head-of .ensures)
 
 pub step-c2-spec : {M : Type 1} → statement M
 step-c2-spec =

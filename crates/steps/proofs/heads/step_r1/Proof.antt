@@ -10,7 +10,7 @@ enum-known-n : tie.Need-enum-known-n
 enum-known-n c = search needs
 
 returns : tie.Need-returns
-returns c = λ s k o t b v e. absurd (other (c .match .keys2) e tt)
+returns c = λ b v e s k o t. absurd (other (c .match .keys2) e tt)
 
 head-of-requires : tie.Need-head-of-requires
 head-of-requires c κs =
@@ -19,7 +19,7 @@ head-of-requires c κs =
 
 returns-2 : tie.Need-returns-2
 unfolding step go headOf
-returns-2 c = λ s k o t b v e. rw (c .before .before .n .given .1, c .head-of .ensures)
+returns-2 c = λ b v e s k o t. rw (c .before .before .n .given .1, c .head-of .ensures)
 
 pub step-r1-spec : {M : Type 1} → statement M
 step-r1-spec = tie.close (tie.spec enum-known-n returns head-of-requires returns-2)

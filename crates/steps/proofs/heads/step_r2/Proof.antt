@@ -11,7 +11,7 @@ enum-known-n : tie.Need-enum-known-n
 enum-known-n c = search needs
 
 returns : tie.Need-returns
-returns c = λ s k o t w e. absurd (other (c .match .keys2) e tt)
+returns c = λ w e s k o t. absurd (other (c .match .keys2) e tt)
 
 mul-head-of : tie.Need-mul-head-of
 mul-head-of c =
@@ -25,7 +25,7 @@ head-of-requires c κs =
 
 returns-2 : tie.Need-returns-2
 unfolding step go headOf leftOf
-returns-2 c = λ s k o t w e. rw (c .before .before .before .n .given .1, c .head-of .ensures)
+returns-2 c = λ w e s k o t. rw (c .before .before .before .n .given .1, c .head-of .ensures)
 
 pub step-r2-spec : {M : Type 1} → statement M
 step-r2-spec = tie.close (tie.spec enum-known-n returns mul-head-of head-of-requires returns-2)

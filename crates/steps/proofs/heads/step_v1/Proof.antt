@@ -11,7 +11,7 @@ enum-known-n : tie.Need-enum-known-n
 enum-known-n c = search needs
 
 returns : tie.Need-returns
-returns c = λ s k o t a w v h e. absurd (other (c .match .keys2) e tt)
+returns c = λ a w v h e s k o t. absurd (other (c .match .keys2) e tt)
 
 head-of-requires : tie.Need-head-of-requires
 head-of-requires c κs =
@@ -20,7 +20,7 @@ head-of-requires c κs =
 
 returns-2 : tie.Need-returns-2
 unfolding step go headOf parentOf
-returns-2 c = λ s k o t a w v h e. rw (c .before .before .n .given .1, c .head-of .ensures)
+returns-2 c = λ a w v h e s k o t. rw (c .before .before .n .given .1, c .head-of .ensures)
 
 pub step-v1-spec : {M : Type 1} → statement M
 step-v1-spec = tie.close (tie.spec enum-known-n returns head-of-requires returns-2)

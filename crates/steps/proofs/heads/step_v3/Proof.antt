@@ -10,7 +10,7 @@ enum-known-n : tie.Need-enum-known-n
 enum-known-n c = search needs
 
 returns : tie.Need-returns
-returns c = λ s k o t a w v h e. absurd (other (c .match .keys2) e tt)
+returns c = λ a w v h e s k o t. absurd (other (c .match .keys2) e tt)
 
 raise-requires : tie.Need-raise-requires
 raise-requires c κs =
@@ -25,7 +25,7 @@ same-length c = search needs
 
 returns-2 : tie.Need-returns-2
 unfolding step go raise headOf
-returns-2 c = λ s k o t a w v h e. rw (c .before .before .before .before .before .before .n .given .1, c .resume .ensures, c .before .before .before .raise .ensures)
+returns-2 c = λ a w v h e s k o t. rw (c .before .before .before .before .before .before .n .given .1, c .resume .ensures, c .before .before .before .raise .ensures)
 
 pub step-v3-spec : {M : Type 1} → statement M
 step-v3-spec = tie.close (tie.spec enum-known-n returns raise-requires resume-requires same-length returns-2)

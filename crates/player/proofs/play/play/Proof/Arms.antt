@@ -1,5 +1,4 @@
 -- The arms of `play`'s loop, one a named step: what the step needs, and that the loop's invariant holds after it. Used by its proof alone.
-use native.Mathlib.Omega.{arith}
 use mathlib.Core.Path.{refl}
 use Rattle.steps.specs.Process.{idle}
 use Rattle.steps.specs.Machine.{isQ}
@@ -23,7 +22,7 @@ again-a c =
     let told = c .before .before .before .before .before .before .before .before .enum-told2 .given .1 in
     rw (c .moved .ensures)
     (step-moves f busy (step-named f busy told) told refl (c .before .before .before .before .operation-in .ensures) _ _ _ refl (c .before .before .before .step-a .kept .1 .0)
-    (λ _ ready. c .before .before .before .step-a .ensures _ _ (step-leaf f) (step-begins f _ (ready .node))))
+    (λ _ ready _. c .before .before .before .step-a .ensures _ _ (step-leaf f) (step-begins f _ (ready .node))))
 
 pub ready-v1 : tie.Need-step-v1-requires Inv-loop μ-loop
 unfolding idle isQ
@@ -40,7 +39,7 @@ again-v1 c =
     let told = c .before .before .before .before .before .enum-told3 .given .1 in
     rw (c .moved2 .ensures)
     (step-moves f busy (c .before .before .step-in .ensures) told refl refl _ _ _ refl refl
-    (λ is _. c .before .step-v1 .ensures _ _ _ _ _ _ _ _ is))
+    (λ is _ _. c .before .step-v1 .ensures _ _ _ _ is _ _ _ _))
 
 pub ready-v2 : tie.Need-step-v2-requires Inv-loop μ-loop
 unfolding idle isQ
@@ -57,7 +56,7 @@ again-v2 c =
     let told = c .before .before .before .before .before .before .before .enum-told4 .given .1 in
     rw (c .moved3 .ensures)
     (step-moves f busy (c .before .before .before .before .step-in2 .ensures) told refl refl _ _ _ refl (c .before .before .before .step-v2 .kept .0)
-    (λ is ready. c .before .before .before .step-v2 .ensures _ _ _ _ _ _ _ _ _ is (step-begins f _ (ready .0))))
+    (λ is _ placed. c .before .before .before .step-v2 .ensures _ _ _ _ _ is _ _ _ _ placed))
 
 pub ready-v3 : tie.Need-step-v3-requires Inv-loop μ-loop
 unfolding idle isQ
@@ -74,7 +73,7 @@ again-v3 c =
     let told = c .before .before .before .before .before .before .before .enum-told5 .given .1 in
     rw (c .moved4 .ensures)
     (step-moves f busy (c .before .before .before .before .step-in3 .ensures) told refl refl _ _ _ (c .before .before .before .step-v3 .kept .0) refl
-    (λ is _. c .before .before .before .step-v3 .ensures _ _ _ _ _ _ _ _ is))
+    (λ is _ _. c .before .before .before .step-v3 .ensures _ _ _ _ is _ _ _ _))
 
 pub ready-r1 : tie.Need-step-r1-requires Inv-loop μ-loop
 unfolding idle isQ
@@ -91,7 +90,7 @@ again-r1 c =
     let told = c .before .before .before .before .before .enum-told6 .given .1 in
     rw (c .moved5 .ensures)
     (step-moves f busy (c .before .before .step-in4 .ensures) told refl refl _ _ _ refl refl
-    (λ is _. c .before .step-r1 .ensures _ _ _ _ _ _ is))
+    (λ is _ _. c .before .step-r1 .ensures _ _ is _ _ _ _))
 
 pub ready-r2 : tie.Need-step-r2-requires Inv-loop μ-loop
 unfolding idle isQ
@@ -108,7 +107,7 @@ again-r2 c =
     let told = c .before .before .before .before .before .enum-told7 .given .1 in
     rw (c .moved6 .ensures)
     (step-moves f busy (c .before .before .step-in5 .ensures) told refl refl _ _ _ refl refl
-    (λ is _. c .before .step-r2 .ensures _ _ _ _ _ is))
+    (λ is _ _. c .before .step-r2 .ensures _ is _ _ _ _))
 
 pub ready-r3 : tie.Need-step-r3-requires Inv-loop μ-loop
 unfolding idle isQ
@@ -125,7 +124,7 @@ again-r3 c =
     let told = c .before .before .before .before .before .enum-told8 .given .1 in
     rw (c .moved7 .ensures)
     (step-moves f busy (c .before .before .step-in6 .ensures) told refl refl _ _ _ refl refl
-    (λ is ready. c .before .step-r3 .ensures _ _ _ _ _ _ is (step-begins f _ (omega (arith, ready .0 .both)))))
+    (λ is _ placed. c .before .step-r3 .ensures _ _ is _ _ _ _ placed))
 
 pub ready-r4 : tie.Need-step-r4-requires Inv-loop μ-loop
 unfolding idle isQ
@@ -142,7 +141,7 @@ again-r4 c =
     let told = c .before .before .before .before .before .enum-told9 .given .1 in
     rw (c .moved8 .ensures)
     (step-moves f busy (c .before .before .step-in7 .ensures) told refl refl _ _ _ refl refl
-    (λ is _. c .before .step-r4 .ensures _ _ _ _ _ is))
+    (λ is _ _. c .before .step-r4 .ensures _ is _ _ _ _))
 
 pub ready-r5 : tie.Need-step-r5-requires Inv-loop μ-loop
 unfolding idle isQ
@@ -159,7 +158,7 @@ again-r5 c =
     let told = c .before .before .before .before .before .enum-told10 .given .1 in
     rw (c .moved9 .ensures)
     (step-moves f busy (c .before .before .step-in8 .ensures) told refl refl _ _ _ refl refl
-    (λ is ready. c .before .step-r5 .ensures _ _ _ _ _ _ is (step-begins f _ (ready .0 .both))))
+    (λ is _ placed. c .before .step-r5 .ensures _ _ is _ _ _ _ placed))
 
 pub ready-c1 : tie.Need-step-c1-requires Inv-loop μ-loop
 unfolding idle isQ
@@ -176,7 +175,7 @@ again-c1 c =
     let told = c .before .before .before .before .before .enum-told11 .given .1 in
     rw (c .moved10 .ensures)
     (step-moves f busy (c .before .before .step-in9 .ensures) told refl refl _ _ _ refl refl
-    (λ is _. c .before .step-c1 .ensures _ _ _ _ _ is))
+    (λ is _ _. c .before .step-c1 .ensures _ is _ _ _ _))
 
 pub ready-c2 : tie.Need-step-c2-requires Inv-loop μ-loop
 unfolding idle isQ
@@ -193,7 +192,7 @@ again-c2 c =
     let told = c .before .before .before .before .before .enum-told12 .given .1 in
     rw (c .moved11 .ensures)
     (step-moves f busy (c .before .before .step-in10 .ensures) told refl refl _ _ _ refl refl
-    (λ is _. c .before .step-c2 .ensures _ _ _ _ _ _ is))
+    (λ is _ _. c .before .step-c2 .ensures _ _ is _ _ _ _))
 
 pub ready-c3 : tie.Need-step-c3-requires Inv-loop μ-loop
 unfolding idle isQ
@@ -210,7 +209,7 @@ again-c3 c =
     let told = c .before .before .before .before .before .enum-told13 .given .1 in
     rw (c .moved12 .ensures)
     (step-moves f busy (c .before .before .step-in11 .ensures) told refl refl _ _ _ refl refl
-    (λ is ready. c .before .step-c3 .ensures _ _ _ _ _ _ _ is (step-begins f _ (omega (arith, ready .0 .both))) (step-begins f _ (omega (arith, ready .0 .both))) (step-begins f _ (ready .0 .both))))
+    (λ is _ placed. c .before .step-c3 .ensures _ _ _ is _ _ _ _ placed))
 
 pub ready-c4 : tie.Need-step-c4-requires Inv-loop μ-loop
 unfolding idle isQ
@@ -227,4 +226,4 @@ again-c4 c =
     let told = c .before .before .before .before .before .before .before .enum-told14 .given .1 in
     rw (c .moved13 .ensures)
     (step-moves f busy (c .before .before .before .before .step-in12 .ensures) told refl refl _ _ _ refl (c .before .before .before .step-c4 .kept .0)
-    (λ is ready. c .before .before .before .step-c4 .ensures _ _ _ _ _ _ is (step-begins f _ (ready .0))))
+    (λ is _ placed. c .before .before .before .step-c4 .ensures _ _ is _ _ _ _ placed))

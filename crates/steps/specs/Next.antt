@@ -1,0 +1,37 @@
+-- What the code of a named step promises: the memory that it leaves and the step that comes next are those of the rules, whatever it does not look at.
+use Prim.Native.Nat.{ℕ, _+_, _*_}
+use mathlib.Core.Path.{_≡_}
+use mathlib.Core.List.{List}
+use Rattle.tree.specs.Shape.{Shape}
+use Rattle.steps.specs.declared.Operation.{Operation}
+use Rattle.steps.specs.declared.Step.{Step}
+use Rattle.steps.specs.declared.Step.the-variants.{A, V1, V2, V3, R1, R2, R3, R4, R5, C1, C2, C3, C4, Q}
+use Rattle.steps.specs.Rules.{step, go}
+use Rattle.steps.specs.Ready.{Begins}
+
+-- the parts of the nodes whose blocks a step looks at begin and end where they do in a tree of shape s; A, which knows its leaf from its process, is told it
+abbrev pub Placed : Shape → List ℕ → Step → Type 0
+Placed s starts A = Unit {0}
+Placed s starts (V1 a w v h) = Unit {0}
+Placed s starts (V2 a w v h x) = Begins s starts v
+Placed s starts (V3 a w v h) = Unit {0}
+Placed s starts (R1 second v) = Unit {0}
+Placed s starts (R2 w) = Unit {0}
+Placed s starts (R3 w c) = Begins s starts (2 * w .node)
+Placed s starts (R4 w) = Unit {0}
+Placed s starts (R5 w c) = Begins s starts (2 * w .node + 1)
+Placed s starts (C1 w) = Unit {0}
+Placed s starts (C2 w l) = Unit {0}
+Placed s starts (C3 w l r) = Begins s starts (w .node) × Begins s starts (2 * w .node) × Begins s starts (2 * w .node + 1)
+Placed s starts (C4 w n) = Begins s starts (w .node)
+Placed s starts Q = Unit {0}
+
+-- step n, which looks at these heads alone, leaves heads' and comes to r
+abbrev pub NextByHeads : List ℕ → List ℕ → Step → Step → Type 0
+NextByHeads heads heads' n r = (s : Shape) (k : ℕ) (o : Operation) (table : List ℕ)
+    → step s k o (record { table = table; heads = heads }) n ≡ go s k o (record { table = table; heads = heads }) (record { table = table; heads = heads' }) r
+
+-- step n, which looks at this table alone, by the starts of its parts, leaves table' and comes to r
+abbrev pub NextByTable : List ℕ → List ℕ → List ℕ → Step → Step → Type 0
+NextByTable starts table table' n r = (s : Shape) (k : ℕ) (o : Operation) (heads : List ℕ) → Placed s starts n
+    → step s k o (record { table = table; heads = heads }) n ≡ go s k o (record { table = table; heads = heads }) (record { table = table'; heads = heads }) r
