@@ -88,6 +88,23 @@ module _ {p l : ℕ} {starts records heads₀ table₀ : List ℕ} {room : ℕ} 
         loop-refused (w .inv) (w .more) (stepOf first) step-is StepWhileIdle
         (idle-turn s left (take (processes s) procs) starts heads table (stepOf first) q step-plays well refl (ap isIdle e))
 
+    -- a step that is ready looks at nodes of the tree
+    placed : (y : Step) → Ready starts heads table (p + first) y → Placed s starts y
+    placed A r = tt
+    placed (V1 a w v h) r = tt
+    placed (V2 a w v h x) r = step-begins v (r .0)
+    placed (V3 a w v h) r = tt
+    placed (R1 second v) r = tt
+    placed (R2 w) r = tt
+    placed (R3 w c) r = step-begins _ (omega (arith, r .0 .both))
+    placed (R4 w) r = tt
+    placed (R5 w c) r = step-begins _ (r .0 .both)
+    placed (C1 w) r = tt
+    placed (C2 w l) r = tt
+    placed (C3 w l e) r = (step-begins _ (omega (arith, r .0 .both)), step-begins _ (omega (arith, r .0 .both)), step-begins _ (r .0 .both))
+    placed (C4 w n) r = step-begins _ (r .0)
+    placed Q r = tt
+
     -- where the process is busy: its operation, and its step by any name that it was told
     module _ {o : Operation} {x : Step} (busy : q .status ≡ Busy o x) where
       pub step-named : {y : Step} → x ≡ y → y ≡ stepIn (q .status)
@@ -98,22 +115,6 @@ module _ {p l : ℕ} {starts records heads₀ table₀ : List ℕ} {room : ℕ} 
           busy ∙ ap (λ (k : Operation). Busy k x) (sym (named ∙ ap operationIn busy)) ∙ ap (Busy o') (sym (at ∙ ap stepIn busy))
 
       -- any step but Q
-      placed : (y : Step) → Ready starts heads table (p + first) y → Placed s starts y
-      placed A r = tt
-      placed (V1 a w v h) r = tt
-      placed (V2 a w v h x) r = step-begins v (r .0)
-      placed (V3 a w v h) r = tt
-      placed (R1 second v) r = tt
-      placed (R2 w) r = tt
-      placed (R3 w c) r = step-begins _ (omega (arith, r .0 .both))
-      placed (R4 w) r = tt
-      placed (R5 w c) r = step-begins _ (r .0 .both)
-      placed (C1 w) r = tt
-      placed (C2 w l) r = tt
-      placed (C3 w l e) r = (step-begins _ (omega (arith, r .0 .both)), step-begins _ (omega (arith, r .0 .both)), step-begins _ (r .0 .both))
-      placed (C4 w n) r = step-begins _ (r .0)
-      placed Q r = tt
-
       pub step-ready : {n y : Step} → n ≡ stepIn (q .status) → n ≡ y → isQ y ≡ false → Ready starts heads table (p + first) y
       unfolding leafOf
       step-ready {n} {y} at is goes =
