@@ -19,7 +19,7 @@ use Rattle.steps.specs.declared.Process.{Process}
 use Rattle.steps.specs.Process.{idle}
 use Rattle.steps.specs.Rules.{step, go}
 use Rattle.steps.specs.Ready.{Begins, Ready}
-use Rattle.steps.specs.Next.{Placed}
+use Rattle.steps.specs.Next.{Placed, operationIn, stepIn, moved, Moves}
 use Rattle.steps.proofs.NodeReads.{begins}
 use Rattle.steps.specs.Machine.{isIdle, isQ}
 use Rattle.rules.specs.declared.Refusal.the-variants.{StepWhileIdle, AnswersFull}
@@ -29,7 +29,7 @@ use Rattle.rules.specs.Run.{play}
 use Rattle.log.specs.Leading.{leadingOf, written}
 use Rattle.answer.proofs.PlaysLaws.{plays-ready}
 use Rattle.answer.specs.Playing.{machineOf, Plays, Playing}
-use Rattle.player.specs.Turns.{operationIn, stepIn, moved, rested}
+use Rattle.player.specs.Turns.{rested}
 use Rattle.player.specs.Playing.{Leaves}
 use Rattle.player.proofs.StepWords.{stepOf, step-formed, words-step}
 use Rattle.player.proofs.StepTurns.{idle-turn, full-turn, last-turn, next-turn}
@@ -115,26 +115,29 @@ module _ {p l : ℕ} {starts records heads₀ table₀ : List ℕ} {room : ℕ} 
           busy ∙ ap (λ (k : Operation). Busy k x) (sym (named ∙ ap operationIn busy)) ∙ ap (Busy o') (sym (at ∙ ap stepIn busy))
 
       -- any step but Q
-      pub step-ready : {n y : Step} → n ≡ stepIn (q .status) → n ≡ y → isQ y ≡ false → Ready starts heads table (p + first) y
+      pub step-ready : {y : Step} → stepIn (q .status) ≡ y → isQ y ≡ false → Ready starts heads table (p + first) y
       unfolding leafOf
-      step-ready {n} {y} at is goes =
+      step-ready {y} is goes =
           subst (λ (v : ℕ). Ready starts heads table v y) (ap (λ (x : ℕ). x + first) (w .inv .width))
-          (plays-ready s (take (processes s) procs) starts heads table first q step-plays (operationIn (q .status)) y (step-busy refl (sym is ∙ at)) goes)
+          (plays-ready s (take (processes s) procs) starts heads table first q step-plays (operationIn (q .status)) y (step-busy refl (sym is)) goes)
 
-      pub step-moves : {n y : Step} {o' : Operation} → n ≡ stepIn (q .status) → x ≡ y → isQ y ≡ false → o' ≡ operationIn (q .status)
-          → (table' heads' : List ℕ) (next : Step) → length heads' ≡ length heads → length table' ≡ length table
-          → (n ≡ y → Ready starts heads table (p + first) y → Placed s starts n
-          → step s first o' (record { table = table; heads = heads }) n ≡ go s first o' (record { table = table; heads = heads }) (record { table = table'; heads = heads' }) next)
-          → Loop p l starts records heads₀ table₀ room out₀ log n₀ heads' table' out (set procs j (moved q (operationIn (q .status)) next)) answers equal left (i + 1)
+      pub step-moves : {y : Step} → x ≡ y → isQ y ≡ false → (table' heads' : List ℕ) (r : Process) → length heads' ≡ length heads → length table' ≡ length table
+          → (stepIn (q .status) ≡ y → Ready starts heads table (p + first) y → Placed s starts (stepIn (q .status))
+          → Moves q r
+          × (step s first (operationIn (q .status)) (record { table = table; heads = heads }) (stepIn (q .status))
+          ≡ go s first (operationIn (q .status)) (record { table = table; heads = heads }) (record { table = table'; heads = heads' }) (stepIn (r .status))))
+          → Loop p l starts records heads₀ table₀ room out₀ log n₀ heads' table' out (set procs j r) answers equal left (i + 1)
       unfolding isStep
-      step-moves {n} {y} {o'} at is goes named table' heads' next eh et turn =
-          let told : n ≡ y = at ∙ ap stepIn busy ∙ is in
-          subst (λ (y : ℕ). Loop p l starts records heads₀ table₀ room out₀ log n₀ heads' table' out (set procs y (moved q (operationIn (q .status)) next)) answers equal left (i + 1)) (sym (w .at))
-          (loop-moves (w .inv) (w .more) (stepOf first) step-is (moved q (operationIn (q .status)) next) table' heads' (w .low) eh et
-          (next-turn s left (take (processes s) procs) starts heads table (stepOf first) q step-plays well refl (operationIn (q .status)) n (step-busy refl at) (ap isQ told ∙ goes)
-          (record { table = table'; heads = heads' }) next
-          (subst (λ (k : Operation). step s first k (record { table = table; heads = heads }) n ≡ go s first k (record { table = table; heads = heads }) (record { table = table'; heads = heads' }) next) named
-          (turn told (step-ready at told goes) (subst (Placed s starts) (sym told) (placed y (step-ready at told goes)))))))
+      step-moves {y} is goes table' heads' r eh et turn =
+          let told : stepIn (q .status) ≡ y = ap stepIn busy ∙ is in
+          let ready = step-ready told goes in
+          let t = turn told ready (subst (Placed s starts) (sym told) (placed y ready)) in
+          let q' : Process = moved q (operationIn (q .status)) (stepIn (r .status)) in
+          subst (λ (z : Process). Loop p l starts records heads₀ table₀ room out₀ log n₀ heads' table' out (set procs j z) answers equal left (i + 1)) (sym (t .0))
+          (subst (λ (y : ℕ). Loop p l starts records heads₀ table₀ room out₀ log n₀ heads' table' out (set procs y q') answers equal left (i + 1)) (sym (w .at))
+          (loop-moves (w .inv) (w .more) (stepOf first) step-is q' table' heads' (w .low) eh et
+          (next-turn s left (take (processes s) procs) starts heads table (stepOf first) q step-plays well refl (operationIn (q .status)) (stepIn (q .status)) (step-busy refl refl) (ap isQ told ∙ goes)
+          (record { table = table'; heads = heads' }) (stepIn (r .status)) (t .1))))
 
     -- Q
     module _ {o : Operation} (finish-busy : q .status ≡ Busy o Q) where

@@ -7,10 +7,7 @@ use Rattle.record.specs.declared.StepRecord.{StepRecord}
 use Rattle.tree.specs.Shape.{Shape}
 use Rattle.tree.specs.Memory.{Memory}
 use Rattle.steps.specs.declared.Operation.{Operation}
-use Rattle.steps.specs.declared.Operation.the-variants.{Take}
-use Rattle.steps.specs.declared.Step.{Step}
 use Rattle.steps.specs.declared.Process.{Process}
-use Rattle.steps.specs.declared.Status.{Status}
 use Rattle.steps.specs.declared.Status.the-variants.{Idle, Busy}
 use Rattle.steps.specs.declared.Step.the-variants.{A, Q}
 use Rattle.steps.specs.Machine.{Machine, processOf, withProcess}
@@ -28,19 +25,6 @@ pub data Turn : Type 0 where
 -- a process after a begin record: it comes to A
 abbrev pub opened : Process → StepRecord → Process
 opened q r = record { status = Busy (operationOf r) A; begun = q .begun + 1; steps = 0 }
-
--- the operation that a busy process is inside of, and its next step; nothing is said of an idle one
-abbrev pub operationIn : Status → Operation
-operationIn Idle = Take
-operationIn (Busy o n) = o
-
-abbrev pub stepIn : Status → Step
-stepIn Idle = A
-stepIn (Busy o n) = n
-
--- a process after a step of operation o, with step n next
-abbrev pub moved : Process → Operation → Step → Process
-moved q o n = record { status = Busy o n; begun = q .begun; steps = q .steps + 1 }
 
 -- a process whose operation has ended
 unfoldable pub rested : Process → Process

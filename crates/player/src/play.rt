@@ -1,11 +1,8 @@
 // The loop that plays a list of records. Run, list the order and check a log share it: they differ in what they do with its answers.
 use crate::Outcome;
 use crate::records::is_idle;
-use crate::records::moved;
 use crate::records::opened;
-use crate::records::operation_in;
 use crate::records::rested;
-use crate::records::step_in;
 use answer::answers::answer_of;
 use log::compare::equal_after;
 use log::write::write_answer;
@@ -28,6 +25,7 @@ use steps::heads::step_r4;
 use steps::heads::step_v1;
 use steps::heads::step_v3;
 use steps::heads::wide;
+use steps::turn::operation_in;
 ghost use mathlib.Core.Path.{_≡_};
 ghost use lib.ListN.{length};
 ghost use Rattle.record.specs.StepRecords.{stepRecords};
@@ -84,70 +82,67 @@ pub fn play(
                     Status::Busy(_, step) => match step {
                         Step::A => {
                             let q = procs[k];
-                            procs[k] = moved(
-                                q,
-                                step_a(heads, table, starts, p + first, operation_in(q)),
-                            );
+                            procs[k] = step_a(heads, table, starts, p + first, q);
                             continue;
                         }
                         Step::V1 { .. } => {
                             let q = procs[k];
-                            procs[k] = moved(q, step_v1(heads, step_in(q)));
+                            procs[k] = step_v1(heads, q);
                             continue;
                         }
                         Step::V2 { .. } => {
                             let q = procs[k];
-                            procs[k] = moved(q, step_v2(table, starts, step_in(q)));
+                            procs[k] = step_v2(table, starts, q);
                             continue;
                         }
                         Step::V3 { .. } => {
                             let q = procs[k];
-                            procs[k] = moved(q, step_v3(heads, step_in(q)));
+                            procs[k] = step_v3(heads, q);
                             continue;
                         }
                         Step::R1 { .. } => {
                             let q = procs[k];
-                            procs[k] = moved(q, step_r1(heads, step_in(q)));
+                            procs[k] = step_r1(heads, q);
                             continue;
                         }
                         Step::R2 { .. } => {
                             let q = procs[k];
-                            procs[k] = moved(q, step_r2(heads, step_in(q)));
+                            procs[k] = step_r2(heads, q);
                             continue;
                         }
                         Step::R3 { .. } => {
                             let q = procs[k];
-                            procs[k] = moved(q, step_r3(table, starts, step_in(q)));
+                            procs[k] = step_r3(table, starts, q);
                             continue;
                         }
                         Step::R4 { .. } => {
                             let q = procs[k];
-                            procs[k] = moved(q, step_r4(heads, step_in(q)));
+                            procs[k] = step_r4(heads, q);
                             continue;
                         }
                         Step::R5 { .. } => {
                             let q = procs[k];
-                            procs[k] = moved(q, step_r5(table, starts, step_in(q)));
+                            procs[k] = step_r5(table, starts, q);
                             continue;
                         }
                         Step::C1 { .. } => {
                             let q = procs[k];
-                            procs[k] = moved(q, step_c1(heads, step_in(q)));
+                            procs[k] = step_c1(heads, q);
                             continue;
                         }
                         Step::C2 { .. } => {
                             let q = procs[k];
-                            procs[k] = moved(q, step_c2(heads, step_in(q)));
+                            procs[k] = step_c2(heads, q);
                             continue;
                         }
                         Step::C3 { .. } => {
                             let q = procs[k];
-                            procs[k] = moved(q, step_c3(table, starts, step_in(q)));
+                            procs[k] = step_c3(table, starts, q);
                             continue;
                         }
                         Step::C4 { .. } => {
                             let q = procs[k];
-                            procs[k] = moved(q, step_c4(table, starts, step_in(q)));
+                            procs[k] = step_c4(table, starts, q);
                             continue;
                         }
                         Step::Q => {

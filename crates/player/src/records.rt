@@ -9,7 +9,7 @@ ghost use mathlib.Core.Path.{_≡_};
 ghost use Prim.Native.Nat.{_<_};
 ghost use Rattle.steps.specs.Machine.{isIdle};
 ghost use Rattle.rules.specs.Run.{operationOf};
-ghost use Rattle.player.specs.Turns.{operationIn, stepIn, opened as openedOf, moved as movedOf, rested as restedOf};
+ghost use Rattle.player.specs.Turns.{opened as openedOf, rested as restedOf};
 
 // The operation that a begin record opens.
 fn operation_of(r: StepRecord) -> Operation
@@ -40,40 +40,6 @@ pub fn opened(q: Process, r: StepRecord) -> Process
         status: Status::Busy(operation_of(r), Step::A),
         begun: q.begun + 1,
         steps: 0,
-    }
-}
-
-// The operation that a busy process is inside of. An idle one has none; no caller asks.
-pub fn operation_in(q: Process) -> Operation
-    ensures { λ r. ⌜ r ≡ operationIn (q .status) ⌝ }
-{
-    let status = q.status;
-    match status {
-        Status::Idle => Operation::Take,
-        Status::Busy(o, _) => o,
-    }
-}
-
-// The next step of a busy process. An idle one has none; no caller asks.
-pub fn step_in(q: Process) -> Step
-    ensures { λ r. ⌜ r ≡ stepIn (q .status) ⌝ }
-{
-    let status = q.status;
-    match status {
-        Status::Idle => Step::A,
-        Status::Busy(_, n) => n,
-    }
-}
-
-// A busy process q after its step, with step n next.
-pub fn moved(q: Process, n: Step) -> Process
-    requires { ⌜ q .steps < 65536 ⌝ }
-    ensures { λ r. ⌜ r ≡ movedOf q (operationIn (q .status)) n ⌝ }
-{
-    Process {
-        status: Status::Busy(operation_in(q), n),
-        begun: q.begun,
-        steps: q.steps + 1,
     }
 }
 

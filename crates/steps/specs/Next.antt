@@ -1,9 +1,13 @@
--- What the code of a named step promises: the memory that it leaves and the step that comes next are those of the rules, whatever it does not look at.
+-- What the code of a named step promises: the memory that it leaves and the step that its process comes to are those of the rules, whatever it does not look at.
 use Prim.Native.Nat.{ℕ, _+_, _*_}
 use mathlib.Core.Path.{_≡_}
 use mathlib.Core.List.{List}
 use Rattle.tree.specs.Shape.{Shape}
 use Rattle.steps.specs.declared.Operation.{Operation}
+use Rattle.steps.specs.declared.Operation.the-variants.{Take}
+use Rattle.steps.specs.declared.Process.{Process}
+use Rattle.steps.specs.declared.Status.{Status}
+use Rattle.steps.specs.declared.Status.the-variants.{Idle, Busy}
 use Rattle.steps.specs.declared.Step.{Step}
 use Rattle.steps.specs.declared.Step.the-variants.{A, V1, V2, V3, R1, R2, R3, R4, R5, C1, C2, C3, C4, Q}
 use Rattle.steps.specs.Rules.{step, go}
@@ -26,12 +30,31 @@ Placed s starts (C3 w l r) = Begins s starts (w .node) × Begins s starts (2 * w
 Placed s starts (C4 w n) = Begins s starts (w .node)
 Placed s starts Q = Unit {0}
 
--- step n, which looks at these heads alone, leaves heads' and comes to r
-abbrev pub NextByHeads : List ℕ → List ℕ → Step → Step → Type 0
-NextByHeads heads heads' n r = (s : Shape) (k : ℕ) (o : Operation) (table : List ℕ)
-    → step s k o (record { table = table; heads = heads }) n ≡ go s k o (record { table = table; heads = heads }) (record { table = table; heads = heads' }) r
+-- the operation that a busy process is inside of, and its next step; nothing is said of an idle one
+abbrev pub operationIn : Status → Operation
+operationIn Idle = Take
+operationIn (Busy o n) = o
 
--- step n, which looks at this table alone, by the starts of its parts, leaves table' and comes to r
-abbrev pub NextByTable : List ℕ → List ℕ → List ℕ → Step → Step → Type 0
-NextByTable starts table table' n r = (s : Shape) (k : ℕ) (o : Operation) (heads : List ℕ) → Placed s starts n
-    → step s k o (record { table = table; heads = heads }) n ≡ go s k o (record { table = table; heads = heads }) (record { table = table'; heads = heads }) r
+abbrev pub stepIn : Status → Step
+stepIn Idle = A
+stepIn (Busy o n) = n
+
+-- a process after a step of operation o, with step n next
+abbrev pub moved : Process → Operation → Step → Process
+moved q o n = record { status = Busy o n; begun = q .begun; steps = q .steps + 1 }
+
+-- process q has become r by a step: it is inside of the same operation, with one own step more
+abbrev pub Moves : Process → Process → Type 0
+Moves q r = r ≡ moved q (operationIn (q .status)) (stepIn (r .status))
+
+-- q becomes r by a step that looks at these heads alone and leaves heads'
+abbrev pub NextByHeads : List ℕ → List ℕ → Process → Process → Type 0
+NextByHeads heads heads' q r = Moves q r × ((s : Shape) (k : ℕ) (o : Operation) (table : List ℕ)
+    → step s k o (record { table = table; heads = heads }) (stepIn (q .status))
+    ≡ go s k o (record { table = table; heads = heads }) (record { table = table; heads = heads' }) (stepIn (r .status)))
+
+-- q becomes r by a step that looks at this table alone, by the starts of its parts, and leaves table'
+abbrev pub NextByTable : List ℕ → List ℕ → List ℕ → Process → Process → Type 0
+NextByTable starts table table' q r = Moves q r × ((s : Shape) (k : ℕ) (o : Operation) (heads : List ℕ) → Placed s starts (stepIn (q .status))
+    → step s k o (record { table = table; heads = heads }) (stepIn (q .status))
+    ≡ go s k o (record { table = table; heads = heads }) (record { table = table'; heads = heads }) (stepIn (r .status)))

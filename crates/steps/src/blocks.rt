@@ -1,7 +1,7 @@
 // The named steps that read or write blocks. Where no head is read, they hold whatever the heads are.
 use crate::After;
 use crate::Built;
-use crate::Operation;
+use crate::Process;
 use crate::Step;
 use crate::Visit;
 use crate::build::block_of;
@@ -18,14 +18,17 @@ use crate::order::above;
 use crate::order::advance;
 use crate::order::after_refresh;
 use crate::order::resume;
+use crate::turn::moved;
+use crate::turn::operation_in;
+use crate::turn::step_in;
 use tree::Block;
 ghost use mathlib.Core.Path.{_≡_};
-ghost use Prim.Native.Nat.{ℕ, _+_, _*_};
+ghost use Prim.Native.Nat.{ℕ, _+_, _*_, _<_};
 ghost use Rattle.base.specs.Choice.{if_then_else_};
 ghost use Rattle.tree.specs.Shape.{Shape, leafOf};
 ghost use Rattle.tree.specs.Memory.{Memory};
 ghost use Rattle.steps.specs.Rules.{above as aboveOf, resume as resumeOf, advance as advanceOf, sameTotals, step, go};
-ghost use Rattle.steps.specs.Next.{NextByTable};
+ghost use Rattle.steps.specs.Next.{operationIn, stepIn, Moves, NextByTable};
 ghost use Rattle.steps.specs.Ready.{Begins, HasPart, HasPlace, Adds, Builds};
 
 // A: the operation's block at the head of its own leaf, where no other process writes.
@@ -34,29 +37,33 @@ pub fn step_a(
     table: &mut [u32],
     starts: &[usize; 17],
     leaf: u32,
-    o: Operation,
-) -> Step
+    q: Process,
+) -> Process
+    requires { ⌜ q .steps < 65536 ⌝ }
     requires { ⌜ Adds (now starts) (now heads) (now table) leaf ⌝ }
-    ensures { λ r. ⌜ ((s : Shape) (k : ℕ) → leaf ≡ leafOf s k → Begins s (now (starts .entry)) leaf →
+    ensures { λ r. ⌜ Moves q r × ((s : Shape) (k : ℕ) → leaf ≡ leafOf s k → Begins s (now (starts .entry)) leaf →
         let m : Memory = record { table = now (table .entry); heads = now (heads .entry) } in
-        step s k o m Step.A ≡ go s k o m (record { table = now (table .exit); heads = now (heads .entry) }) r) ⌝ }
+        let o = operationIn (q .status) in
+        step s k o m Step.A ≡ go s k o m (record { table = now (table .exit); heads = now (heads .entry) }) (stepIn (r .status))) ⌝ }
 {
     let h = head_of(heads, leaf);
     let old = block_at(table, starts, leaf, h - 1);
-    write_at(table, starts, leaf, h, plus_operation(o, old));
+    let new = plus_operation(operation_in(q), old);
+    write_at(table, starts, leaf, h, new);
     let w = Visit {
         node: leaf,
         head: h,
         second: false,
     };
-    advance(w, After::Up, leaf, h)
+    moved(q, advance(w, After::Up, leaf, h))
 }
 
 // V2: v's block gets its superblock, if it has none yet: the parent's head as V1 read it.
-pub fn step_v2(table: &mut [u32], starts: &[usize; 17], n: Step) -> Step
-    requires { ⌜ ((a : After) (w : Visit) (v h x : ℕ) → n ≡ Step.V2 a w v h x → HasPlace (now starts) (now table) v h) ⌝ }
-    ensures { λ r. ⌜ ((a : After) (w : Visit) (v h x : ℕ) → n ≡ Step.V2 a w v h x →
-        NextByTable (now (starts .entry)) (now (table .entry)) (now (table .exit)) n r) ⌝ }
+pub fn step_v2(table: &mut [u32], starts: &[usize; 17], q: Process) -> Process
+    requires { ⌜ q .steps < 65536 ⌝ }
+    requires { ⌜ ((a : After) (w : Visit) (v h x : ℕ) → stepIn (q .status) ≡ Step.V2 a w v h x → HasPlace (now starts) (now table) v h) ⌝ }
+    ensures { λ r. ⌜ ((a : After) (w : Visit) (v h x : ℕ) → stepIn (q .status) ≡ Step.V2 a w v h x →
+        NextByTable (now (starts .entry)) (now (table .entry)) (now (table .exit)) q r) ⌝ }
 {
     let Step::V2 {
         after,
@@ -64,21 +71,24 @@ pub fn step_v2(table: &mut [u32], starts: &[usize; 17], n: Step) -> Step
         node,
         place,
         above,
-    } = n
+    } = step_in(q)
     else {
-        return n;
+        return q;
     };
     set_super_at(table, starts, node, place, above);
-    Step::V3 {
-        after: after,
-        visit: Visit {
-            node: visit.node,
-            head: visit.head,
-            second: visit.second,
+    moved(
+        q,
+        Step::V3 {
+            after: after,
+            visit: Visit {
+                node: visit.node,
+                head: visit.head,
+                second: visit.second,
+            },
+            node: node,
+            place: place,
         },
-        node: node,
-        place: place,
-    }
+    )
 }
 
 // A block that is present at the child's head is advanced before the visit goes on, so that no refresh leaves it behind.
@@ -92,40 +102,48 @@ fn help(missing: bool, w: Visit, a: After, child: u32, c: u32) -> Step
 }
 
 // R3: the left child's block at the head that was read is looked at.
-pub fn step_r3(table: &[u32], starts: &[usize; 17], n: Step) -> Step
-    requires { ⌜ ((w : Visit) (c : ℕ) → n ≡ Step.R3 w c → HasPart (now starts) (now table) (2 * w .node)) ⌝ }
-    ensures { λ r. ⌜ ((w : Visit) (c : ℕ) → n ≡ Step.R3 w c →
-        NextByTable (now (starts .entry)) (now (table .entry)) (now (table .entry)) n r) ⌝ }
+pub fn step_r3(table: &[u32], starts: &[usize; 17], q: Process) -> Process
+    requires { ⌜ q .steps < 65536 ⌝ }
+    requires { ⌜ ((w : Visit) (c : ℕ) → stepIn (q .status) ≡ Step.R3 w c → HasPart (now starts) (now table) (2 * w .node)) ⌝ }
+    ensures { λ r. ⌜ ((w : Visit) (c : ℕ) → stepIn (q .status) ≡ Step.R3 w c →
+        NextByTable (now (starts .entry)) (now (table .entry)) (now (table .entry)) q r) ⌝ }
 {
-    let Step::R3 { visit, child } = n else {
-        return n;
+    let Step::R3 { visit, child } = step_in(q) else {
+        return q;
     };
     let v = 2 * visit.node;
-    help(
-        absent_at(table, starts, v, child),
-        visit,
-        After::Right,
-        v,
-        child,
+    moved(
+        q,
+        help(
+            absent_at(table, starts, v, child),
+            visit,
+            After::Right,
+            v,
+            child,
+        ),
     )
 }
 
 // R5: the same of the right child.
-pub fn step_r5(table: &[u32], starts: &[usize; 17], n: Step) -> Step
-    requires { ⌜ ((w : Visit) (c : ℕ) → n ≡ Step.R5 w c → HasPart (now starts) (now table) (2 * w .node + 1)) ⌝ }
-    ensures { λ r. ⌜ ((w : Visit) (c : ℕ) → n ≡ Step.R5 w c →
-        NextByTable (now (starts .entry)) (now (table .entry)) (now (table .entry)) n r) ⌝ }
+pub fn step_r5(table: &[u32], starts: &[usize; 17], q: Process) -> Process
+    requires { ⌜ q .steps < 65536 ⌝ }
+    requires { ⌜ ((w : Visit) (c : ℕ) → stepIn (q .status) ≡ Step.R5 w c → HasPart (now starts) (now table) (2 * w .node + 1)) ⌝ }
+    ensures { λ r. ⌜ ((w : Visit) (c : ℕ) → stepIn (q .status) ≡ Step.R5 w c →
+        NextByTable (now (starts .entry)) (now (table .entry)) (now (table .entry)) q r) ⌝ }
 {
-    let Step::R5 { visit, child } = n else {
-        return n;
+    let Step::R5 { visit, child } = step_in(q) else {
+        return q;
     };
     let v = 2 * visit.node + 1;
-    help(
-        absent_at(table, starts, v, child),
-        visit,
-        After::Ends,
-        v,
-        child,
+    moved(
+        q,
+        help(
+            absent_at(table, starts, v, child),
+            visit,
+            After::Ends,
+            v,
+            child,
+        ),
     )
 }
 
@@ -140,31 +158,36 @@ fn settle(w: Visit, n: Built, old: Block) -> Step
 }
 
 // C3: the block is made of the children's blocks at the ends that C1 and C2 found.
-pub fn step_c3(table: &[u32], starts: &[usize; 17], n: Step) -> Step
-    requires { ⌜ ((w : Visit) (l r : ℕ) → n ≡ Step.C3 w l r → Builds (now starts) (now table) w l r) ⌝ }
-    ensures { λ z. ⌜ ((w : Visit) (l r : ℕ) → n ≡ Step.C3 w l r →
-        NextByTable (now (starts .entry)) (now (table .entry)) (now (table .entry)) n z) ⌝ }
+pub fn step_c3(table: &[u32], starts: &[usize; 17], q: Process) -> Process
+    requires { ⌜ q .steps < 65536 ⌝ }
+    requires { ⌜ ((w : Visit) (l r : ℕ) → stepIn (q .status) ≡ Step.C3 w l r → Builds (now starts) (now table) w l r) ⌝ }
+    ensures { λ z. ⌜ ((w : Visit) (l r : ℕ) → stepIn (q .status) ≡ Step.C3 w l r →
+        NextByTable (now (starts .entry)) (now (table .entry)) (now (table .entry)) q z) ⌝ }
 {
-    let Step::C3 { visit, left, right } = n else {
-        return n;
+    let Step::C3 { visit, left, right } = step_in(q) else {
+        return q;
     };
     let v = visit.node;
     let old = block_at(table, starts, v, visit.head - 1);
     let x = block_at(table, starts, 2 * v, left);
     let y = block_at(table, starts, 2 * v + 1, right);
-    settle(visit, joined(v, old, x, y, left, right), old)
+    moved(q, settle(visit, joined(v, old, x, y, left, right), old))
 }
 
 // C4: the block is written if its place is still empty. The refresh has then succeeded.
-pub fn step_c4(table: &mut [u32], starts: &[usize; 17], n: Step) -> Step
-    requires { ⌜ ((w : Visit) (b : Built) → n ≡ Step.C4 w b → HasPlace (now starts) (now table) (w .node) (w .head)) ⌝ }
-    ensures { λ r. ⌜ ((w : Visit) (b : Built) → n ≡ Step.C4 w b →
-        NextByTable (now (starts .entry)) (now (table .entry)) (now (table .exit)) n r) ⌝ }
+pub fn step_c4(table: &mut [u32], starts: &[usize; 17], q: Process) -> Process
+    requires { ⌜ q .steps < 65536 ⌝ }
+    requires { ⌜ ((w : Visit) (b : Built) → stepIn (q .status) ≡ Step.C4 w b → HasPlace (now starts) (now table) (w .node) (w .head)) ⌝ }
+    ensures { λ r. ⌜ ((w : Visit) (b : Built) → stepIn (q .status) ≡ Step.C4 w b →
+        NextByTable (now (starts .entry)) (now (table .entry)) (now (table .exit)) q r) ⌝ }
 {
-    let Step::C4 { visit, built } = n else {
-        return n;
+    let Step::C4 { visit, built } = step_in(q) else {
+        return q;
     };
     let v = visit.node;
     let success = write_if_absent(table, starts, v, visit.head, block_of(built));
-    advance(visit, after_refresh(visit.second, success), v, visit.head)
+    moved(
+        q,
+        advance(visit, after_refresh(visit.second, success), v, visit.head),
+    )
 }

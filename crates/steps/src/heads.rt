@@ -1,15 +1,18 @@
 // The heads of the nodes: read, and raised. A step that looks at heads alone goes on alike whatever the table is.
 use crate::After;
+use crate::Process;
 use crate::Step;
 use crate::Visit;
 use crate::order::resume;
+use crate::turn::moved;
+use crate::turn::step_in;
 ghost use mathlib.Core.Path.{_≡_};
 ghost use mathlib.Core.Bool.{Bool};
 ghost use mathlib.Core.List.{[]};
 ghost use Prim.Native.Nat.{ℕ, _+_, _*_, _/_, _≤_, _<_};
 ghost use lib.ListN.{length, getD};
 ghost use Rattle.tree.specs.Memory.{raise as raiseOf};
-ghost use Rattle.steps.specs.Next.{NextByHeads};
+ghost use Rattle.steps.specs.Next.{stepIn, NextByHeads};
 ghost use Rattle.steps.specs.Ready.{Children};
 
 // A register as an index. Every index goes through here, so that no other place has a cast to prove.
@@ -38,128 +41,153 @@ pub fn raise(heads: &mut [u32], v: u32, h: u32)
 }
 
 // V1: the parent's head is what v's block is to remember as its superblock.
-pub fn step_v1(heads: &[u32], n: Step) -> Step
-    requires { ⌜ ((a : After) (w : Visit) (v h : ℕ) → n ≡ Step.V1 a w v h → v / 2 < length (now heads)) ⌝ }
-    ensures { λ r. ⌜ ((a : After) (w : Visit) (v h : ℕ) → n ≡ Step.V1 a w v h →
-        NextByHeads (now (heads .entry)) (now (heads .entry)) n r) ⌝ }
+pub fn step_v1(heads: &[u32], q: Process) -> Process
+    requires { ⌜ q .steps < 65536 ⌝ }
+    requires { ⌜ ((a : After) (w : Visit) (v h : ℕ) → stepIn (q .status) ≡ Step.V1 a w v h → v / 2 < length (now heads)) ⌝ }
+    ensures { λ r. ⌜ ((a : After) (w : Visit) (v h : ℕ) → stepIn (q .status) ≡ Step.V1 a w v h →
+        NextByHeads (now (heads .entry)) (now (heads .entry)) q r) ⌝ }
 {
     let Step::V1 {
         after,
         visit,
         node,
         place,
-    } = n
+    } = step_in(q)
     else {
-        return n;
+        return q;
     };
     // Copied field by field, as in V2: a copy of the whole visit is one wide read, which has to wait for the narrow writes before it.
-    Step::V2 {
-        after: after,
-        visit: Visit {
-            node: visit.node,
-            head: visit.head,
-            second: visit.second,
+    moved(
+        q,
+        Step::V2 {
+            after: after,
+            visit: Visit {
+                node: visit.node,
+                head: visit.head,
+                second: visit.second,
+            },
+            node: node,
+            place: place,
+            above: head_of(heads, node / 2),
         },
-        node: node,
-        place: place,
-        above: head_of(heads, node / 2),
-    }
+    )
 }
 
 // V3: the head of v is raised past the block at h, and what was put off goes on.
-pub fn step_v3(heads: &mut [u32], n: Step) -> Step
-    requires { ⌜ ((a : After) (w : Visit) (v h : ℕ) → n ≡ Step.V3 a w v h → (v < length (now heads)) × (h < 65536)) ⌝ }
-    ensures { λ r. ⌜ ((a : After) (w : Visit) (v h : ℕ) → n ≡ Step.V3 a w v h →
-        NextByHeads (now (heads .entry)) (now (heads .exit)) n r) ⌝ }
+pub fn step_v3(heads: &mut [u32], q: Process) -> Process
+    requires { ⌜ q .steps < 65536 ⌝ }
+    requires { ⌜ ((a : After) (w : Visit) (v h : ℕ) → stepIn (q .status) ≡ Step.V3 a w v h → (v < length (now heads)) × (h < 65536)) ⌝ }
+    ensures { λ r. ⌜ ((a : After) (w : Visit) (v h : ℕ) → stepIn (q .status) ≡ Step.V3 a w v h →
+        NextByHeads (now (heads .entry)) (now (heads .exit)) q r) ⌝ }
 {
     let Step::V3 {
         after,
         visit,
         node,
         place,
-    } = n
+    } = step_in(q)
     else {
-        return n;
+        return q;
     };
     raise(heads, node, place);
-    resume(after, visit)
+    moved(q, resume(after, visit))
 }
 
 // R1: the head of v is the place at which this refresh is to write.
-pub fn step_r1(heads: &[u32], n: Step) -> Step
-    requires { ⌜ ((b : Bool) (v : ℕ) → n ≡ Step.R1 b v → v < length (now heads)) ⌝ }
-    ensures { λ r. ⌜ ((b : Bool) (v : ℕ) → n ≡ Step.R1 b v →
-        NextByHeads (now (heads .entry)) (now (heads .entry)) n r) ⌝ }
+pub fn step_r1(heads: &[u32], q: Process) -> Process
+    requires { ⌜ q .steps < 65536 ⌝ }
+    requires { ⌜ ((b : Bool) (v : ℕ) → stepIn (q .status) ≡ Step.R1 b v → v < length (now heads)) ⌝ }
+    ensures { λ r. ⌜ ((b : Bool) (v : ℕ) → stepIn (q .status) ≡ Step.R1 b v →
+        NextByHeads (now (heads .entry)) (now (heads .entry)) q r) ⌝ }
 {
-    let Step::R1 { second, node } = n else {
-        return n;
+    let Step::R1 { second, node } = step_in(q) else {
+        return q;
     };
-    Step::R2 {
-        visit: Visit {
-            node: node,
-            head: head_of(heads, node),
-            second: second,
+    moved(
+        q,
+        Step::R2 {
+            visit: Visit {
+                node: node,
+                head: head_of(heads, node),
+                second: second,
+            },
         },
-    }
+    )
 }
 
 // R2: the left child's head, where a block may stand that its writer has not advanced yet.
-pub fn step_r2(heads: &[u32], n: Step) -> Step
-    requires { ⌜ ((w : Visit) → n ≡ Step.R2 w → Children (now heads) w) ⌝ }
-    ensures { λ r. ⌜ ((w : Visit) → n ≡ Step.R2 w →
-        NextByHeads (now (heads .entry)) (now (heads .entry)) n r) ⌝ }
+pub fn step_r2(heads: &[u32], q: Process) -> Process
+    requires { ⌜ q .steps < 65536 ⌝ }
+    requires { ⌜ ((w : Visit) → stepIn (q .status) ≡ Step.R2 w → Children (now heads) w) ⌝ }
+    ensures { λ r. ⌜ ((w : Visit) → stepIn (q .status) ≡ Step.R2 w →
+        NextByHeads (now (heads .entry)) (now (heads .entry)) q r) ⌝ }
 {
-    let Step::R2 { visit } = n else {
-        return n;
+    let Step::R2 { visit } = step_in(q) else {
+        return q;
     };
-    Step::R3 {
-        visit: visit,
-        child: head_of(heads, 2 * visit.node),
-    }
+    moved(
+        q,
+        Step::R3 {
+            visit: visit,
+            child: head_of(heads, 2 * visit.node),
+        },
+    )
 }
 
 // R4: the same of the right child.
-pub fn step_r4(heads: &[u32], n: Step) -> Step
-    requires { ⌜ ((w : Visit) → n ≡ Step.R4 w → Children (now heads) w) ⌝ }
-    ensures { λ r. ⌜ ((w : Visit) → n ≡ Step.R4 w →
-        NextByHeads (now (heads .entry)) (now (heads .entry)) n r) ⌝ }
+pub fn step_r4(heads: &[u32], q: Process) -> Process
+    requires { ⌜ q .steps < 65536 ⌝ }
+    requires { ⌜ ((w : Visit) → stepIn (q .status) ≡ Step.R4 w → Children (now heads) w) ⌝ }
+    ensures { λ r. ⌜ ((w : Visit) → stepIn (q .status) ≡ Step.R4 w →
+        NextByHeads (now (heads .entry)) (now (heads .entry)) q r) ⌝ }
 {
-    let Step::R4 { visit } = n else {
-        return n;
+    let Step::R4 { visit } = step_in(q) else {
+        return q;
     };
-    Step::R5 {
-        visit: visit,
-        child: head_of(heads, 2 * visit.node + 1),
-    }
+    moved(
+        q,
+        Step::R5 {
+            visit: visit,
+            child: head_of(heads, 2 * visit.node + 1),
+        },
+    )
 }
 
 // C1: the left end is the last block below the left child's head, which is at least 1.
-pub fn step_c1(heads: &[u32], n: Step) -> Step
-    requires { ⌜ ((w : Visit) → n ≡ Step.C1 w → Children (now heads) w × (1 ≤ getD (now heads) (2 * w .node) 1)) ⌝ }
-    ensures { λ r. ⌜ ((w : Visit) → n ≡ Step.C1 w →
-        NextByHeads (now (heads .entry)) (now (heads .entry)) n r) ⌝ }
+pub fn step_c1(heads: &[u32], q: Process) -> Process
+    requires { ⌜ q .steps < 65536 ⌝ }
+    requires { ⌜ ((w : Visit) → stepIn (q .status) ≡ Step.C1 w → Children (now heads) w × (1 ≤ getD (now heads) (2 * w .node) 1)) ⌝ }
+    ensures { λ r. ⌜ ((w : Visit) → stepIn (q .status) ≡ Step.C1 w →
+        NextByHeads (now (heads .entry)) (now (heads .entry)) q r) ⌝ }
 {
-    let Step::C1 { visit } = n else {
-        return n;
+    let Step::C1 { visit } = step_in(q) else {
+        return q;
     };
-    Step::C2 {
-        visit: visit,
-        left: head_of(heads, 2 * visit.node) - 1,
-    }
+    moved(
+        q,
+        Step::C2 {
+            visit: visit,
+            left: head_of(heads, 2 * visit.node) - 1,
+        },
+    )
 }
 
 // C2: the same of the right child.
-pub fn step_c2(heads: &[u32], n: Step) -> Step
-    requires { ⌜ ((w : Visit) (l : ℕ) → n ≡ Step.C2 w l → Children (now heads) w × (1 ≤ getD (now heads) (2 * w .node + 1) 1)) ⌝ }
-    ensures { λ r. ⌜ ((w : Visit) (l : ℕ) → n ≡ Step.C2 w l →
-        NextByHeads (now (heads .entry)) (now (heads .entry)) n r) ⌝ }
+pub fn step_c2(heads: &[u32], q: Process) -> Process
+    requires { ⌜ q .steps < 65536 ⌝ }
+    requires { ⌜ ((w : Visit) (l : ℕ) → stepIn (q .status) ≡ Step.C2 w l → Children (now heads) w × (1 ≤ getD (now heads) (2 * w .node + 1) 1)) ⌝ }
+    ensures { λ r. ⌜ ((w : Visit) (l : ℕ) → stepIn (q .status) ≡ Step.C2 w l →
+        NextByHeads (now (heads .entry)) (now (heads .entry)) q r) ⌝ }
 {
-    let Step::C2 { visit, left } = n else {
-        return n;
+    let Step::C2 { visit, left } = step_in(q) else {
+        return q;
     };
-    Step::C3 {
-        visit: visit,
-        left: left,
-        right: head_of(heads, 2 * visit.node + 1) - 1,
-    }
+    moved(
+        q,
+        Step::C3 {
+            visit: visit,
+            left: left,
+            right: head_of(heads, 2 * visit.node + 1) - 1,
+        },
+    )
 }

@@ -4,6 +4,7 @@ pub mod build;
 pub mod heads;
 pub mod nodes;
 pub mod order;
+pub mod turn;
 
 ghost use mathlib.Core.Path.{_≡_};
 ghost use Rattle.steps.specs.Process.{idle, processesAllowed, operationsAllowed};

@@ -36,7 +36,7 @@ ready-q c κs =
     let b = c .before .before .before .before .before .before .before in
     let f = found b in
     let busy = b .before .status .given .1 in
-    (step-playing f, step-busy f busy (c .operation-in2 .ensures) (step-named f busy (c .before .before .before .before .before .enum-told15 .given .1)))
+    (step-playing f, step-busy f busy (c .operation-in .ensures) (step-named f busy (c .before .before .before .before .before .enum-told15 .given .1)))
 
 again-q : tie.Need-loop-again-14 Inv-loop μ-loop
 unfolding idle
@@ -48,7 +48,7 @@ again-q c =
     let f = found b in
     let busy = b .before .status .given .1 in
     rw (c .rested .ensures)
-    (finish-moves f (step-busy f busy (a .before .operation-in2 .ensures) (step-named f busy (e .before .enum-told15 .given .1))) (e .if3 .left) _ _ _ (w .write-answer .kept .0)
+    (finish-moves f (step-busy f busy (a .before .operation-in .ensures) (step-named f busy (e .before .enum-told15 .given .1))) (e .if3 .left) _ _ _ (w .write-answer .kept .0)
     (a .answer-of .ensures .0) (w .before .before .equal-after .ensures) (w .write-answer .ensures))
 
 refused-ill : tie.Need-returns-3 Inv-loop μ-loop
@@ -113,156 +113,130 @@ play-spec =
     (λ c. record { fits = omega (arith, step-low (found (c .before .before))) })
     (λ c. step-low (found (c .before .before)))
     (λ c. record { fits = omega (arith, step-low (found (c .before .before .before .before .before)), found (c .before .before .before .before .before) .low, loop-narrow (found (c .before .before .before .before .before) .inv)) })
-    (λ c κs. search needs)
     arms.ready-a
-    (λ c κs. few-steps (c .before .before .before .before .before .before .before .before .before))
-    (λ c. record { fits = omega (arith, step-low (found (c .before .before .before .before .before .before .before .before .before .before))) })
-    (λ c. step-low (found (c .before .before .before .before .before .before .before .before .before .before)))
-    (λ c. record { fits = few (c .before .before .before .before .before .before .before .before .before .before .before .before .before .before .before .before .before .before .before) })
+    (λ c. record { fits = omega (arith, step-low (found (c .before .before .before .before .before .before .before .before))) })
+    (λ c. step-low (found (c .before .before .before .before .before .before .before .before)))
+    (λ c. record { fits = few (c .before .before .before .before .before .before .before .before .before .before .before .before .before .before .before .before .before) })
     (λ c. search needs)
     arms.again-a
     -- V1
     (λ c. search needs)
     (λ c. record { fits = omega (arith, step-low (found (c .before .before))) })
     (λ c. step-low (found (c .before .before)))
-    (λ c κs. search needs)
     arms.ready-v1
-    (λ c κs. few-steps (c .before .before .before .before .before .before))
-    (λ c. record { fits = omega (arith, step-low (found (c .before .before .before .before .before .before .before))) })
-    (λ c. step-low (found (c .before .before .before .before .before .before .before)))
-    (λ c. record { fits = few (c .before .before .before .before .before .before .before .before .before .before .before .before .before .before .before .before) })
+    (λ c. record { fits = omega (arith, step-low (found (c .before .before .before .before .before))) })
+    (λ c. step-low (found (c .before .before .before .before .before)))
+    (λ c. record { fits = few (c .before .before .before .before .before .before .before .before .before .before .before .before .before .before) })
     (λ c. search needs)
     arms.again-v1
     -- V2
     (λ c. search needs)
     (λ c. record { fits = omega (arith, step-low (found (c .before .before))) })
     (λ c. step-low (found (c .before .before)))
-    (λ c κs. search needs)
     arms.ready-v2
-    (λ c κs. few-steps (c .before .before .before .before .before .before .before .before))
-    (λ c. record { fits = omega (arith, step-low (found (c .before .before .before .before .before .before .before .before .before))) })
-    (λ c. step-low (found (c .before .before .before .before .before .before .before .before .before)))
-    (λ c. record { fits = few (c .before .before .before .before .before .before .before .before .before .before .before .before .before .before .before .before .before .before) })
+    (λ c. record { fits = omega (arith, step-low (found (c .before .before .before .before .before .before .before))) })
+    (λ c. step-low (found (c .before .before .before .before .before .before .before)))
+    (λ c. record { fits = few (c .before .before .before .before .before .before .before .before .before .before .before .before .before .before .before .before) })
     (λ c. search needs)
     arms.again-v2
     -- V3
     (λ c. search needs)
     (λ c. record { fits = omega (arith, step-low (found (c .before .before))) })
     (λ c. step-low (found (c .before .before)))
-    (λ c κs. search needs)
     arms.ready-v3
-    (λ c κs. few-steps (c .before .before .before .before .before .before .before .before))
-    (λ c. record { fits = omega (arith, step-low (found (c .before .before .before .before .before .before .before .before .before))) })
-    (λ c. step-low (found (c .before .before .before .before .before .before .before .before .before)))
-    (λ c. record { fits = few (c .before .before .before .before .before .before .before .before .before .before .before .before .before .before .before .before .before .before) })
+    (λ c. record { fits = omega (arith, step-low (found (c .before .before .before .before .before .before .before))) })
+    (λ c. step-low (found (c .before .before .before .before .before .before .before)))
+    (λ c. record { fits = few (c .before .before .before .before .before .before .before .before .before .before .before .before .before .before .before .before) })
     (λ c. search needs)
     arms.again-v3
     -- R1
     (λ c. search needs)
     (λ c. record { fits = omega (arith, step-low (found (c .before .before))) })
     (λ c. step-low (found (c .before .before)))
-    (λ c κs. search needs)
     arms.ready-r1
-    (λ c κs. few-steps (c .before .before .before .before .before .before))
-    (λ c. record { fits = omega (arith, step-low (found (c .before .before .before .before .before .before .before))) })
-    (λ c. step-low (found (c .before .before .before .before .before .before .before)))
-    (λ c. record { fits = few (c .before .before .before .before .before .before .before .before .before .before .before .before .before .before .before .before) })
+    (λ c. record { fits = omega (arith, step-low (found (c .before .before .before .before .before))) })
+    (λ c. step-low (found (c .before .before .before .before .before)))
+    (λ c. record { fits = few (c .before .before .before .before .before .before .before .before .before .before .before .before .before .before) })
     (λ c. search needs)
     arms.again-r1
     -- R2
     (λ c. search needs)
     (λ c. record { fits = omega (arith, step-low (found (c .before .before))) })
     (λ c. step-low (found (c .before .before)))
-    (λ c κs. search needs)
     arms.ready-r2
-    (λ c κs. few-steps (c .before .before .before .before .before .before))
-    (λ c. record { fits = omega (arith, step-low (found (c .before .before .before .before .before .before .before))) })
-    (λ c. step-low (found (c .before .before .before .before .before .before .before)))
-    (λ c. record { fits = few (c .before .before .before .before .before .before .before .before .before .before .before .before .before .before .before .before) })
+    (λ c. record { fits = omega (arith, step-low (found (c .before .before .before .before .before))) })
+    (λ c. step-low (found (c .before .before .before .before .before)))
+    (λ c. record { fits = few (c .before .before .before .before .before .before .before .before .before .before .before .before .before .before) })
     (λ c. search needs)
     arms.again-r2
     -- R3
     (λ c. search needs)
     (λ c. record { fits = omega (arith, step-low (found (c .before .before))) })
     (λ c. step-low (found (c .before .before)))
-    (λ c κs. search needs)
     arms.ready-r3
-    (λ c κs. few-steps (c .before .before .before .before .before .before))
-    (λ c. record { fits = omega (arith, step-low (found (c .before .before .before .before .before .before .before))) })
-    (λ c. step-low (found (c .before .before .before .before .before .before .before)))
-    (λ c. record { fits = few (c .before .before .before .before .before .before .before .before .before .before .before .before .before .before .before .before) })
+    (λ c. record { fits = omega (arith, step-low (found (c .before .before .before .before .before))) })
+    (λ c. step-low (found (c .before .before .before .before .before)))
+    (λ c. record { fits = few (c .before .before .before .before .before .before .before .before .before .before .before .before .before .before) })
     (λ c. search needs)
     arms.again-r3
     -- R4
     (λ c. search needs)
     (λ c. record { fits = omega (arith, step-low (found (c .before .before))) })
     (λ c. step-low (found (c .before .before)))
-    (λ c κs. search needs)
     arms.ready-r4
-    (λ c κs. few-steps (c .before .before .before .before .before .before))
-    (λ c. record { fits = omega (arith, step-low (found (c .before .before .before .before .before .before .before))) })
-    (λ c. step-low (found (c .before .before .before .before .before .before .before)))
-    (λ c. record { fits = few (c .before .before .before .before .before .before .before .before .before .before .before .before .before .before .before .before) })
+    (λ c. record { fits = omega (arith, step-low (found (c .before .before .before .before .before))) })
+    (λ c. step-low (found (c .before .before .before .before .before)))
+    (λ c. record { fits = few (c .before .before .before .before .before .before .before .before .before .before .before .before .before .before) })
     (λ c. search needs)
     arms.again-r4
     -- R5
     (λ c. search needs)
     (λ c. record { fits = omega (arith, step-low (found (c .before .before))) })
     (λ c. step-low (found (c .before .before)))
-    (λ c κs. search needs)
     arms.ready-r5
-    (λ c κs. few-steps (c .before .before .before .before .before .before))
-    (λ c. record { fits = omega (arith, step-low (found (c .before .before .before .before .before .before .before))) })
-    (λ c. step-low (found (c .before .before .before .before .before .before .before)))
-    (λ c. record { fits = few (c .before .before .before .before .before .before .before .before .before .before .before .before .before .before .before .before) })
+    (λ c. record { fits = omega (arith, step-low (found (c .before .before .before .before .before))) })
+    (λ c. step-low (found (c .before .before .before .before .before)))
+    (λ c. record { fits = few (c .before .before .before .before .before .before .before .before .before .before .before .before .before .before) })
     (λ c. search needs)
     arms.again-r5
     -- C1
     (λ c. search needs)
     (λ c. record { fits = omega (arith, step-low (found (c .before .before))) })
     (λ c. step-low (found (c .before .before)))
-    (λ c κs. search needs)
     arms.ready-c1
-    (λ c κs. few-steps (c .before .before .before .before .before .before))
-    (λ c. record { fits = omega (arith, step-low (found (c .before .before .before .before .before .before .before))) })
-    (λ c. step-low (found (c .before .before .before .before .before .before .before)))
-    (λ c. record { fits = few (c .before .before .before .before .before .before .before .before .before .before .before .before .before .before .before .before) })
+    (λ c. record { fits = omega (arith, step-low (found (c .before .before .before .before .before))) })
+    (λ c. step-low (found (c .before .before .before .before .before)))
+    (λ c. record { fits = few (c .before .before .before .before .before .before .before .before .before .before .before .before .before .before) })
     (λ c. search needs)
     arms.again-c1
     -- C2
     (λ c. search needs)
     (λ c. record { fits = omega (arith, step-low (found (c .before .before))) })
     (λ c. step-low (found (c .before .before)))
-    (λ c κs. search needs)
     arms.ready-c2
-    (λ c κs. few-steps (c .before .before .before .before .before .before))
-    (λ c. record { fits = omega (arith, step-low (found (c .before .before .before .before .before .before .before))) })
-    (λ c. step-low (found (c .before .before .before .before .before .before .before)))
-    (λ c. record { fits = few (c .before .before .before .before .before .before .before .before .before .before .before .before .before .before .before .before) })
+    (λ c. record { fits = omega (arith, step-low (found (c .before .before .before .before .before))) })
+    (λ c. step-low (found (c .before .before .before .before .before)))
+    (λ c. record { fits = few (c .before .before .before .before .before .before .before .before .before .before .before .before .before .before) })
     (λ c. search needs)
     arms.again-c2
     -- C3
     (λ c. search needs)
     (λ c. record { fits = omega (arith, step-low (found (c .before .before))) })
     (λ c. step-low (found (c .before .before)))
-    (λ c κs. search needs)
     arms.ready-c3
-    (λ c κs. few-steps (c .before .before .before .before .before .before))
-    (λ c. record { fits = omega (arith, step-low (found (c .before .before .before .before .before .before .before))) })
-    (λ c. step-low (found (c .before .before .before .before .before .before .before)))
-    (λ c. record { fits = few (c .before .before .before .before .before .before .before .before .before .before .before .before .before .before .before .before) })
+    (λ c. record { fits = omega (arith, step-low (found (c .before .before .before .before .before))) })
+    (λ c. step-low (found (c .before .before .before .before .before)))
+    (λ c. record { fits = few (c .before .before .before .before .before .before .before .before .before .before .before .before .before .before) })
     (λ c. search needs)
     arms.again-c3
     -- C4
     (λ c. search needs)
     (λ c. record { fits = omega (arith, step-low (found (c .before .before))) })
     (λ c. step-low (found (c .before .before)))
-    (λ c κs. search needs)
     arms.ready-c4
-    (λ c κs. few-steps (c .before .before .before .before .before .before .before .before))
-    (λ c. record { fits = omega (arith, step-low (found (c .before .before .before .before .before .before .before .before .before))) })
-    (λ c. step-low (found (c .before .before .before .before .before .before .before .before .before)))
-    (λ c. record { fits = few (c .before .before .before .before .before .before .before .before .before .before .before .before .before .before .before .before .before .before) })
+    (λ c. record { fits = omega (arith, step-low (found (c .before .before .before .before .before .before .before))) })
+    (λ c. step-low (found (c .before .before .before .before .before .before .before)))
+    (λ c. record { fits = few (c .before .before .before .before .before .before .before .before .before .before .before .before .before .before .before .before) })
     (λ c. search needs)
     arms.again-c4
     -- Q

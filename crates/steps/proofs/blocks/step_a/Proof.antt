@@ -1,4 +1,5 @@
 -- `blocks::step_a` meets its contract. Assumes nothing.
+use mathlib.Core.Path.{refl}
 use Rattle.tree.specs.Memory.{headOf, block, write}
 use Rattle.steps.specs.Rules.{step, go}
 use Rattle.steps.proofs.NodeReads.{node-read}
@@ -15,8 +16,13 @@ sub-block-at c = search needs
 block-at-requires : tie.Need-block-at-requires
 block-at-requires c κs = search needs
 
+operation-in-requires : tie.Need-operation-in-requires
+operation-in-requires c κs = search needs
+
 plus-operation-requires : tie.Need-plus-operation-requires
-plus-operation-requires c κs = rw (c .before .block-at .ensures, c .before .before .before .head-of .ensures) (c .before .before .before .before .before .before .pre .puts, c .before .before .before .before .before .before .pre .takes)
+plus-operation-requires c κs =
+    let p = c .before .before .before .before .before .before .pre .1 in
+    rw (c .before .block-at .ensures, c .before .before .before .head-of .ensures) (p .puts, p .takes)
 
 write-at-requires : tie.Need-write-at-requires
 write-at-requires c κs = search needs
@@ -24,21 +30,29 @@ write-at-requires c κs = search needs
 advance-requires : tie.Need-advance-requires
 advance-requires c κs = search needs
 
+moved-requires : tie.Need-moved-requires
+moved-requires c κs = search needs
+
 same-length : tie.Need-same-length
 same-length c = search needs
 
 returns : tie.Need-returns
 unfolding step go headOf write block
-returns c = λ s k e n.
-    let a = c .before .before .before .before .before .before .before .before .before .before .before .args in
-    rw (
-      ← e,
-      c .advance .ensures,
-      c .before .before .before .write-at .ensures s n,
-      c .before .before .before .before .plus-operation .ensures,
-      c .before .before .before .before .before .before .block-at .ensures,
-      node-read s (a .starts .now) (a .table .now) (a .leaf) _ n,
-      c .before .before .before .before .before .before .before .before .head-of .ensures,
+returns c =
+    let a = c .before .before .before .before .before .before .before .before .before .before .before .before .before .args in
+    rw (c .moved .ensures) (
+      refl,
+      λ s k e n.
+          rw (
+            ← e,
+            c .before .advance .ensures,
+            c .before .before .before .before .write-at .ensures s n,
+            c .before .before .before .before .before .before .plus-operation .ensures,
+            c .before .before .before .before .before .before .before .operation-in .ensures,
+            c .before .before .before .before .before .before .before .before .block-at .ensures,
+            node-read s (a .starts .now) (a .table .now) (a .leaf) _ n,
+            c .before .before .before .before .before .before .before .before .before .before .head-of .ensures,
+          ),
     )
 
 pub step-a-spec : {M : Type 1} → statement M
@@ -48,8 +62,10 @@ step-a-spec =
     head-of-requires
     sub-block-at
     block-at-requires
+    operation-in-requires
     plus-operation-requires
     write-at-requires
     advance-requires
+    moved-requires
     same-length
     returns)

@@ -1,5 +1,5 @@
 -- `blocks::step_c4` meets its contract. Assumes nothing.
-use mathlib.Core.Path.{subst}
+use mathlib.Core.Path.{refl, sym, _∙_, subst}
 use Rattle.tree.specs.Memory.{block, writeIfAbsent}
 use Rattle.steps.specs.Rules.{step, go}
 use Rattle.steps.specs.Next.{Placed}
@@ -9,18 +9,21 @@ use borrow.Author.Needs.{needs}
 use Rattle.steps.proofs.blocks.step_c4.Statement.{statement}
 use Rattle.steps.proofs.blocks.step_c4.Tie as tie
 
-enum-known-n : tie.Need-enum-known-n
-enum-known-n c = search needs
+step-in-requires : tie.Need-step-in-requires
+step-in-requires c κs = search needs
+
+enum-known-visit : tie.Need-enum-known-visit
+enum-known-visit c = search needs
 
 returns : tie.Need-returns
-returns c = λ w b e s k o heads i. absurd (other (c .match .keys2) e tt)
+returns c = λ _ _ e. absurd (other (c .match .keys2) (c .before .step-in .ensures ∙ e) tt)
 
 block-of-requires : tie.Need-block-of-requires
 block-of-requires c κs = search needs
 
 write-if-absent-requires : tie.Need-write-if-absent-requires
 write-if-absent-requires c κs =
-    let p = c .before .before .before .before .before .before .pre _ _ (c .before .before .before .n .given .1) in
+    let p = c .before .before .before .before .before .before .before .pre .1 _ _ (sym (c .before .before .before .before .before .step-in .ensures) ∙ c .before .before .before .visit .given .1) in
     search needs
 
 after-refresh-requires : tie.Need-after-refresh-requires
@@ -29,35 +32,44 @@ after-refresh-requires c κs = search needs
 advance-requires : tie.Need-advance-requires
 advance-requires c κs = search needs
 
+moved-requires : tie.Need-moved-requires
+moved-requires c κs = search needs
+
 same-length : tie.Need-same-length
 same-length c = search needs
 
 returns-2 : tie.Need-returns-2
 unfolding step go writeIfAbsent block
-returns-2 c = λ w b e s k o heads i.
-    let a = c .before .before .before .before .before .before .before .before .before .before .before .args in
-    let told = c .before .before .before .before .before .before .before .before .n .given .1 in
-    let g = subst (Placed s (a .starts .now)) told i in
-    let p = c .before .before .before .before .write-if-absent .ensures in
-    rw (
-      told,
-      c .advance .ensures,
-      c .before .after-refresh .ensures,
-      p .1 s g,
-      c .before .before .before .before .before .block-of .ensures,
-      p .0,
-      node-read s (a .starts .now) (a .table .now) _ _ g,
+returns-2 c = λ _ _ _.
+    let told = sym (c .before .before .before .before .before .before .before .before .before .before .before .step-in .ensures) ∙ c .before .before .before .before .before .before .before .before .before .visit .given .1 in
+    let a = c .before .before .before .before .before .before .before .before .before .before .before .before .before .args in
+    let p = c .before .before .before .before .before .write-if-absent .ensures in
+    rw (c .moved .ensures) (
+      refl,
+      λ s k o heads i.
+          let g = subst (Placed s (a .starts .now)) told i in
+          rw (
+            told,
+            c .before .advance .ensures,
+            c .before .before .after-refresh .ensures,
+            p .1 s g,
+            c .before .before .before .before .before .before .block-of .ensures,
+            p .0,
+            node-read s (a .starts .now) (a .table .now) _ _ g,
+          ),
     )
 
 pub step-c4-spec : {M : Type 1} → statement M
 step-c4-spec =
     tie.close
     (tie.spec
-    enum-known-n
+    step-in-requires
+    enum-known-visit
     returns
     block-of-requires
     write-if-absent-requires
     after-refresh-requires
     advance-requires
+    moved-requires
     same-length
     returns-2)

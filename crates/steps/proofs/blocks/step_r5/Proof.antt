@@ -1,5 +1,5 @@
 -- `blocks::step_r5` meets its contract. Assumes nothing.
-use mathlib.Core.Path.{subst}
+use mathlib.Core.Path.{refl, sym, _∙_, subst}
 use Rattle.tree.specs.Shape.{rightOf}
 use Rattle.tree.specs.Memory.{block}
 use Rattle.steps.specs.Rules.{help, step, go}
@@ -10,46 +10,63 @@ use borrow.Author.Needs.{needs}
 use Rattle.steps.proofs.blocks.step_r5.Statement.{statement}
 use Rattle.steps.proofs.blocks.step_r5.Tie as tie
 
-enum-known-n : tie.Need-enum-known-n
-enum-known-n c = search needs
+step-in-requires : tie.Need-step-in-requires
+step-in-requires c κs = search needs
+
+enum-known-visit : tie.Need-enum-known-visit
+enum-known-visit c = search needs
 
 returns : tie.Need-returns
-returns c = λ w x e s k o heads i. absurd (other (c .match .keys2) e tt)
+returns c = λ _ _ e. absurd (other (c .match .keys2) (c .before .step-in .ensures ∙ e) tt)
 
 mul-v : tie.Need-mul-v
 mul-v c =
-    let p = c .before .before .before .before .before .pre _ _ (c .before .before .n .given .1) in
+    let p = c .before .before .before .before .before .before .pre .1 _ _ (sym (c .before .before .before .before .step-in .ensures) ∙ c .before .before .visit .given .1) in
     search needs
 
 add-v : tie.Need-add-v
 add-v c =
-    let p = c .before .before .before .before .before .pre _ _ (c .before .before .n .given .1) in
+    let p = c .before .before .before .before .before .before .pre .1 _ _ (sym (c .before .before .before .before .step-in .ensures) ∙ c .before .before .visit .given .1) in
     search needs
 
 absent-at-requires : tie.Need-absent-at-requires
 absent-at-requires c κs =
-    let p = c .before .before .before .before .before .pre _ _ (c .before .before .n .given .1) in
+    let p = c .before .before .before .before .before .before .pre .1 _ _ (sym (c .before .before .before .before .step-in .ensures) ∙ c .before .before .visit .given .1) in
     search needs
 
 help-requires : tie.Need-help-requires
 help-requires c κs = search needs
 
+moved-requires : tie.Need-moved-requires
+moved-requires c κs = search needs
+
 returns-2 : tie.Need-returns-2
 unfolding step go help block rightOf
-returns-2 c = λ w x e s k o heads i.
-    let a = c .before .before .before .before .before .before .before .args in
-    let told = c .before .before .before .before .n .given .1 in
-    let g = subst (Placed s (a .starts .now)) told i in
-    rw (told, c .help .ensures, c .before .absent-at .ensures, node-read s (a .starts .now) (a .table .now) _ _ g)
+returns-2 c = λ _ _ _.
+    let told = sym (c .before .before .before .before .before .before .before .step-in .ensures) ∙ c .before .before .before .before .before .visit .given .1 in
+    let a = c .before .before .before .before .before .before .before .before .before .args in
+    rw (c .moved .ensures) (
+      refl,
+      λ s k o heads i.
+          let g = subst (Placed s (a .starts .now)) told i in
+          rw (
+            told,
+            c .before .help .ensures,
+            c .before .before .absent-at .ensures,
+            node-read s (a .starts .now) (a .table .now) _ _ g,
+          ),
+    )
 
 pub step-r5-spec : {M : Type 1} → statement M
 step-r5-spec =
     tie.close
     (tie.spec
-    enum-known-n
+    step-in-requires
+    enum-known-visit
     returns
     mul-v
     add-v
     absent-at-requires
     help-requires
+    moved-requires
     returns-2)

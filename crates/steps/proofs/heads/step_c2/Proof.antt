@@ -1,4 +1,5 @@
 -- `heads::step_c2` meets its contract. Assumes nothing.
+use mathlib.Core.Path.{refl, sym, _∙_}
 use Rattle.tree.specs.Shape.{rightOf}
 use Rattle.tree.specs.Memory.{headOf}
 use Rattle.steps.specs.Rules.{step, go}
@@ -7,44 +8,54 @@ use borrow.Author.Needs.{needs}
 use Rattle.steps.proofs.heads.step_c2.Statement.{statement}
 use Rattle.steps.proofs.heads.step_c2.Tie as tie
 
-enum-known-n : tie.Need-enum-known-n
-enum-known-n c = search needs
+step-in-requires : tie.Need-step-in-requires
+step-in-requires c κs = search needs
+
+enum-known-visit : tie.Need-enum-known-visit
+enum-known-visit c = search needs
 
 returns : tie.Need-returns
-returns c = λ w l e s k o t. absurd (other (c .match .keys2) e tt)
+returns c = λ _ _ e. absurd (other (c .match .keys2) (c .before .step-in .ensures ∙ e) tt)
 
 mul-head-of : tie.Need-mul-head-of
 mul-head-of c =
-    let p = c .before .before .before .before .before .pre _ _ (c .before .before .n .given .1) in
+    let p = c .before .before .before .before .before .before .pre .1 _ _ (sym (c .before .before .before .before .step-in .ensures) ∙ c .before .before .visit .given .1) in
     search needs
 
 add-head-of : tie.Need-add-head-of
 add-head-of c =
-    let p = c .before .before .before .before .before .pre _ _ (c .before .before .n .given .1) in
+    let p = c .before .before .before .before .before .before .pre .1 _ _ (sym (c .before .before .before .before .step-in .ensures) ∙ c .before .before .visit .given .1) in
     search needs
 
 head-of-requires : tie.Need-head-of-requires
 head-of-requires c κs =
-    let p = c .before .before .before .before .before .pre _ _ (c .before .before .n .given .1) in
+    let p = c .before .before .before .before .before .before .pre .1 _ _ (sym (c .before .before .before .before .step-in .ensures) ∙ c .before .before .visit .given .1) in
     search needs
 
-sub-t8 : tie.Need-sub-t8
-sub-t8 c =
-    let p = c .before .before .before .before .before .before .pre _ _ (c .before .before .before .n .given .1) in
+sub-t9 : tie.Need-sub-t9
+sub-t9 c =
+    let p = c .before .before .before .before .before .before .before .pre .1 _ _ (sym (c .before .before .before .before .before .step-in .ensures) ∙ c .before .before .before .visit .given .1) in
     search needs
+
+moved-requires : tie.Need-moved-requires
+moved-requires c κs = search needs
 
 returns-2 : tie.Need-returns-2
 unfolding step go headOf rightOf
-returns-2 c = λ w l e s k o t. rw (c .before .before .before .n .given .1, c .head-of .ensures)
+returns-2 c = λ _ _ _.
+    let told = sym (c .before .before .before .before .before .before .step-in .ensures) ∙ c .before .before .before .before .visit .given .1 in
+    rw (c .moved .ensures) (refl, λ s k o t. rw (told, c .before .head-of .ensures))
 
 pub step-c2-spec : {M : Type 1} → statement M
 step-c2-spec =
     tie.close
     (tie.spec
-    enum-known-n
+    step-in-requires
+    enum-known-visit
     returns
     mul-head-of
     add-head-of
     head-of-requires
-    sub-t8
+    sub-t9
+    moved-requires
     returns-2)

@@ -1,4 +1,5 @@
 -- `heads::step_r1` meets its contract. Assumes nothing.
+use mathlib.Core.Path.{refl, sym, _∙_}
 use Rattle.tree.specs.Memory.{headOf}
 use Rattle.steps.specs.Rules.{step, go}
 use Rattle.steps.proofs.Told.{other}
@@ -6,20 +7,36 @@ use borrow.Author.Needs.{needs}
 use Rattle.steps.proofs.heads.step_r1.Statement.{statement}
 use Rattle.steps.proofs.heads.step_r1.Tie as tie
 
-enum-known-n : tie.Need-enum-known-n
-enum-known-n c = search needs
+step-in-requires : tie.Need-step-in-requires
+step-in-requires c κs = search needs
+
+enum-known-second : tie.Need-enum-known-second
+enum-known-second c = search needs
 
 returns : tie.Need-returns
-returns c = λ b v e s k o t. absurd (other (c .match .keys2) e tt)
+returns c = λ _ _ e. absurd (other (c .match .keys2) (c .before .step-in .ensures ∙ e) tt)
 
 head-of-requires : tie.Need-head-of-requires
 head-of-requires c κs =
-    let p = c .before .before .before .before .pre _ _ (c .before .n .given .1) in
+    let p = c .before .before .before .before .before .pre .1 _ _ (sym (c .before .before .before .step-in .ensures) ∙ c .before .second .given .1) in
     search needs
+
+moved-requires : tie.Need-moved-requires
+moved-requires c κs = search needs
 
 returns-2 : tie.Need-returns-2
 unfolding step go headOf
-returns-2 c = λ b v e s k o t. rw (c .before .before .n .given .1, c .head-of .ensures)
+returns-2 c = λ _ _ _.
+    let told = sym (c .before .before .before .before .before .step-in .ensures) ∙ c .before .before .before .second .given .1 in
+    rw (c .moved .ensures) (refl, λ s k o t. rw (told, c .before .head-of .ensures))
 
 pub step-r1-spec : {M : Type 1} → statement M
-step-r1-spec = tie.close (tie.spec enum-known-n returns head-of-requires returns-2)
+step-r1-spec =
+    tie.close
+    (tie.spec
+    step-in-requires
+    enum-known-second
+    returns
+    head-of-requires
+    moved-requires
+    returns-2)

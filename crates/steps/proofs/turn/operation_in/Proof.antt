@@ -1,7 +1,7 @@
--- `records::operation_in` meets its contract. Assumes nothing.
+-- `turn::operation_in` meets its contract. Assumes nothing.
 use borrow.Author.Needs.{needs}
-use Rattle.player.proofs.records.operation_in.Statement.{statement}
-use Rattle.player.proofs.records.operation_in.Tie as tie
+use Rattle.steps.proofs.turn.operation_in.Statement.{statement}
+use Rattle.steps.proofs.turn.operation_in.Tie as tie
 
 enum-told : tie.Need-enum-told
 enum-told c = search needs

@@ -1,7 +1,7 @@
--- `records::step_in` meets its contract. Assumes nothing.
+-- `turn::step_in` meets its contract. Assumes nothing.
 use borrow.Author.Needs.{needs}
-use Rattle.player.proofs.records.step_in.Statement.{statement}
-use Rattle.player.proofs.records.step_in.Tie as tie
+use Rattle.steps.proofs.turn.step_in.Statement.{statement}
+use Rattle.steps.proofs.turn.step_in.Tie as tie
 
 enum-told : tie.Need-enum-told
 enum-told c = search needs

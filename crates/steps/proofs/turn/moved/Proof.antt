@@ -1,7 +1,7 @@
--- `records::moved` meets its contract. Assumes nothing.
+-- `turn::moved` meets its contract. Assumes nothing.
 use borrow.Author.Needs.{needs}
-use Rattle.player.proofs.records.moved.Statement.{statement}
-use Rattle.player.proofs.records.moved.Tie as tie
+use Rattle.steps.proofs.turn.moved.Statement.{statement}
+use Rattle.steps.proofs.turn.moved.Tie as tie
 
 operation-in-requires : tie.Need-operation-in-requires
 operation-in-requires c κs = search needs

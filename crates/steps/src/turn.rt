@@ -1,0 +1,42 @@
+// A process that takes a step: its operation and its step, and the process that it becomes.
+use crate::Operation;
+use crate::Process;
+use crate::Status;
+use crate::Step;
+ghost use mathlib.Core.Path.{_≡_};
+ghost use Prim.Native.Nat.{_<_};
+ghost use Rattle.steps.specs.Next.{operationIn, stepIn, moved as movedOf};
+
+// The operation that a busy process is inside of. An idle one has none; no caller asks.
+pub fn operation_in(q: Process) -> Operation
+    ensures { λ r. ⌜ r ≡ operationIn (q .status) ⌝ }
+{
+    let status = q.status;
+    match status {
+        Status::Idle => Operation::Take,
+        Status::Busy(o, _) => o,
+    }
+}
+
+// The next step of a busy process. An idle one has none; no caller asks.
+pub fn step_in(q: Process) -> Step
+    ensures { λ r. ⌜ r ≡ stepIn (q .status) ⌝ }
+{
+    let status = q.status;
+    match status {
+        Status::Idle => Step::A,
+        Status::Busy(_, n) => n,
+    }
+}
+
+// A busy process q after its step, with step n next.
+pub fn moved(q: Process, n: Step) -> Process
+    requires { ⌜ q .steps < 65536 ⌝ }
+    ensures { λ r. ⌜ r ≡ movedOf q (operationIn (q .status)) n ⌝ }
+{
+    Process {
+        status: Status::Busy(operation_in(q), n),
+        begun: q.begun,
+        steps: q.steps + 1,
+    }
+}
