@@ -1,30 +1,26 @@
 -- What one record does, by the status of the process that it names. Used by proofs; no promise cites it.
 use Prim.Native.Nat.{ℕ, _+_, _≤_, _<_}
-use native.Mathlib.Omega.{arith}
-use mathlib.Core.Path.{_≡_, refl, ap, sym, _∙_}
-use mathlib.Core.Bool.{Bool, true, false, not, _&&_}
+use mathlib.Core.Path.{_≡_, refl, ap, _∙_}
+use mathlib.Core.Bool.{true, false, not, _&&_}
 use mathlib.Core.List.{[], _∷_}
-use lib.Dec.{ltb, leb}
+use lib.Dec.{ltb}
 use borrow.Author.Tests.{lt-ltb, le-ltb, le-leb, lt-leb}
 use Rattle.base.specs.Choice.{if_then_else_}
 use Rattle.record.specs.declared.StepRecord.{StepRecord}
-use Rattle.record.specs.StepRecords.{isStep, isBegin, illFormed}
+use Rattle.record.specs.StepRecords.{isStep, illFormed}
 use Rattle.record.specs.AnswerRecords.{answerSize}
 use Rattle.tree.specs.Shape.{Shape, processes}
 use Rattle.tree.specs.Memory.{Memory}
 use Rattle.steps.specs.declared.Operation.{Operation}
 use Rattle.steps.specs.declared.Step.{Step}
-use Rattle.steps.specs.declared.Step.the-variants.{A}
-use Rattle.steps.specs.declared.Status.{Status}
-use Rattle.steps.specs.declared.Status.the-variants.{Idle, Busy}
+use Rattle.steps.specs.declared.Status.the-variants.{Busy}
 use Rattle.steps.specs.declared.Process.{Process}
 use Rattle.steps.specs.Rules.{step, go}
-use Rattle.steps.specs.Machine.{Machine, processOf, withProcess, isIdle, isQ, atQ, begin, stepFrom, stepOf}
-use Rattle.rules.specs.declared.Refusal.{Refusal}
+use Rattle.steps.specs.Machine.{Machine, processOf, isIdle, isQ, atQ, begin, stepFrom, stepOf}
 use Rattle.rules.specs.declared.Refusal.the-variants.{None, IllFormed, BeginWhileBusy, StepWhileIdle, BegunAll, AnswersFull}
-use Rattle.rules.specs.Answer.{answerOf, answersFrom, answersOf}
+use Rattle.rules.specs.Answer.{answersFrom, answersOf}
 use Rattle.rules.specs.Refusals.{refusalNumber, accepted, beginsWhileBusy, stepsWhileIdle, beginsAfterAll, finishesWithoutRoom, recordRefusal}
-use Rattle.rules.specs.Run.{operationOf, takeRecord, recordAnswers}
+use Rattle.rules.specs.Run.{takeRecord, recordAnswers}
 use Rattle.rules.proofs.Legal.{not-step, not-begin}
 use Rattle.steps.proofs.Inside.{is-q}
 use Rattle.player.specs.Turns.{Refused, Moved, Finished, opened, rested, TurnOf}

@@ -30,7 +30,7 @@ Placed s starts (C3 w l r) = Begins s starts (w .node) × Begins s starts (2 * w
 Placed s starts (C4 w n) = Begins s starts (w .node)
 Placed s starts Q = Unit {0}
 
--- the operation that a busy process is inside of, and its next step; nothing is said of an idle one
+-- the operation that a busy process is inside of, and its next step. An idle one has neither; the values here stand for any, and no rule uses them
 abbrev pub operationIn : Status → Operation
 operationIn Idle = Take
 operationIn (Busy o n) = o
