@@ -4,3 +4,4 @@ pub mod Splice
 pub mod Stores
 pub mod Gather
 pub mod Repeats
+pub mod Beginnings

@@ -7,7 +7,7 @@ use mathlib.Core.List.{List, map}
 use lib.ListN.{length, take, drop}
 use Rattle.base.specs.Choice.{if_then_else_}
 use Rattle.record.specs.Bytes.{cut}
-use Rattle.record.specs.StepRecords.{stepSize, stepRecords}
+use Rattle.record.specs.StepRecords.{stepRecords}
 use Rattle.record.specs.AnswerRecords.{answerSize, answerBytes}
 use Rattle.tree.specs.Shape.{Shape}
 use Rattle.tree.specs.Layout.{wordsNeeded}
@@ -20,10 +20,10 @@ use Rattle.rules.specs.Run.{Played, play}
 use Rattle.rules.specs.ListOrder.{playAll}
 use Rattle.rules.specs.CheckLog.{compared, checkRefusal, checkPlayed, checkLog}
 use Rattle.rules.proofs.Played.{played-room}
+use Rattle.rules.proofs.CallAccepted.{accepted-whole}
 use Rattle.player.specs.declared.Outcome.{Outcome}
 use Rattle.player.specs.Playing.{Leaves}
 use Rattle.queue.specs.Left.{checkLeft}
-use Rattle.queue.proofs.Accepted.{accepted-whole}
 use Rattle.queue.proofs.PlayAll.{plays-all, table-left}
 
 -- a call of check a log that is not turned down is one that Run would not turn down, and its log has whole records

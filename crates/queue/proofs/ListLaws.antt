@@ -1,14 +1,10 @@
 -- What list the order leaves, by whether the call is turned down, a record refused, or the list longer than the output. Used by proofs; no promise cites it.
 use Prim.Native.Nat.{ℕ, _*_, _≤_, _<_}
-use native.Mathlib.Omega.{arith}
-use mathlib.Core.Path.{_≡_, refl, ap, sym, _∙_, subst}
-use mathlib.Core.Bool.{Bool, true, false}
-use mathlib.Core.List.{List, [], _++_}
+use mathlib.Core.Path.{_≡_, ap, sym, _∙_, subst}
+use mathlib.Core.Bool.{true, false}
+use mathlib.Core.List.{List, _++_}
 use lib.ListN.{length, take, drop, getD}
-use lib.Seq.{take-at}
-use lib.Dec.{ltb}
 use borrow.Author.Tests.{lt-ltb, le-ltb}
-use Rattle.base.specs.Choice.{if_then_else_}
 use Rattle.record.specs.StepRecords.{stepRecords}
 use Rattle.tree.specs.Shape.{Shape, processes}
 use Rattle.tree.specs.Layout.{partStart, wordsNeeded}
@@ -21,7 +17,8 @@ use Rattle.rules.specs.declared.Refusal.{Refusal}
 use Rattle.rules.specs.declared.Refusal.the-variants.{None, OutputShort}
 use Rattle.rules.specs.Refusals.{refusalNumber, accepted, heightFor, shapeFor, callRefusal}
 use Rattle.rules.specs.Run.{Played, play}
-use Rattle.rules.specs.ListOrder.{ListLeaves, orderList, playAll, listRefusal, listed, listPlayed, listOrder}
+use Rattle.rules.specs.ListOrder.{orderList, listRefusal, listed, listPlayed, listOrder}
+use Rattle.rules.proofs.CallAccepted.{accepted-whole, accepted-processes, accepted-operations}
 use Rattle.rules.proofs.Theorem.{tall-for}
 use Rattle.refusals.proofs.Limits.{allowed-most, short-for}
 use Rattle.player.specs.declared.Outcome.{Outcome}
@@ -31,7 +28,6 @@ use Rattle.player.proofs.Calls.{laid-for}
 use Rattle.queue.specs.declared.Listed.{Listed}
 use Rattle.queue.specs.Left.{listLeft}
 use Rattle.queue.specs.Listing.{Listing, listFrom}
-use Rattle.queue.proofs.Accepted.{accepted-whole, accepted-processes, accepted-operations}
 use Rattle.queue.proofs.PlayAll.{plays-all, table-left}
 
 -- ---- the list of a played table

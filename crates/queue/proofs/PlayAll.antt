@@ -1,28 +1,26 @@
 -- Records played without an answer buffer: there is room for the answer of each, and all that they leave. Used by proofs; no promise cites it.
-use Prim.Native.Nat.{ℕ, _*_, _/_, _%_}
+use Prim.Native.Nat.{ℕ, _*_}
 use native.Mathlib.Omega.{arith}
 use mathlib.Core.Path.{_≡_, ap, sym, _∙_}
-use mathlib.Core.Bool.{false, not}
+use mathlib.Core.Bool.{false}
 use mathlib.Core.List.{List, _++_}
 use lib.ListN.{length, take, drop, take-append-drop}
-use lib.Dec.{eqb}
-use borrow.Author.Tests.{eqb-true, not-false}
 use Rattle.record.specs.StepRecords.{stepSize, stepRecords}
 use Rattle.record.specs.AnswerRecords.{answerSize}
 use Rattle.record.proofs.Cuts.{records-length}
 use Rattle.tree.specs.Shape.{Shape}
-use Rattle.tree.specs.Layout.{wordsNeeded}
 use Rattle.rules.specs.Refusals.{torn}
 use Rattle.rules.specs.Run.{Played, play}
 use Rattle.rules.specs.ListOrder.{playAll}
+use Rattle.rules.proofs.CallAccepted.{whole-records}
 use Rattle.player.specs.declared.Outcome.{Outcome}
 use Rattle.player.specs.Playing.{Leaves}
 
 module _ (s : Shape) (records : List ℕ) (whole : torn stepSize (length records) ≡ false) where
   -- 16 bytes for each 8
   room-all : 2 * length records ≡ answerSize * length (stepRecords records)
-  unfolding torn stepSize answerSize
-  room-all = omega (arith, records-length records, eqb-true (length records % 8) 0 (not-false (eqb (length records % 8) 0) whole))
+  unfolding answerSize
+  room-all = omega (arith, records-length records, whole-records (length records) whole)
 
   pub plays-all : play s (2 * length records) (stepRecords records) ≡ playAll s (stepRecords records)
   unfolding playAll

@@ -1,10 +1,10 @@
 -- What Run leaves, by whether the call is turned down. Used by proofs; no promise cites it.
 use Prim.Native.Nat.{ℕ, _*_}
-use mathlib.Core.Path.{_≡_, refl, ap, sym, _∙_, subst}
+use mathlib.Core.Path.{_≡_, sym, _∙_, subst}
 use mathlib.Core.Bool.{true, false}
-use mathlib.Core.List.{List, _++_}
+use mathlib.Core.List.{List}
 use lib.ListN.{length, take, drop}
-use Rattle.record.specs.AnswerRecords.{answerSize, logBytes}
+use Rattle.record.specs.AnswerRecords.{answerSize}
 use Rattle.record.specs.StepRecords.{stepRecords}
 use Rattle.tree.specs.Shape.{Shape}
 use Rattle.tree.specs.Layout.{wordsNeeded}
@@ -13,10 +13,11 @@ use Rattle.rules.specs.Run.{Played, play, runTurnedDown, runPlayed, run}
 use Rattle.rules.specs.Demand3.{Demand3, RunKeeps}
 use Rattle.rules.proofs.Played.{played-room}
 use Rattle.rules.proofs.Theorem.{demand3-run}
+use Rattle.superblocks.specs.Supers.{SupersNear, RunSupers}
+use Rattle.superblocks.proofs.RunSupers.{supers-run}
 use Rattle.log.proofs.Written.{written-fits}
 use Rattle.player.specs.declared.Outcome.{Outcome}
 use Rattle.player.specs.Playing.{Leaves}
-use Rattle.queue.specs.declared.Ran.{Ran}
 use Rattle.queue.specs.Left.{runLeft}
 use Rattle.queue.proofs.PlayAll.{table-left}
 
@@ -55,3 +56,8 @@ module _ (p l : ℕ) (records table answers : List ℕ) where
       pub run-keeps : Demand3 p l (take (o .taken) (stepRecords records)) (take (answerSize * o .answers) answers') (take (wordsNeeded s) table')
       unfolding runLeft
       run-keeps = subst (RunKeeps p l records) (sym run-left) (demand3-run p l records table answers ok)
+
+      -- where superblocks stand, in what it leaves
+      pub run-supers : SupersNear s (take (wordsNeeded s) table')
+      unfolding runLeft
+      run-supers = subst (RunSupers p l) (sym run-left) (supers-run p l records table answers ok)

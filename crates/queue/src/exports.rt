@@ -19,6 +19,7 @@ ghost use Rattle.rules.specs.Run.{run as runOf};
 ghost use Rattle.rules.specs.ListOrder.{listOrder};
 ghost use Rattle.rules.specs.CheckLog.{checkLog};
 ghost use Rattle.rules.specs.Demand3.{Demand3};
+ghost use Rattle.superblocks.specs.Supers.{SupersNear};
 ghost use Rattle.queue.specs.Exported.{RunExport, ListExport, CheckExport, checkedAs};
 
 // Run.
@@ -33,6 +34,8 @@ pub extern "C" fn otq_run(
     ensures rules { λ r. ⌜ RunExport (runOf p l (now (records .entry)) (now (table .entry)) (now (answers .entry))) r (now (table .exit)) (now (answers .exit)) ⌝ }
     ensures demand3 { λ r. ⌜ (accepted (callRefusal p l (length (now (table .entry))) (length (now (records .entry)))) ≡ true →
         Demand3 p l (take (r .taken) (stepRecords (now (records .entry)))) (take (answerSize * r .answers) (now (answers .exit))) (take (wordsNeeded (shapeFor p l)) (now (table .exit)))) ⌝ }
+    ensures supers { λ r. ⌜ (accepted (callRefusal p l (length (now (table .entry))) (length (now (records .entry)))) ≡ true →
+        SupersNear (shapeFor p l) (take (wordsNeeded (shapeFor p l)) (now (table .exit)))) ⌝ }
 {
     let r = run(p, l, records, table, answers);
     let why = r.refusal;

@@ -1,11 +1,11 @@
 -- The records that bytes are cut into: how many they are, and which bytes each has.
-use Prim.Native.Nat.{ℕ, zero, suc, _+_, _*_, _/_, _<_}
-use native.Mathlib.Nat.{mul-zero, not-suc-le-zero}
+use Prim.Native.Nat.{ℕ, zero, suc, _+_, _*_, _/_, _%_, _≤_, _<_}
+use native.Mathlib.Nat.{mul-zero, zero-add, suc-add, not-suc-le-zero}
 use native.Mathlib.Omega.{arith}
 use mathlib.Core.Path.{_≡_, refl, ap, _∙_}
-use mathlib.Core.List.{List, []}
-use lib.ListN.{length, getD, take, drop, length-map, List·getD-map}
-use lib.Seq.{drop-drop}
+use mathlib.Core.List.{List, [], _∷_, _++_, map, map-append}
+use lib.ListN.{length, getD, take, drop, length-map, length-append, length-drop, List·getD-map}
+use lib.Seq.{drop-drop, take-append-le, drop-append-le}
 use Rattle.record.specs.Bytes.{cut}
 use Rattle.record.specs.StepRecords.{stepSize, stepRecord, stepRecords}
 
@@ -22,6 +22,17 @@ cut-at size (suc n) (suc i) bs h =
     let e : size + size * i ≡ size * suc i = omega arith in
     cut-at size n i (drop size bs) (omega arith) ∙ ap (take size) (drop-drop (size * i) size bs ∙ ap (λ (k : ℕ). drop k bs) e)
 
+-- bytes that whole records begin are cut into these records and those of the rest
+pub cut-append : (size n k : ℕ) (xs ys : List ℕ) → length xs ≡ size * n → cut size (n + k) (xs ++ ys) ≡ cut size n xs ++ cut size k ys
+unfolding cut
+cut-append size zero k [] ys e = rw (zero-add k)
+cut-append size zero k (x ∷ xs) ys e = absurd (omega (arith, rw mul-zero at e))
+cut-append size (suc n) k xs ys e =
+    let more : size + size * n ≡ size * suc n = omega arith in
+    let within : size ≤ length xs = omega arith in
+    rw (suc-add n k, take-append-le size xs ys within, drop-append-le size xs ys within)
+    (ap (λ (l : List (List ℕ)). take size xs ∷ l) (cut-append size n k (drop size xs) ys (simp length-drop (omega arith))))
+
 -- of step records
 pub records-length : (bs : List ℕ) → length (stepRecords bs) ≡ length bs / 8
 unfolding stepRecords stepSize
@@ -30,3 +41,11 @@ records-length bs = rw (length-map, cut-length 8 (length bs / 8) bs)
 pub record-at : (bs : List ℕ) (i : ℕ) → i < length bs / 8 → getD (stepRecords bs) i (stepRecord []) ≡ stepRecord (take 8 (drop (8 * i) bs))
 unfolding stepRecords stepSize
 record-at bs i h = List·getD-map stepRecord (cut 8 (length bs / 8) bs) i [] ∙ ap stepRecord (cut-at 8 (length bs / 8) i bs h)
+
+pub records-append : (xs ys : List ℕ) → length xs % 8 ≡ 0 → stepRecords (xs ++ ys) ≡ stepRecords xs ++ stepRecords ys
+unfolding stepRecords stepSize
+records-append xs ys whole =
+    let many : length (xs ++ ys) / 8 ≡ length xs / 8 + length ys / 8 = simp length-append (omega arith) in
+    ap (λ (n : ℕ). map stepRecord (cut 8 n (xs ++ ys))) many
+    ∙ ap (map stepRecord) (cut-append 8 (length xs / 8) (length ys / 8) xs ys (omega arith))
+    ∙ map-append stepRecord (cut 8 (length xs / 8) xs) (cut 8 (length ys / 8) ys)

@@ -16,6 +16,9 @@ pub mod Answered
 pub mod Runs
 pub mod Holds
 pub mod Theorem
+pub mod CallAccepted
+pub mod Unrefused
+pub mod HistoryGrows
 pub mod Linearized
 pub mod WaitFree
 pub mod Corollaries

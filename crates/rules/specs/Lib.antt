@@ -7,5 +7,6 @@ pub mod PlainQueue
 pub mod History
 pub mod Demand3
 pub mod Linearizable
+pub mod Continuation
 pub mod All
 pub mod KnownRuns

@@ -9,7 +9,8 @@ use Rattle.tree.specs.declared.Kind.{Kind}
 use Rattle.tree.specs.Shape.{Shape, processes, leftOf, rightOf, parentOf}
 use Rattle.tree.specs.Memory.{Memory, headOf, block}
 use Rattle.tree.specs.Order.{OpId}
-use Rattle.tree.proofs.Nodes.{Node, Inner, Side, onLeft, onRight, inner-node}
+use Rattle.tree.specs.Sides.{Side, onLeft, onRight}
+use Rattle.tree.proofs.Nodes.{Node, Inner, inner-node}
 use Rattle.tree.proofs.Presence.{Present, Written}
 use Rattle.tree.proofs.Sound.{Sound, below-head, first-zeros, zero-end, ends-rise}
 use Rattle.tree.proofs.Ancestors.{ancestor, sideAt, child-at, ancestor-node, ancestor-inner}

@@ -6,7 +6,8 @@ use Rattle.tree.specs.declared.Kind.{Kind}
 use Rattle.tree.specs.Shape.{Shape}
 use Rattle.tree.specs.Memory.{Memory, block}
 use Rattle.tree.specs.Order.{total}
-use Rattle.tree.proofs.Nodes.{Inner, Side, childOf, endOf, inner-node, child-node}
+use Rattle.tree.specs.Sides.{Side, childOf, endOf}
+use Rattle.tree.proofs.Nodes.{Inner, inner-node, child-node}
 use Rattle.tree.proofs.Presence.{Written}
 use Rattle.tree.proofs.Sound.{below-head, end-below}
 use Rattle.tree.proofs.SideTotals.{endTotal}

@@ -14,7 +14,8 @@ use Rattle.tree.specs.declared.Kind.the-variants.{Puts}
 use Rattle.tree.specs.Shape.{Shape, leftOf, rightOf}
 use Rattle.tree.specs.Memory.{Memory, block}
 use Rattle.tree.specs.Order.{OpId, total, opened}
-use Rattle.tree.proofs.Nodes.{Node, Inner, Side, onLeft, onRight, childOf, endOf, inner-node, child-node}
+use Rattle.tree.specs.Sides.{Side, onLeft, onRight, childOf, endOf}
+use Rattle.tree.proofs.Nodes.{Node, Inner, inner-node, child-node}
 use Rattle.tree.proofs.Presence.{Present, Written}
 use Rattle.tree.proofs.Sound.{Sound, before-written}
 use Rattle.tree.proofs.Levels.{Level, level-child, level-inner}

@@ -11,7 +11,8 @@ use Rattle.tree.specs.Shape.{Shape}
 use Rattle.tree.specs.Blocks.{wordIn, blockIn}
 use Rattle.tree.specs.Memory.{Memory, block}
 use Rattle.tree.specs.Order.{total}
-use Rattle.tree.proofs.Nodes.{Node, Side, onLeft, onRight, endOf, sideOf}
+use Rattle.tree.specs.Sides.{Side, onLeft, onRight, endOf}
+use Rattle.tree.proofs.Nodes.{Node, sideOf}
 use Rattle.tree.proofs.Presence.{Written}
 use Rattle.tree.proofs.Sound.{place-count}
 use Rattle.steps.specs.Ready.{HasPart, HasPlace, nodePart, nodeBlock}

@@ -13,7 +13,8 @@ use Rattle.tree.specs.declared.Kind.the-variants.{Puts, Takes}
 use Rattle.tree.specs.Shape.{Shape, root}
 use Rattle.tree.specs.Memory.{Memory, headOf, block}
 use Rattle.tree.specs.Order.{total}
-use Rattle.tree.proofs.Nodes.{Inner, Side, onLeft, onRight, childOf, endOf, child-node, inner-node}
+use Rattle.tree.specs.Sides.{Side, onLeft, onRight, childOf, endOf}
+use Rattle.tree.proofs.Nodes.{Inner, child-node, inner-node}
 use Rattle.tree.proofs.Presence.{count, Written}
 use Rattle.tree.proofs.Sound.{Sound, Follows, Joins, below-head, totals-rise, counts-rise, sums-at}
 use Rattle.steps.specs.declared.Visit.{Visit}

@@ -12,7 +12,8 @@ use Rattle.tree.specs.Shape.{Shape, processes, leafOf, leftOf, rightOf, lastPla
 use Rattle.tree.specs.Blocks.{absent}
 use Rattle.tree.specs.Memory.{Memory, headOf, block, write, withSuper, setSuper, raise}
 use Rattle.tree.specs.Order.{total}
-use Rattle.tree.proofs.Nodes.{Node, Inner, Side, onLeft, onRight, childOf, endOf, child-node, inner-node, leaf-node, leaf-not-inner, leaf-eq}
+use Rattle.tree.specs.Sides.{Side, onLeft, onRight, childOf, endOf}
+use Rattle.tree.proofs.Nodes.{Node, Inner, child-node, inner-node, leaf-node, leaf-not-inner, leaf-eq}
 use Rattle.tree.proofs.Ancestors.{ancestor-inner}
 use Rattle.tree.proofs.Heights.{leaf-places, node-places}
 use Rattle.tree.proofs.Presence.{count, Present, Written, absent-count}

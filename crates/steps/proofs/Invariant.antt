@@ -4,7 +4,8 @@ use mathlib.Core.Path.{_≡_}
 use lib.ListN.{length}
 use Rattle.tree.specs.Shape.{Shape, processes}
 use Rattle.tree.specs.Memory.{Memory, headOf}
-use Rattle.tree.proofs.Nodes.{Inner, Side, childOf, inner-node, leaf-node}
+use Rattle.tree.specs.Sides.{Side, childOf}
+use Rattle.tree.proofs.Nodes.{Inner, inner-node, leaf-node}
 use Rattle.tree.proofs.Writes.{Sized, write-sized, raise-sized}
 use Rattle.tree.proofs.Sound.{Sound}
 use Rattle.tree.proofs.Ancestors.{ancestor-node, ancestor-inner}

@@ -8,7 +8,8 @@ use mathlib.Core.Logic.{_≢_, _⊎_, inl, inr}
 use mathlib.Core.Bool.{Bool}
 use Rattle.tree.specs.Shape.{Shape, processes, root, leafOf}
 use Rattle.tree.specs.Memory.{Memory, headOf, block}
-use Rattle.tree.proofs.Nodes.{Node, Inner, Side, onLeft, onRight, childOf, endOf, child-node, inner-node}
+use Rattle.tree.specs.Sides.{Side, onLeft, onRight, childOf, endOf}
+use Rattle.tree.proofs.Nodes.{Node, Inner, child-node, inner-node}
 use Rattle.tree.proofs.Presence.{Present, Written}
 use Rattle.tree.proofs.Sound.{NodeSound, Sound, below-head}
 use Rattle.tree.proofs.Growth.{Same, Grows, same-refl, same-end, heads-rise, present-stays, follows-same, joins-grows, sound-grows}

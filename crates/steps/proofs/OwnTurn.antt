@@ -11,7 +11,8 @@ use borrow.Author.Tests.{eqb-true, eqb-false}
 use Rattle.base.proofs.Cases.{cases}
 use Rattle.tree.specs.Shape.{Shape, processes, root, parentOf, leftOf, rightOf}
 use Rattle.tree.specs.Memory.{Memory, headOf, block}
-use Rattle.tree.proofs.Nodes.{Inner, Side, onLeft, onRight, childOf, endOf, child-node, inner-node}
+use Rattle.tree.specs.Sides.{Side, onLeft, onRight, childOf, endOf}
+use Rattle.tree.proofs.Nodes.{Inner, child-node, inner-node}
 use Rattle.tree.proofs.Sound.{Sound, NodeSound, below-head, present-low, end-below}
 use Rattle.tree.proofs.Ancestors.{ancestor, sideAt, child-at, ancestor-node, ancestor-inner, ancestor-root, root-height, not-root}
 use Rattle.tree.proofs.Reach.{reach, reach-suc, reach-rises}

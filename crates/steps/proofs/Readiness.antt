@@ -14,7 +14,8 @@ use Rattle.tree.specs.Shape.{Shape, processes, leftOf, rightOf, leafOf, lastPla
 use Rattle.tree.specs.Memory.{Memory, headOf, block}
 use Rattle.tree.specs.Size.{rootSize}
 use Rattle.tree.specs.Order.{total}
-use Rattle.tree.proofs.Nodes.{Node, Inner, onLeft, onRight, childOf, child-node, inner-node, leaf-node}
+use Rattle.tree.specs.Sides.{onLeft, onRight, childOf}
+use Rattle.tree.proofs.Nodes.{Node, Inner, child-node, inner-node, leaf-node}
 use Rattle.tree.proofs.Presence.{count, Present, Written}
 use Rattle.tree.proofs.Writes.{Sized, zeros}
 use Rattle.tree.proofs.Heights.{leaf-places, node-places}

@@ -5,7 +5,7 @@ use mathlib.Core.Bool.{Bool}
 use lib.Dec.{eqb}
 use Rattle.base.proofs.Cases.{both}
 use Rattle.tree.specs.Shape.{root}
-use Rattle.tree.proofs.Nodes.{Side, onLeft, onRight}
+use Rattle.tree.specs.Sides.{Side, onLeft, onRight}
 use Rattle.steps.specs.declared.Visit.{Visit}
 use Rattle.steps.specs.declared.After.{After}
 use Rattle.steps.specs.declared.After.the-variants.{Right, Ends, Again, Up}

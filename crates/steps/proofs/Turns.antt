@@ -7,7 +7,7 @@ use Rattle.base.proofs.Cases.{cases}
 use Rattle.tree.specs.Shape.{Shape, leafOf, leftOf, rightOf}
 use Rattle.tree.specs.Blocks.{absent}
 use Rattle.tree.specs.Memory.{Memory, headOf, block, write, writeIfAbsent, setSuper, raise}
-use Rattle.tree.proofs.Nodes.{Side, onLeft, onRight, childOf}
+use Rattle.tree.specs.Sides.{Side, onLeft, onRight, childOf}
 use Rattle.steps.specs.declared.Operation.{Operation}
 use Rattle.steps.specs.declared.Visit.{Visit}
 use Rattle.steps.specs.declared.After.{After}

@@ -8,7 +8,8 @@ use mathlib.Core.Bool.{Bool, true, false}
 use Rattle.tree.specs.Shape.{Shape, processes, leafOf, lastPlace}
 use Rattle.tree.specs.Blocks.{absent}
 use Rattle.tree.specs.Memory.{Memory, headOf, block, raise}
-use Rattle.tree.proofs.Nodes.{Node, Inner, Side, childOf, endOf, onLeft, onRight, child-node, inner-node, leaf-node}
+use Rattle.tree.specs.Sides.{Side, childOf, endOf, onLeft, onRight}
+use Rattle.tree.proofs.Nodes.{Node, Inner, child-node, inner-node, leaf-node}
 use Rattle.tree.proofs.Heights.{leaf-places}
 use Rattle.tree.proofs.Presence.{Present, present-count}
 use Rattle.tree.proofs.Sound.{Sound, below-head, present-low, place-count}

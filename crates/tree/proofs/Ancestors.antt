@@ -6,7 +6,8 @@ use native.Mathlib.Nat.{le-refl, pow-suc, sub-self}
 use mathlib.Core.Path.{_≡_, ap, _∙_}
 use lib.Pow.{pow-mono, pow-pos}
 use Rattle.tree.specs.Shape.{Shape, processes, parentOf, leafOf}
-use Rattle.tree.proofs.Nodes.{Node, Inner, Side, childOf, sideOf, child-of-parent}
+use Rattle.tree.specs.Sides.{Side, childOf}
+use Rattle.tree.proofs.Nodes.{Node, Inner, sideOf, child-of-parent}
 
 -- the node of height j above the leaf of process k
 abbrev pub ancestor : Shape → ℕ → ℕ → ℕ

@@ -9,7 +9,7 @@ use Rattle.tree.specs.Shape.{Shape, processes, root}
 use Rattle.tree.specs.Memory.{Memory, headOf, block}
 use Rattle.tree.specs.Order.{OpId, opened, inRoot, lastRoot}
 use Rattle.tree.specs.Standing.{times, standsIn, rootBlockOf}
-use Rattle.tree.proofs.Nodes.{endOf}
+use Rattle.tree.specs.Sides.{endOf}
 use Rattle.tree.proofs.Presence.{Present, Written}
 use Rattle.tree.proofs.Sound.{Sound, below-head, end-below}
 use Rattle.tree.proofs.Ancestors.{ancestor, sideAt, child-at, ancestor-node, ancestor-inner}

@@ -17,7 +17,8 @@ use Rattle.tree.specs.Memory.{Memory, block}
 use Rattle.tree.specs.Order.{OpId, total, opened}
 use Rattle.tree.specs.Standing.{same, times}
 use Rattle.tree.proofs.Names.{times-append}
-use Rattle.tree.proofs.Nodes.{Side, onLeft, onRight, childOf, endOf, inner-node, leaf-node, leaf-eq, parent-of-child, children-differ}
+use Rattle.tree.specs.Sides.{Side, onLeft, onRight, childOf, endOf}
+use Rattle.tree.proofs.Nodes.{inner-node, leaf-node, leaf-eq, parent-of-child, children-differ}
 use Rattle.tree.proofs.Presence.{Present}
 use Rattle.tree.proofs.Sound.{Follows, AddsOne, Sound, first-zeros, zero-end}
 use Rattle.tree.proofs.Ancestors.{ancestor, sideAt, child-at}

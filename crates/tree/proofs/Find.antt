@@ -12,7 +12,7 @@ use Rattle.tree.specs.declared.Kind.the-variants.{Puts}
 use Rattle.tree.specs.Shape.{Shape, root, leafOf}
 use Rattle.tree.specs.Memory.{Memory, block}
 use Rattle.tree.specs.Order.{OpId, total, opened, inRoot, lastRoot, rootPuts}
-use Rattle.tree.proofs.Nodes.{Side, onLeft, onRight, childOf, endOf}
+use Rattle.tree.specs.Sides.{Side, onLeft, onRight, childOf, endOf}
 use Rattle.tree.proofs.Presence.{Present}
 use Rattle.tree.proofs.Sound.{Sound}
 use Rattle.tree.proofs.Levels.{Level, level-child, level-inner}

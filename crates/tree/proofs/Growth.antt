@@ -13,7 +13,8 @@ use Rattle.tree.specs.Shape.{Shape, processes, leafOf, lastPlace}
 use Rattle.tree.specs.Memory.{Memory, headOf, block}
 use Rattle.tree.specs.Size.{rootSize}
 use Rattle.tree.specs.Order.{total}
-use Rattle.tree.proofs.Nodes.{Node, Inner, Side, onLeft, onRight, childOf, endOf, child-node, inner-node, leaf-node}
+use Rattle.tree.specs.Sides.{Side, onLeft, onRight, childOf, endOf}
+use Rattle.tree.proofs.Nodes.{Node, Inner, child-node, inner-node, leaf-node}
 use Rattle.tree.proofs.Presence.{count, Present, Written}
 use Rattle.tree.proofs.Sound.{Follows, AddsOne, Joins, NodeSound, Sound, below-head, present-low, before-written}
 

@@ -5,7 +5,8 @@ use native.Mathlib.Nat.{le-refl, pow-suc, sub-self}
 use mathlib.Core.Path.{_≡_, ap, _∙_}
 use lib.Pow.{pow-mono, pow-pos}
 use Rattle.tree.specs.Shape.{Shape, processes, root, leftOf, rightOf, leafOf}
-use Rattle.tree.proofs.Nodes.{Inner, Side, onLeft, onRight, childOf}
+use Rattle.tree.specs.Sides.{Side, onLeft, onRight, childOf}
+use Rattle.tree.proofs.Nodes.{Inner}
 
 pub record Level (s : Shape) (h v : ℕ) : Type 0 where
   pub tall : h ≤ s .height

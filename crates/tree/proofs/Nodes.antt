@@ -1,4 +1,4 @@
--- Nodes of the tree, inner nodes, and the two sides of an inner node. Used by proofs; no promise cites it.
+-- Nodes of the tree, inner nodes, and the nodes on the two sides of an inner one. Used by proofs; no promise cites it.
 use Prim.Native.Nat.{ℕ, _*_, _%_, _≤_, _<_}
 use native.Mathlib.Omega.{arith}
 use mathlib.Core.Path.{_≡_, refl}
@@ -6,8 +6,8 @@ use mathlib.Core.Bool.{Bool, true, false}
 use lib.Dec.{eqb}
 use lib.Pow.{pow-pos}
 use borrow.Author.Tests.{eqb-true, eqb-false}
-use Rattle.tree.specs.declared.Block.{Block}
 use Rattle.tree.specs.Shape.{Shape, processes, leftOf, rightOf, parentOf, leafOf}
+use Rattle.tree.specs.Sides.{Side, onLeft, onRight, childOf}
 
 pub record Node (s : Shape) (v : ℕ) : Type 0 where
   pub first : 1 ≤ v
@@ -16,18 +16,6 @@ pub record Node (s : Shape) (v : ℕ) : Type 0 where
 pub record Inner (s : Shape) (v : ℕ) : Type 0 where
   pub first : 1 ≤ v
   pub last : v < processes s
-
--- the sides of an inner node: the child there, and a block's end there
-pub data Side : Type 0 where
-  onLeft onRight : Side
-
-abbrev pub childOf : Side → ℕ → ℕ
-childOf onLeft v = leftOf v
-childOf onRight v = rightOf v
-
-abbrev pub endOf : Side → Block → ℕ
-endOf onLeft b = b .left
-endOf onRight b = b .right
 
 -- the side on which a node is its parent's child
 abbrev sideBy : Bool → Side
@@ -67,6 +55,12 @@ module _ (s : Shape) where
   unfolding leftOf rightOf
   child-node onLeft v n = omega arith
   child-node onRight v n = omega arith
+
+  -- a child is below the root
+  pub child-below : (d : Side) (v : ℕ) → Inner s v → 1 < childOf d v
+  unfolding leftOf rightOf
+  child-below onLeft v n = omega arith
+  child-below onRight v n = omega arith
 
   pub inner-node : (v : ℕ) → Inner s v → Node s v
   inner-node v n = omega arith

@@ -15,7 +15,8 @@ use Rattle.tree.specs.Memory.{Memory, block}
 use Rattle.tree.specs.Order.{OpId, total, opened}
 use Rattle.tree.specs.Standing.{times}
 use Rattle.tree.proofs.Names.{other-process, times-append}
-use Rattle.tree.proofs.Nodes.{Inner, Side, onLeft, onRight, childOf, parent-of-child}
+use Rattle.tree.specs.Sides.{Side, onLeft, onRight, childOf}
+use Rattle.tree.proofs.Nodes.{Inner, parent-of-child}
 use Rattle.tree.proofs.Presence.{Present}
 use Rattle.tree.proofs.Sound.{Sound}
 use Rattle.tree.proofs.Ancestors.{ancestor}

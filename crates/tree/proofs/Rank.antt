@@ -12,7 +12,7 @@ use Rattle.tree.specs.Memory.{Memory, block}
 use Rattle.tree.specs.Order.{OpId, total, opened}
 use Rattle.tree.specs.Standing.{times, rankIn}
 use Rattle.tree.proofs.Names.{same-refl, times-append, rank-left, rank-right, rank-gather}
-use Rattle.tree.proofs.Nodes.{Side, onLeft, onRight, childOf, endOf}
+use Rattle.tree.specs.Sides.{Side, onLeft, onRight, childOf, endOf}
 use Rattle.tree.proofs.Presence.{Present}
 use Rattle.tree.proofs.Sound.{Sound}
 use Rattle.tree.proofs.Levels.{Level}

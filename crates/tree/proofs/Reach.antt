@@ -4,7 +4,8 @@ use native.Mathlib.Omega.{arith}
 use mathlib.Core.Path.{_≡_, refl, ap, _∙_}
 use Rattle.tree.specs.Shape.{Shape, processes, leafOf}
 use Rattle.tree.specs.Memory.{Memory, headOf, block}
-use Rattle.tree.proofs.Nodes.{Node, endOf}
+use Rattle.tree.specs.Sides.{endOf}
+use Rattle.tree.proofs.Nodes.{Node}
 use Rattle.tree.proofs.Presence.{Written}
 use Rattle.tree.proofs.Sound.{Sound, below-head, first-zeros, zero-end, end-below, ends-rise}
 use Rattle.tree.proofs.Growth.{Same, same-end}

@@ -3,7 +3,6 @@ use Prim.Native.Nat.{ℕ, suc, _+_, _-_, _≤_}
 use native.Mathlib.Omega.{arith}
 use native.Mathlib.Nat.{le-refl}
 use mathlib.Core.Path.{_≡_, refl}
-use mathlib.Core.Logic.{inr}
 use mathlib.Core.List.{flatMap}
 use lib.ListN.{length, length-append}
 use Rattle.base.specs.Between.{between}
@@ -12,9 +11,10 @@ use Rattle.tree.specs.declared.Kind.{Kind}
 use Rattle.tree.specs.Shape.{Shape}
 use Rattle.tree.specs.Memory.{Memory, block}
 use Rattle.tree.specs.Order.{total, opened}
-use Rattle.tree.proofs.Nodes.{Inner, Side, onLeft, onRight, childOf, endOf, inner-node}
+use Rattle.tree.specs.Sides.{Side, onLeft, onRight, childOf, endOf}
+use Rattle.tree.proofs.Nodes.{Inner}
 use Rattle.tree.proofs.Presence.{Present}
-use Rattle.tree.proofs.Sound.{Sound, before-written, sums-at}
+use Rattle.tree.proofs.Sound.{Sound}
 use Rattle.tree.proofs.Levels.{Level, level-child, level-inner}
 use Rattle.tree.proofs.Opening.{openedOn, subblocks-rise, subblock-present, opened-length}
 

@@ -1,6 +1,7 @@
 pub mod Shape
 pub mod Layout
 pub mod Blocks
+pub mod Sides
 pub mod Memory
 pub mod Size
 pub mod Order

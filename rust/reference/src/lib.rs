@@ -2,6 +2,7 @@
 
 pub mod check;
 pub mod demand3;
+pub mod growth;
 pub mod known_runs;
 pub mod list;
 pub mod lists;
@@ -17,4 +18,5 @@ pub mod refusal;
 pub mod run;
 pub mod schedules;
 pub mod steps;
+pub mod superblocks;
 pub mod tree;

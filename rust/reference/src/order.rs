@@ -2,6 +2,7 @@
 
 use crate::records::{Kind, OrderRecord, Outcome};
 use crate::tree::{left_child, parent, right_child, Tree, ROOT};
+use std::ops::RangeInclusive;
 
 /// One operation as the blocks give it: a place in the leaf of a process.
 #[derive(Clone, Copy, PartialEq, Eq, Hash, Debug)]
@@ -41,7 +42,7 @@ fn end_in(tree: &Tree, node: u32, place: u32, child: u32) -> u32 {
 
 /// Places of the child after the end in block `place - 1`, up to the end in
 /// block `place`. Places that the child lacks are absent and left out.
-fn subblocks(tree: &Tree, node: u32, place: u32, child: u32) -> std::ops::RangeInclusive<u32> {
+pub fn subblocks(tree: &Tree, node: u32, place: u32, child: u32) -> RangeInclusive<u32> {
     let before = end_in(tree, node, place - 1, child);
     let last = tree.shape().last_place(child);
     let end = end_in(tree, node, place, child).min(last);

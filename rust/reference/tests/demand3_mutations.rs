@@ -1,12 +1,11 @@
 //! The checker of demand 3 can fail: each change of a good run is named rightly.
 
-use crate::support::{run_amply, written};
+use crate::support::{block_words, one_by_one, run_amply, written};
 use reference::demand3::{check, check_within, step_limit, Name, Violation};
-use reference::lists::List;
 use reference::order::root_order;
 use reference::records::Outcome;
 use reference::refusal::Refusal;
-use reference::tree::{Shape, Tree, BLOCK_WORDS};
+use reference::tree::{Shape, Tree};
 
 const P: u32 = 2;
 const L: u32 = 4;
@@ -20,10 +19,8 @@ struct Left {
 }
 
 impl Left {
-    /// Two puts and two takes, one after the other: root blocks 1 to 4.
     fn good() -> Left {
-        let puts = List::new().put(0, 5).steps(0, 15).put(1, 6).steps(1, 15);
-        let records = puts.take(0).steps(0, 15).take(1).steps(1, 15).bytes();
+        let records = one_by_one();
         let after = run_amply(P, L, &records);
         let answers = written(&after).to_vec();
         let table = after.table;
@@ -38,10 +35,8 @@ impl Left {
         check(P, L, &self.records, &self.answers, &self.table)
     }
 
-    /// The words of a node's block.
-    fn block(&mut self, node: u32, place: usize) -> &mut [u32] {
-        let start = Shape::new(P, L).unwrap().node_start(node) + BLOCK_WORDS * place;
-        &mut self.table[start..start + BLOCK_WORDS]
+    fn block(&mut self, node: u32, place: u32) -> &mut [u32] {
+        block_words(Shape::new(P, L).unwrap(), &mut self.table, node, place)
     }
 
     fn answer(&mut self, index: usize) -> &mut [u8] {

@@ -1,10 +1,10 @@
 //! Demand 3 on random and hostile lists.
 
-use crate::support::{needed, pattern_bytes, pattern_words};
+use crate::support::{every_shape, needed, pattern_bytes, pattern_words, stalls};
 use reference::demand3::check;
 use reference::process::STEP_NAMES;
 use reference::run::run;
-use reference::schedules::{schedule, Ending, Pace, Plan};
+use reference::schedules::{schedule, Pace, Plan};
 
 /// Records played, operations finished and operations left unfinished.
 #[derive(Default)]
@@ -30,28 +30,11 @@ fn assert_demand3(plan: &Plan, totals: &mut Totals) {
     totals.unfinished += begun - result.answers;
 }
 
-const LIMITS: [u32; 7] = [1, 2, 3, 5, 11, 24, 50];
-
-/// The plan for every p, L and mix, with lists that end whole and cut lists.
+/// The pace with every p, L and mix.
 fn assert_every_shape(pace: Pace, seeds: u64) -> Totals {
     let mut totals = Totals::default();
-    for p in [2, 4, 8] {
-        for l in LIMITS {
-            for puts_of_8 in [1, 4, 7] {
-                for seed in 0..seeds {
-                    let cut = 1 + (seed as usize * 131) % (20 * (p * l) as usize);
-                    let ending = if seed % 2 == 0 {
-                        Ending::AllFinish
-                    } else {
-                        Ending::Cut(cut)
-                    };
-                    let plan = Plan::new(p, l, pace, seed)
-                        .puts_of_8(puts_of_8)
-                        .ending(ending);
-                    assert_demand3(&plan, &mut totals);
-                }
-            }
-        }
+    for plan in every_shape(pace, seeds) {
+        assert_demand3(&plan, &mut totals);
     }
     assert!(totals.finished > 0 && totals.unfinished > 0);
     totals
@@ -78,26 +61,12 @@ fn one_at_a_time() {
     assert_every_shape(Pace::OneAtATime, 4);
 }
 
-/// Stops at one named step, before and after it, with each ending.
+/// Stops at each named step.
 fn assert_stalls(p: u32) {
     for step in STEP_NAMES {
         let mut totals = Totals::default();
-        for after in [false, true] {
-            for l in [1, 2, 3, 7, 20] {
-                for seed in 0..12 {
-                    let ending = match seed % 3 {
-                        0 => Ending::AllFinish,
-                        1 => Ending::Cut(30 * (1 + seed as usize)),
-                        _ => Ending::Abandoned,
-                    };
-                    let pace = Pace::Stalls { step, after };
-                    let puts_of_8 = [1, 4, 7][seed as usize / 3 % 3];
-                    let plan = Plan::new(p, l, pace, seed)
-                        .puts_of_8(puts_of_8)
-                        .ending(ending);
-                    assert_demand3(&plan, &mut totals);
-                }
-            }
+        for plan in stalls(p, step) {
+            assert_demand3(&plan, &mut totals);
         }
         assert!(totals.finished > 0 && totals.unfinished > 0, "{step:?}");
     }

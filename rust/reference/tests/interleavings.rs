@@ -1,15 +1,19 @@
-//! All interleavings of a few operations: demand 3 in every state that can be reached.
+//! All interleavings of a few operations: demand 3, superblocks and growth, wherever they lead.
 
+use crate::support::{table_of, Met};
 use reference::demand3::check;
+use reference::growth::departs;
 use reference::machine::Machine;
+use reference::order::root_order;
 use reference::records::{Act, Answer, Operation, StepRecord};
 use reference::run::play_record;
 use reference::tree::Shape;
 use std::collections::hash_map::DefaultHasher;
 use std::collections::{BTreeSet, HashSet};
 use std::hash::{Hash, Hasher};
+use std::ops::Range;
 
-/// All that demand 3 can tell apart: two lists with equal states have equal verdicts.
+/// All that the claims can tell apart: two lists with equal states have equal verdicts.
 #[derive(Clone, Hash)]
 struct State {
     machine: Machine,
@@ -26,7 +30,10 @@ struct Search {
     /// The answer logs of the ends.
     logs: HashSet<Vec<Answer>>,
     most_steps: u16,
-    /// Demand 3 is checked at every state if set, else at the ends.
+    met: Met,
+    /// Records that made a root order longer that was not empty.
+    grown: usize,
+    /// Demand 3 and superblocks are checked at every state if set, else at the ends.
     every_state: bool,
 }
 
@@ -37,6 +44,8 @@ impl Search {
             seen: HashSet::new(),
             logs: HashSet::new(),
             most_steps: 0,
+            met: Met::default(),
+            grown: 0,
             every_state,
         }
     }
@@ -76,8 +85,10 @@ impl Search {
             };
             end = false;
             let record = StepRecord { process, act };
+            let next = after(state, record);
             records.extend(record.bytes());
-            self.visit(&after(state, record), records);
+            self.grown += usize::from(assert_growth(state, &next, records));
+            self.visit(&next, records);
             records.truncate(records.len() - 8);
         }
         if end {
@@ -86,7 +97,9 @@ impl Search {
             self.most_steps = self.most_steps.max(most.unwrap_or(0));
         }
         if end || self.every_state {
-            assert_demand3(state, records);
+            let table = table_of(&state.machine);
+            assert_demand3(state, records, &table);
+            self.met.assert_near(state.machine.shape(), &table, records);
         }
     }
 }
@@ -101,22 +114,36 @@ fn after(state: &State, record: StepRecord) -> State {
     next
 }
 
-fn assert_demand3(state: &State, records: &[u8]) {
+/// One record keeps the root order as a beginning; whether it made one longer that was not
+/// empty. A beginning's beginning is one, so each list has its order kept by every longer one.
+fn assert_growth(state: &State, next: &State, records: &[u8]) -> bool {
+    let [earlier, later] = [state, next].map(|state| root_order(&state.machine.memory.tree));
+    assert_eq!(departs(&earlier, &later), None, "{records:?}");
+    !earlier.is_empty() && later.len() > earlier.len()
+}
+
+fn assert_demand3(state: &State, records: &[u8], table: &[u32]) {
     let shape = state.machine.shape();
-    let mut table = vec![0; shape.words_needed()];
-    state.machine.memory.tree.write_words(&mut table);
     let answers: Vec<u8> = state
         .answers
         .iter()
         .flat_map(|answer| answer.bytes())
         .collect();
-    let verdict = check(shape.p(), shape.l(), records, &answers, &table);
+    let verdict = check(shape.p(), shape.l(), records, &answers, table);
     assert_eq!(verdict, Ok(()), "{records:?}");
 }
 
 const PUT: Operation = Operation::Put(5);
 const OTHER: Operation = Operation::Put(6);
 const TAKE: Operation = Operation::Take;
+
+/// The search met so many states, growth, and superblocks of both sorts at these heights.
+fn assert_states(search: &Search, least: usize, heights: Range<usize>) {
+    let states = search.seen.len();
+    assert!(states > least, "{states} states");
+    assert!(search.grown > 0);
+    search.met.assert_both(heights);
+}
 
 /// The root blocks of both operations and what the take got, over all end states.
 fn endings(search: &Search) -> BTreeSet<(u32, u32, String)> {
@@ -135,7 +162,7 @@ fn endings(search: &Search) -> BTreeSet<(u32, u32, String)> {
 #[test]
 fn one_put_and_one_take_of_two_processes() {
     let search = Search::new(vec![vec![PUT], vec![TAKE]], true).explore(2, 1);
-    assert!(search.seen.len() > 2000, "{} states", search.seen.len());
+    assert_states(&search, 2000, 0..1);
     let expected = [
         (1, 1, "Value(5)".to_string()),
         (1, 2, "Value(5)".to_string()),
@@ -149,7 +176,7 @@ fn other_pairs_of_kinds() {
     for pair in [[PUT, OTHER], [TAKE, PUT], [TAKE, TAKE]] {
         let operations = pair.iter().map(|&operation| vec![operation]).collect();
         let search = Search::new(operations, true).explore(2, 1);
-        assert!(search.seen.len() > 2000, "{} states", search.seen.len());
+        assert_states(&search, 2000, 0..1);
     }
 }
 
@@ -158,7 +185,7 @@ fn two_operations_against_one() {
     for two in [[PUT, TAKE], [TAKE, PUT], [TAKE, TAKE]] {
         for one in [OTHER, TAKE] {
             let search = Search::new(vec![two.to_vec(), vec![one]], true).explore(2, 2);
-            assert!(search.seen.len() > 15_000, "{} states", search.seen.len());
+            assert_states(&search, 15_000, 0..1);
         }
     }
 }
@@ -167,7 +194,7 @@ fn two_operations_against_one() {
 fn two_operations_against_two() {
     let operations = vec![vec![PUT, TAKE], vec![OTHER, TAKE]];
     let search = Search::new(operations, false).explore(2, 2);
-    assert!(search.seen.len() > 400_000, "{} states", search.seen.len());
+    assert_states(&search, 400_000, 0..1);
     assert!(search.logs.len() > 1000, "{} logs", search.logs.len());
 }
 
@@ -177,7 +204,9 @@ fn assert_distant_pair(p: u32, taker: usize) {
     operations[0] = vec![PUT];
     operations[taker] = vec![TAKE];
     let search = Search::new(operations, true).explore(p, 1);
-    assert!(search.seen.len() > 3000, "{} states", search.seen.len());
+    // Below the node where they meet each has its nodes alone.
+    let met = taker.ilog2() as usize..p.ilog2() as usize;
+    assert_states(&search, 3000, met);
     let limit = 36 * p.ilog2() as u16 + 1;
     assert!(search.most_steps <= limit);
 }

@@ -1,7 +1,7 @@
 //! List the order: its records, its output lengths and its table.
 
 use crate::support::{
-    list_with, mixed_list, needed, pattern_bytes, run_amply, then_pattern_bytes, SPARE,
+    list_with, mixed_list, needed, order_of, pattern_bytes, run_amply, then_pattern_bytes, SPARE,
 };
 use reference::list::ListResult;
 use reference::lists::List;
@@ -9,13 +9,6 @@ use reference::lists::List;
 fn listed(refusal: u32, length: usize) -> ListResult {
     let length = length as u64;
     ListResult { refusal, length }
-}
-
-/// The list of a run that Run takes whole, with ample output.
-fn order_of(p: u32, l: u32, list: &[u8]) -> Vec<u8> {
-    let after = list_with(p, l, list, needed(p, l), 8 * (p * l) as usize + SPARE);
-    assert_eq!(after.result.refusal, 0);
-    after.bytes[..after.result.length as usize].to_vec()
 }
 
 #[test]

@@ -1,10 +1,17 @@
-//! Helpers of the tests: buffers with a pattern, calls on them, mixed lists.
+//! Helpers of the tests: buffers with a pattern, calls on them, mixed and hostile lists.
 
 use reference::check::{check_log, CheckResult};
+use reference::growth::Past;
 use reference::list::{list_order, ListResult};
+use reference::lists::List;
+use reference::machine::Machine;
+use reference::process::StepName;
 use reference::run::{run, RunResult};
-use reference::schedules::{schedule, Pace, Plan};
-use reference::tree::Shape;
+use reference::schedules::{schedule, Ending, Pace, Plan};
+use reference::superblocks::{placed, supers_near, Placed};
+use reference::tree::{Shape, BLOCK_WORDS};
+use std::fmt::Debug;
+use std::ops::Range;
 
 /// Words and bytes lent past those needed; they must keep their content.
 pub const SPARE: usize = 21;
@@ -72,6 +79,33 @@ pub fn written(after: &After<RunResult>) -> &[u8] {
     &after.bytes[..16 * after.result.answers as usize]
 }
 
+/// The order list of a run that Run takes whole, with ample output.
+pub fn order_of(p: u32, l: u32, list: &[u8]) -> Vec<u8> {
+    let after = list_with(p, l, list, needed(p, l), 8 * (p * l) as usize + SPARE);
+    assert_eq!(after.result.refusal, 0);
+    after.bytes[..after.result.length as usize].to_vec()
+}
+
+/// The past after a list that runs without refusal.
+pub fn past(p: u32, l: u32, list: &[u8]) -> Past {
+    let ran = run_amply(p, l, list);
+    assert_eq!(ran.result.refusal, 0);
+    Past::left(Shape::new(p, l).unwrap(), &ran.table, &order_of(p, l, list))
+}
+
+/// The needed words that a machine stands for.
+pub fn table_of(machine: &Machine) -> Vec<u32> {
+    let mut table = vec![0; machine.shape().words_needed()];
+    machine.memory.tree.write_words(&mut table);
+    table
+}
+
+/// The words of a node's block.
+pub fn block_words(shape: Shape, table: &mut [u32], node: u32, place: u32) -> &mut [u32] {
+    let start = shape.node_start(node) + BLOCK_WORDS * place as usize;
+    &mut table[start..start + BLOCK_WORDS]
+}
+
 /// The expected buffers: the start of one, then the pattern.
 pub fn then_pattern_words(start: &[u32], count: usize) -> Vec<u32> {
     [start, &pattern_words(count)[start.len()..]].concat()
@@ -81,7 +115,97 @@ pub fn then_pattern_bytes(start: &[u8], count: usize) -> Vec<u8> {
     [start, &pattern_bytes(count)[start.len()..]].concat()
 }
 
+pub fn placed_at(node: u32, place: u32, superblock: u32, super_word: u32) -> Placed {
+    Placed {
+        node,
+        place,
+        superblock,
+        super_word,
+    }
+}
+
+/// Superblocks met at their subblock's super and one place later, by height of the subblock.
+#[derive(Default, Debug)]
+pub struct Met {
+    pub at_super: [u64; 3],
+    pub one_later: [u64; 3],
+}
+
+impl Met {
+    /// Checks that every superblock in the table is near, and counts them.
+    pub fn assert_near(&mut self, shape: Shape, table: &[u32], told: impl Debug) {
+        assert_eq!(supers_near(shape, table), Ok(()), "{told:?}");
+        for block in placed(shape, table) {
+            let height = shape.height(block.node) as usize;
+            if block.superblock == block.super_word {
+                self.at_super[height] += 1;
+            } else {
+                self.one_later[height] += 1;
+            }
+        }
+    }
+
+    /// Both cases came at each of these heights.
+    pub fn assert_both(&self, heights: Range<usize>) {
+        for height in heights {
+            let met = (self.at_super[height], self.one_later[height]);
+            assert!(met.0 > 0 && met.1 > 0, "height {height} of {self:?}");
+        }
+    }
+}
+
+/// Two puts and two takes of p = 2, 16 records each, one after the other: root blocks 1 to 4.
+pub fn one_by_one() -> Vec<u8> {
+    let puts = List::new().put(0, 5).steps(0, 15).put(1, 6).steps(1, 15);
+    puts.take(0).steps(0, 15).take(1).steps(1, 15).bytes()
+}
+
 /// A mixed list in which all operations finish.
 pub fn mixed_list(p: u32, l: u32, seed: u64) -> Vec<u8> {
     schedule(&Plan::new(p, l, Pace::Bursts(9), seed))
+}
+
+const LIMITS: [u32; 7] = [1, 2, 3, 5, 11, 24, 50];
+
+/// Plans for every p, L and mix, with lists that end whole and cut lists.
+pub fn every_shape(pace: Pace, seeds: u64) -> Vec<Plan> {
+    let mut plans = Vec::new();
+    for p in [2, 4, 8] {
+        for l in LIMITS {
+            for puts_of_8 in [1, 4, 7] {
+                for seed in 0..seeds {
+                    let cut = 1 + (seed as usize * 131) % (20 * (p * l) as usize);
+                    let ending = if seed % 2 == 0 {
+                        Ending::AllFinish
+                    } else {
+                        Ending::Cut(cut)
+                    };
+                    let plan = Plan::new(p, l, pace, seed).puts_of_8(puts_of_8);
+                    plans.push(plan.ending(ending));
+                }
+            }
+        }
+    }
+    plans
+}
+
+/// Plans that stop at one named step, before and after it, with each ending.
+pub fn stalls(p: u32, step: StepName) -> Vec<Plan> {
+    let mut plans = Vec::new();
+    for after in [false, true] {
+        for l in [1, 2, 3, 7, 20] {
+            for seed in 0..12 {
+                let ending = match seed % 3 {
+                    0 => Ending::AllFinish,
+                    1 => Ending::Cut(30 * (1 + seed as usize)),
+                    _ => Ending::Abandoned,
+                };
+                let pace = Pace::Stalls { step, after };
+                let puts_of_8 = [1, 4, 7][seed as usize / 3 % 3];
+                let plan = Plan::new(p, l, pace, seed).puts_of_8(puts_of_8);
+                plans.push(plan.ending(ending));
+            }
+        }
+    }
+    plans
 }

@@ -1,0 +1,43 @@
+-- What is known of a call that is not turned down: no test before its first record failed. Used by proofs; no promise cites it.
+use Prim.Native.Nat.{ℕ, _%_, _≤_}
+use mathlib.Core.Path.{_≡_, refl}
+use mathlib.Core.Bool.{Bool, true, false, not, false≢true}
+use lib.Dec.{ltb, eqb}
+use borrow.Author.Tests.{eqb-true, ltb-false, not-false}
+use Rattle.base.specs.Choice.{if_then_else_}
+use Rattle.record.specs.StepRecords.{stepSize}
+use Rattle.tree.specs.Layout.{wordsNeeded}
+use Rattle.steps.specs.Process.{processesAllowed, operationsAllowed}
+use Rattle.rules.specs.declared.Refusal.the-variants.{None, Processes, Operations, TableShort, RecordsTorn}
+use Rattle.rules.specs.Refusals.{refusalNumber, accepted, shapeFor, torn, callRefusal}
+
+-- bytes that are not torn are whole records
+pub whole-records : (bytes : ℕ) → torn stepSize bytes ≡ false → bytes % 8 ≡ 0
+unfolding torn stepSize
+whole-records bytes e = eqb-true (bytes % 8) 0 (not-false (eqb (bytes % 8) 0) e)
+
+tests : (a b c d : Bool) → accepted (if a then Processes else if b then Operations else if c then TableShort else if d then RecordsTorn else None) ≡ true
+    → (a ≡ false) × (b ≡ false) × (c ≡ false) × (d ≡ false)
+unfolding accepted refusalNumber
+tests true b c d e = absurd (false≢true e)
+tests false true c d e = absurd (false≢true e)
+tests false false true d e = absurd (false≢true e)
+tests false false false true e = absurd (false≢true e)
+tests false false false false e = (refl, refl, refl, refl)
+
+module _ (p l words bytes : ℕ) (ok : accepted (callRefusal p l words bytes) ≡ true) where
+  passed : (not (processesAllowed p) ≡ false) × (not (operationsAllowed l) ≡ false) × (ltb words (wordsNeeded (shapeFor p l)) ≡ false) × (torn stepSize bytes ≡ false)
+  unfolding callRefusal
+  passed = tests (not (processesAllowed p)) (not (operationsAllowed l)) (ltb words (wordsNeeded (shapeFor p l))) (torn stepSize bytes) ok
+
+  pub accepted-whole : torn stepSize bytes ≡ false
+  accepted-whole = passed .3
+
+  pub accepted-processes : processesAllowed p ≡ true
+  accepted-processes = not-false (processesAllowed p) (passed .0)
+
+  pub accepted-operations : operationsAllowed l ≡ true
+  accepted-operations = not-false (operationsAllowed l) (passed .1)
+
+  pub accepted-enough : wordsNeeded (shapeFor p l) ≤ words
+  accepted-enough = ltb-false words (wordsNeeded (shapeFor p l)) (passed .2)

@@ -1,0 +1,96 @@
+-- What Run and list the order leave where they refuse nothing. Used by proofs; no promise cites it.
+use Prim.Native.Nat.{ℕ}
+use mathlib.Core.Path.{_≡_, refl, ap, sym, _∙_}
+use mathlib.Core.Bool.{Bool, true, false}
+use mathlib.Core.List.{List}
+use lib.ListN.{length, take, drop}
+use lib.Seq.{take-at}
+use Rattle.record.specs.StepRecords.{stepRecords}
+use Rattle.tree.specs.Layout.{wordsNeeded}
+use Rattle.tree.specs.Order.{rootOrder}
+use Rattle.rules.specs.declared.Refusal.{Refusal}
+use Rattle.rules.specs.declared.Refusal.the-variants.{None}
+use Rattle.rules.specs.Refusals.{refusalNumber, accepted, shapeFor, callRefusal}
+use Rattle.rules.specs.Run.{RunLeaves, Played, play, runPlayed, runTurnedDown, run}
+use Rattle.rules.specs.ListOrder.{ListLeaves, orderList, playAll, listRefusal, listed, listPlayed, listOrder}
+use Rattle.rules.specs.Continuation.{orderLeft, listWritten}
+use Rattle.rules.proofs.Theorem.{run-is, table-is}
+
+accepted-none : (n : Refusal) → n ≡ None → accepted n ≡ true
+unfolding accepted refusalNumber
+accepted-none n e = rw e
+
+-- a test that would have been the call's refusal did not fail
+passed-test : (n answer : Refusal) → (accepted n ≡ false → answer ≡ n) → answer ≡ None → accepted n ≡ true
+passed-test n answer kept none = on (accepted n) refl
+  where
+    on : (b : Bool) → accepted n ≡ b → accepted n ≡ true
+    on true e = e
+    on false e = accepted-none n (sym (kept e) ∙ none)
+
+-- ---- Run on some bytes, without refusal
+module _ (p l : ℕ) (records table answers : List ℕ) where
+  abbrev n : Refusal
+  n = callRefusal p l (length table) (length records)
+
+  abbrev g : Played
+  g = play (shapeFor p l) (length answers) (stepRecords records)
+
+  run-down : accepted n ≡ false → run p l records table answers .refusal ≡ n
+  unfolding run runTurnedDown
+  run-down e = rw e
+
+  module _ (none : run p l records table answers .refusal ≡ None) where
+    pub run-accepted : accepted n ≡ true
+    run-accepted = passed-test n (run p l records table answers .refusal) run-down none
+
+    pub run-played : accepted (g .refusal) ≡ true
+    unfolding runPlayed
+    run-played = accepted-none (g .refusal) (sym (ap (λ (e : RunLeaves). e .refusal) (run-is p l records table answers run-accepted)) ∙ none)
+
+    pub run-order : orderLeft p l (run p l records table answers) ≡ rootOrder (shapeFor p l) (g .machine .memory .table)
+    unfolding orderLeft
+    run-order =
+        ap (λ (e : RunLeaves). rootOrder (shapeFor p l) (take (wordsNeeded (shapeFor p l)) (e .table))) (run-is p l records table answers run-accepted)
+        ∙ ap (rootOrder (shapeFor p l)) (table-is p l records table answers run-accepted)
+
+-- ---- list the order on some bytes, without refusal
+module _ (p l : ℕ) (records table output : List ℕ) where
+  abbrev listing : Refusal
+  listing = callRefusal p l (length table) (length records)
+
+  abbrev all : Played
+  all = playAll (shapeFor p l) (stepRecords records)
+
+  abbrev orders : List ℕ
+  orders = orderList (shapeFor p l) (all .machine .memory .table)
+
+  list-down : accepted listing ≡ false → listOrder p l records table output .refusal ≡ listing
+  unfolding listOrder listed
+  list-down e = rw e
+
+  module _ (none : listOrder p l records table output .refusal ≡ None) where
+    pub list-accepted : accepted listing ≡ true
+    list-accepted = passed-test listing (listOrder p l records table output .refusal) list-down none
+
+    list-is : listOrder p l records table output ≡ listPlayed (shapeFor p l) all table output
+    unfolding listOrder
+    list-is = rw list-accepted
+
+    -- the refusal of the records, or 10
+    final : listRefusal (all .refusal) (length orders) (length output) ≡ None
+    unfolding listPlayed listed
+    final = sym (ap (λ (e : ListLeaves). e .refusal) list-is) ∙ none
+
+    refused : accepted (all .refusal) ≡ false → listRefusal (all .refusal) (length orders) (length output) ≡ all .refusal
+    unfolding listRefusal
+    refused e = rw e
+
+    pub list-played : accepted (all .refusal) ≡ true
+    list-played = passed-test (all .refusal) (listRefusal (all .refusal) (length orders) (length output)) refused final
+
+    pub list-bytes : listWritten (listOrder p l records table output) ≡ orders
+    unfolding listWritten listPlayed listed
+    list-bytes =
+        ap (λ (e : ListLeaves). take (e .length) (e .output)) list-is
+        ∙ rw (accepted-none (listRefusal (all .refusal) (length orders) (length output)) final) (take-at orders (drop (length orders) output) (length orders) refl)

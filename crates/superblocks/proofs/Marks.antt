@@ -1,0 +1,149 @@
+-- What is known of supers: where the superblock of a block may stand, whatever the order of steps. Used by proofs; no promise cites it.
+use Prim.Native.Nat.{ℕ, _≤_, _<_}
+use native.Mathlib.Omega.{arith}
+use mathlib.Core.Path.{_≡_}
+use mathlib.Core.Logic.{_⊎_}
+use mathlib.Core.Bool.{false}
+use Rattle.tree.specs.Shape.{Shape, processes}
+use Rattle.tree.specs.Memory.{Memory, headOf, block}
+use Rattle.tree.specs.Sides.{Side, onLeft, onRight, childOf, endOf}
+use Rattle.tree.proofs.Nodes.{Node, Inner}
+use Rattle.tree.proofs.Presence.{Present}
+use Rattle.steps.specs.declared.Operation.{Operation}
+use Rattle.steps.specs.declared.Visit.{Visit}
+use Rattle.steps.specs.declared.After.{After}
+use Rattle.steps.specs.declared.After.the-variants.{Right, Ends, Again, Up}
+use Rattle.steps.specs.declared.Step.{Step}
+use Rattle.steps.specs.declared.Step.the-variants.{A, V1, V2, V3, R1, R2, R3, R4, R5, C1, C2, C3, C4, Q}
+use Rattle.steps.specs.declared.Status.{Status}
+use Rattle.steps.specs.declared.Status.the-variants.{Idle, Busy}
+use Rattle.steps.specs.Machine.{Machine, processOf}
+
+-- super of the block at place i of node v
+abbrev pub super : Shape → Memory → ℕ → ℕ → ℕ
+super s m v i = block s m v i .superblock
+
+-- ---- what a process has seen of the child on a side of the node that it visits
+pub data Sight : Type 0 where
+  unseen : Sight
+  -- it looks at place c, its head when it was read
+  looking : ℕ → Sight
+  -- it helps: it advances place h of node v
+  advances : ℕ → ℕ → Sight
+  -- the head has passed what was there
+  headPast : Sight
+  -- it has read end e
+  endRead : ℕ → Sight
+
+-- in an advance of place h of node v: of the left child, of the right, or of the visited node, where the visit is over
+abbrev pub helpSight : After → Side → ℕ → ℕ → Sight
+helpSight Right onLeft v h = advances v h
+helpSight Right onRight v h = unseen
+helpSight Ends onLeft v h = headPast
+helpSight Ends onRight v h = advances v h
+helpSight Again d v h = unseen
+helpSight Up d v h = unseen
+
+abbrev pub sight : Step → Side → Sight
+sight A d = unseen
+sight (V1 a w v h) d = helpSight a d v h
+sight (V2 a w v h x) d = helpSight a d v h
+sight (V3 a w v h) d = helpSight a d v h
+sight (R1 q v) d = unseen
+sight (R2 w) d = unseen
+sight (R3 w c) onLeft = looking c
+sight (R3 w c) onRight = unseen
+sight (R4 w) onLeft = headPast
+sight (R4 w) onRight = unseen
+sight (R5 w c) onLeft = headPast
+sight (R5 w c) onRight = looking c
+sight (C1 w) d = headPast
+sight (C2 w l) onLeft = endRead l
+sight (C2 w l) onRight = headPast
+sight (C3 w l r) onLeft = endRead l
+sight (C3 w l r) onRight = endRead r
+sight (C4 w n) onLeft = endRead (n .left)
+sight (C4 w n) onRight = endRead (n .right)
+sight Q d = unseen
+
+-- the visit that a step is in; the values of a step outside of any stand for none, and have seen nothing
+abbrev noVisit : Visit
+noVisit = record { node = 0; head = 0; second = false }
+
+abbrev pub visit : Step → Visit
+visit A = noVisit
+visit (V1 a w v h) = w
+visit (V2 a w v h x) = w
+visit (V3 a w v h) = w
+visit (R1 q v) = noVisit
+visit (R2 w) = w
+visit (R3 w c) = w
+visit (R4 w) = w
+visit (R5 w c) = w
+visit (C1 w) = w
+visit (C2 w l) = w
+visit (C3 w l r) = w
+visit (C4 w n) = w
+visit Q = noVisit
+
+-- what was seen takes in place i of the child on side d of node u
+abbrev pub Covers : Memory → Side → ℕ → ℕ → Sight → Type 0
+Covers m d u i unseen = Unit {0}
+Covers m d u i (looking c) = (i ≤ c) × (c ≤ headOf m (childOf d u))
+Covers m d u i (advances v h) = (i ≤ h) × (v ≡ childOf d u)
+Covers m d u i headPast = i < headOf m (childOf d u)
+Covers m d u i (endRead e) = i ≤ e
+
+-- and does so as the head rises
+pub covers-rises : (m n : Memory) (d : Side) (u i : ℕ) → headOf m (childOf d u) ≤ headOf n (childOf d u) → (x : Sight) → Covers m d u i x → Covers n d u i x
+covers-rises m n d u i l unseen p = tt
+covers-rises m n d u i l (looking c) p = (p .0, omega (arith, p .1))
+covers-rises m n d u i l (advances v h) p = p
+covers-rises m n d u i l headPast p = omega arith
+covers-rises m n d u i l (endRead e) p = p
+
+-- a process that visits node u with a head past z has seen place i of its child on side d, as far as it has looked there. Helping is what makes this so: R3 and R5 leave the
+-- head past every block that was present
+abbrev pub Seen : Memory → Side → ℕ → ℕ → ℕ → Status → Type 0
+Seen m d u i z Idle = Unit {0}
+Seen m d u i z (Busy o n) = visit n .node ≡ u → z < visit n .head → Covers m d u i (sight n d)
+
+-- ---- the marks of a block
+
+-- a process is at V2, about to set super of v's block i to z
+pub data Asks (v i z : ℕ) : Status → Type 0 where
+  asks : (o : Operation) (a : After) (w : Visit) → Asks v i z (Busy o (V2 a w v i z))
+
+-- a process is at V3, about to raise v's head past block i
+pub data Raises (v i : ℕ) : Status → Type 0 where
+  raises : (o : Operation) (a : After) (w : Visit) → Raises v i (Busy o (V3 a w v i))
+
+-- z is a mark of v's block i: its super, or while that is not set what a process is about to set it to
+abbrev pub Mark : Shape → Memory → (ℕ → Status) → ℕ → ℕ → ℕ → Type 0
+Mark s m at v i z = ((super s m v i ≡ z) × (1 ≤ z)) ⊎ ((super s m v i ≡ 0) × ((r : ℕ) × (r < processes s) × Asks v i z (at r)))
+
+-- what a mark z of place i of the child on side d of node u says: u's blocks before z end before i, those after z do not; nor will those that are being built
+pub record Near (s : Shape) (m : Memory) (at : ℕ → Status) (d : Side) (u i z : ℕ) : Type 0 where
+  pub first : 1 ≤ z
+  pub last : z ≤ headOf m u
+  pub before : (q : ℕ) → Present s m u q → q < z → endOf d (block s m u q) < i
+  pub after : (q : ℕ) → Present s m u q → z < q → i ≤ endOf d (block s m u q)
+  pub seen : (r : ℕ) → r < processes s → Seen m d u i z (at r)
+
+-- ---- the invariant
+
+-- below the root, super is set in the blocks below the head, and in those that the head is about to be raised past
+abbrev pub SupersSet : Shape → Memory → Type 0
+SupersSet s m = (v i : ℕ) → Node s v → 1 < v → 1 ≤ i → i < headOf m v → 1 ≤ super s m v i
+
+pub record MarksHold (s : Shape) (m : Memory) (at : ℕ → Status) : Type 0 where
+  pub set : SupersSet s m
+  pub raised : (r : ℕ) → r < processes s → (v i : ℕ) → 1 < v → Raises v i (at r) → 1 ≤ super s m v i
+  pub near : (d : Side) (u : ℕ) → Inner s u → (i z : ℕ) → Mark s m at (childOf d u) i z → Near s m at d u i z
+
+-- the processes of a machine
+abbrev pub statuses : Machine → ℕ → Status
+statuses m k = processOf m k .status
+
+abbrev pub SuperInvariant : Shape → Machine → Type 0
+SuperInvariant s m = MarksHold s (m .memory) (statuses m)

@@ -1,0 +1,2 @@
+pub mod Supers
+pub mod SuperRuns

@@ -1,0 +1,58 @@
+-- Runs that show where a superblock stands, as rows, and one theorem over the rows: both places are taken, so neither half of nearSuper says it alone.
+use Prim.Native.Nat.{ℕ}
+use mathlib.Core.Path.{_≡_, refl}
+use mathlib.Core.Bool.{Bool, true}
+use mathlib.Core.List.{List, [], _∷_, _++_, map}
+use lib.Dec.{leb}
+use Rattle.base.specs.Between.{between}
+use Rattle.tree.specs.Shape.{root, lastPlace}
+use Rattle.tree.specs.Layout.{wordsNeeded}
+use Rattle.tree.specs.Blocks.{blockAt}
+use Rattle.tree.specs.Sides.{Side, onLeft, onRight, childOf, endOf}
+use Rattle.tree.specs.Standing.{firstOf}
+use Rattle.rules.specs.Refusals.{shapeFor}
+use Rattle.rules.specs.Run.{run}
+use Rattle.rules.specs.All.{rules}
+use Rattle.rules.specs.KnownRuns.{put, steps, lent}
+use Rattle.superblocks.specs.Supers.{nearSuper}
+
+-- two processes of at most `most` operations, and what their records leave of the first block of the root's child on a side: its super, the first root block that ends there
+-- at it or later, and whether that is near
+pub record SuperRun : Type 0 where
+  pub most : ℕ
+  pub records : List ℕ
+  pub side : Side
+  pub super : ℕ
+  pub superblock : ℕ
+  pub near : Bool
+
+unfoldable pub superRun : ℕ → List ℕ → Side → ℕ → ℕ → Bool → SuperRun
+superRun l records d z q near = record { most = l; records = records; side = d; super = z; superblock = q; near = near }
+
+pub superRuns : List SuperRun
+superRuns =
+    -- a put alone: at super
+    superRun 1 (put 5 0 ++ steps 15 0) onLeft 1 1 true
+    -- process 1 has read where its block ends on the left when process 0 adds there and reads the root's head: one place later
+    ∷ superRun 1 (put 7 1 ++ steps 10 1 ++ put 5 0 ++ steps 2 0 ++ steps 5 1 ++ steps 13 0) onLeft 1 2 true
+    -- a block that comes after two root blocks
+    ∷ superRun 2 (put 5 0 ++ steps 15 0 ++ put 6 0 ++ steps 15 0 ++ put 7 1 ++ steps 15 1) onRight 3 3 true
+    -- process 0 is to set a super that process 1 has set, and that is the superblock's place, since then
+    ∷ superRun 1 (put 7 1 ++ steps 1 1 ++ put 5 0 ++ steps 9 0 ++ steps 14 1 ++ steps 2 0) onRight 1 1 true
+    -- a block that waits for its head, helped on the right and on the left
+    ∷ superRun 2 (put 7 1 ++ steps 3 1 ++ put 5 0 ++ steps 18 0 ++ put 6 0 ++ steps 15 0) onRight 1 1 true
+    ∷ superRun 2 (put 7 0 ++ steps 3 0 ++ put 5 1 ++ steps 18 1 ++ put 6 1 ++ steps 15 1) onLeft 1 1 true
+    ∷ []
+
+-- a row with what the definitions give in the place of what it says
+unfoldable pub replayed : SuperRun → SuperRun
+replayed r =
+    let s = shapeFor 2 (r .most) in
+    let t = run 2 (r .most) (r .records) (lent (wordsNeeded s)) (lent 64) .table in
+    let z = blockAt s t (childOf (r .side) root) 1 .superblock in
+    let q = firstOf (λ b. leb 1 (endOf (r .side) (blockAt s t root b))) (between 0 (lastPlace s root)) in
+    superRun (r .most) (r .records) (r .side) z q (nearSuper q z)
+
+pub superRunsHold : map replayed superRuns ≡ superRuns
+unfolding rules put steps lent nearSuper superRun superRuns replayed
+superRunsHold = refl

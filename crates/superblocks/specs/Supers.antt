@@ -1,0 +1,28 @@
+-- Where a block's direct superblock stands, the parent's block that has it as a subblock: once present, at the block's
+-- super or one place later.
+use Prim.Native.Nat.{ℕ, _+_, _≤_, _<_}
+use mathlib.Core.Path.{_≡_}
+use mathlib.Core.Bool.{Bool, true, false, _&&_, _||_}
+use mathlib.Core.List.{List}
+use lib.ListN.{take}
+use lib.Dec.{leb, eqb}
+use Rattle.tree.specs.Shape.{Shape, processes, root}
+use Rattle.tree.specs.Layout.{wordsNeeded}
+use Rattle.tree.specs.Blocks.{blockAt, absent}
+use Rattle.tree.specs.Sides.{Side, childOf, Subblock}
+use Rattle.rules.specs.Refusals.{shapeFor}
+use Rattle.rules.specs.Run.{RunLeaves}
+
+-- super z is set, and place q is z or one place later
+unfoldable pub nearSuper : ℕ → ℕ → Bool
+nearSuper q z = leb 1 z && (eqb q z || eqb q (z + 1))
+
+-- of every node v above the leaves and its child on each side: where the child's block i is a subblock of v's present
+-- block q, its super is set, and q is its super or its super + 1
+pub record SupersNear (s : Shape) (t : List ℕ) : Type 0 where
+  pub near : (d : Side) (v q i : ℕ) → root ≤ v → v < processes s → absent (blockAt s t v q) ≡ false → Subblock s t d v q i
+      → nearSuper q (blockAt s t (childOf d v) i .superblock) ≡ true
+
+-- of a call of Run: of the needed words that it left
+abbrev pub RunSupers : ℕ → ℕ → RunLeaves → Type 0
+RunSupers p l e = SupersNear (shapeFor p l) (take (wordsNeeded (shapeFor p l)) (e .table))
