@@ -7,7 +7,8 @@ use mathlib.Core.List.{List, [], _∷_, _++_, map, flatMap, append-nil, append-a
 use lib.ListN.{length, getD, List·getD-append}
 use lib.Seq.{getD-append-add}
 use Rattle.base.specs.Between.{following, between}
-use Rattle.base.proofs.All.{All, all-append}
+use Rattle.base.specs.Members.{All}
+use Rattle.base.proofs.Members.{all-append}
 
 -- ---- the numbers
 pub between-self : (i : ℕ) → between i i ≡ []

@@ -1,5 +1,5 @@
 pub mod Cases
-pub mod All
+pub mod Members
 pub mod Splice
 pub mod Stores
 pub mod Gather

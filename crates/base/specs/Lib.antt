@@ -1,3 +1,4 @@
 pub mod Choice
 pub mod Between
 pub mod Beginning
+pub mod Members

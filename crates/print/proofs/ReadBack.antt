@@ -7,7 +7,7 @@ use mathlib.Core.Path.{_≡_, refl, ap}
 use mathlib.Core.List.{List, [], _∷_, _++_, flatMap, append-assoc}
 use lib.ListN.{length}
 use lib.Seq.{take-at, drop-at}
-use Rattle.base.proofs.All.{All}
+use Rattle.base.specs.Members.{All}
 use Rattle.record.specs.declared.Reply.{Reply}
 use Rattle.record.specs.declared.Reply.the-variants.{Done, Value, Nothing}
 use Rattle.record.specs.declared.AnswerRecord.{AnswerRecord}

@@ -4,3 +4,4 @@ pub mod RunLaws
 pub mod CheckLaws
 pub mod ListLaws
 pub mod Exporting
+pub mod CallsGrow

@@ -10,7 +10,7 @@ use lib.Seq.{append-snoc, drop-drop, drop-cons}
 use lib.Dec.{eqb}
 use borrow.Author.Tests.{eq-eqb, ne-eqb}
 use Rattle.base.specs.Choice.{if_then_else_}
-use Rattle.base.proofs.All.{All}
+use Rattle.base.specs.Members.{All}
 use Rattle.record.specs.declared.Reply.{Reply}
 use Rattle.record.specs.declared.Reply.the-variants.{Done, Value, Nothing}
 use Rattle.tree.specs.Order.{OpId}

@@ -11,7 +11,7 @@ use lib.IntN.{pos, _-ℤ_}
 use borrow.Author.Tests.{lt-ltb, le-ltb}
 use Rattle.base.specs.Choice.{if_then_else_}
 use Rattle.base.specs.Between.{between}
-use Rattle.base.proofs.All.{All}
+use Rattle.base.specs.Members.{All}
 use Rattle.base.proofs.Gather.{gather-split, gather-at}
 use Rattle.record.specs.declared.Reply.the-variants.{Value, Nothing}
 use Rattle.tree.specs.declared.Block.{Block}

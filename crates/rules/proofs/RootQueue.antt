@@ -8,7 +8,7 @@ use mathlib.Core.List.{List, [], _++_, map, flatMap, map-append}
 use lib.ListN.{length, drop, length-map, length-drop, drop-of-length-le}
 use lib.Seq.{drop-drop, drop-nil, drop-append-le}
 use Rattle.base.specs.Between.{between}
-use Rattle.base.proofs.All.{All}
+use Rattle.base.specs.Members.{All}
 use Rattle.base.proofs.Gather.{gather-none, gather-last}
 use Rattle.tree.specs.declared.Block.{Block}
 use Rattle.tree.specs.declared.Kind.the-variants.{Puts, Takes}

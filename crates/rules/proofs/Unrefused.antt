@@ -5,28 +5,28 @@ use mathlib.Core.Bool.{Bool, true, false}
 use mathlib.Core.List.{List}
 use lib.ListN.{length, take, drop}
 use lib.Seq.{take-at}
+use borrow.Author.Tests.{eq-eqb}
 use Rattle.record.specs.StepRecords.{stepRecords}
 use Rattle.tree.specs.Layout.{wordsNeeded}
 use Rattle.tree.specs.Order.{rootOrder}
 use Rattle.rules.specs.declared.Refusal.{Refusal}
-use Rattle.rules.specs.declared.Refusal.the-variants.{None}
 use Rattle.rules.specs.Refusals.{refusalNumber, accepted, shapeFor, callRefusal}
 use Rattle.rules.specs.Run.{RunLeaves, Played, play, runPlayed, runTurnedDown, run}
 use Rattle.rules.specs.ListOrder.{ListLeaves, orderList, playAll, listRefusal, listed, listPlayed, listOrder}
 use Rattle.rules.specs.Continuation.{orderLeft, listWritten}
 use Rattle.rules.proofs.Theorem.{run-is, table-is}
 
-accepted-none : (n : Refusal) → n ≡ None → accepted n ≡ true
-unfolding accepted refusalNumber
-accepted-none n e = rw e
+accepted-zero : (n : Refusal) → refusalNumber n ≡ 0 → accepted n ≡ true
+unfolding accepted
+accepted-zero n e = eq-eqb (refusalNumber n) 0 e
 
 -- a test that would have been the call's refusal did not fail
-passed-test : (n answer : Refusal) → (accepted n ≡ false → answer ≡ n) → answer ≡ None → accepted n ≡ true
+passed-test : (n answer : Refusal) → (accepted n ≡ false → answer ≡ n) → refusalNumber answer ≡ 0 → accepted n ≡ true
 passed-test n answer kept none = on (accepted n) refl
   where
     on : (b : Bool) → accepted n ≡ b → accepted n ≡ true
     on true e = e
-    on false e = accepted-none n (sym (kept e) ∙ none)
+    on false e = accepted-zero n (ap refusalNumber (sym (kept e)) ∙ none)
 
 -- ---- Run on some bytes, without refusal
 module _ (p l : ℕ) (records table answers : List ℕ) where
@@ -40,13 +40,14 @@ module _ (p l : ℕ) (records table answers : List ℕ) where
   unfolding run runTurnedDown
   run-down e = rw e
 
-  module _ (none : run p l records table answers .refusal ≡ None) where
+  module _ (none : refusalNumber (run p l records table answers .refusal) ≡ 0) where
     pub run-accepted : accepted n ≡ true
     run-accepted = passed-test n (run p l records table answers .refusal) run-down none
 
     pub run-played : accepted (g .refusal) ≡ true
     unfolding runPlayed
-    run-played = accepted-none (g .refusal) (sym (ap (λ (e : RunLeaves). e .refusal) (run-is p l records table answers run-accepted)) ∙ none)
+    run-played =
+        accepted-zero (g .refusal) (sym (ap (λ (e : RunLeaves). refusalNumber (e .refusal)) (run-is p l records table answers run-accepted)) ∙ none)
 
     pub run-order : orderLeft p l (run p l records table answers) ≡ rootOrder (shapeFor p l) (g .machine .memory .table)
     unfolding orderLeft
@@ -69,7 +70,7 @@ module _ (p l : ℕ) (records table output : List ℕ) where
   unfolding listOrder listed
   list-down e = rw e
 
-  module _ (none : listOrder p l records table output .refusal ≡ None) where
+  module _ (none : refusalNumber (listOrder p l records table output .refusal) ≡ 0) where
     pub list-accepted : accepted listing ≡ true
     list-accepted = passed-test listing (listOrder p l records table output .refusal) list-down none
 
@@ -78,9 +79,9 @@ module _ (p l : ℕ) (records table output : List ℕ) where
     list-is = rw list-accepted
 
     -- the refusal of the records, or 10
-    final : listRefusal (all .refusal) (length orders) (length output) ≡ None
+    final : refusalNumber (listRefusal (all .refusal) (length orders) (length output)) ≡ 0
     unfolding listPlayed listed
-    final = sym (ap (λ (e : ListLeaves). e .refusal) list-is) ∙ none
+    final = sym (ap (λ (e : ListLeaves). refusalNumber (e .refusal)) list-is) ∙ none
 
     refused : accepted (all .refusal) ≡ false → listRefusal (all .refusal) (length orders) (length output) ≡ all .refusal
     unfolding listRefusal
@@ -93,4 +94,4 @@ module _ (p l : ℕ) (records table output : List ℕ) where
     unfolding listWritten listPlayed listed
     list-bytes =
         ap (λ (e : ListLeaves). take (e .length) (e .output)) list-is
-        ∙ rw (accepted-none (listRefusal (all .refusal) (length orders) (length output)) final) (take-at orders (drop (length orders) output) (length orders) refl)
+        ∙ rw (accepted-zero (listRefusal (all .refusal) (length orders) (length output)) final) (take-at orders (drop (length orders) output) (length orders) refl)

@@ -1,4 +1,5 @@
--- History only grows: the root order that a list of records leaves is the beginning of the one that it leaves when it is continued.
+-- History only grows: the root order that a list of records leaves is the beginning of the one that it leaves when it is
+-- continued.
 use Prim.Native.Nat.{ℕ}
 use mathlib.Core.Path.{_≡_}
 use mathlib.Core.List.{List, _++_}
@@ -6,8 +7,7 @@ use lib.ListN.{take}
 use Rattle.base.specs.Beginning.{IsBeginning}
 use Rattle.tree.specs.Layout.{wordsNeeded}
 use Rattle.tree.specs.Order.{Placed, rootOrder}
-use Rattle.rules.specs.declared.Refusal.the-variants.{None}
-use Rattle.rules.specs.Refusals.{shapeFor}
+use Rattle.rules.specs.Refusals.{refusalNumber, shapeFor}
 use Rattle.rules.specs.Run.{RunLeaves, run}
 use Rattle.rules.specs.ListOrder.{ListLeaves, listOrder}
 
@@ -19,12 +19,14 @@ orderLeft p l e = rootOrder (shapeFor p l) (take (wordsNeeded (shapeFor p l)) (e
 unfoldable pub listWritten : ListLeaves → List ℕ
 listWritten e = take (e .length) (e .output)
 
--- two calls without refusal, of which the first left e and the second, later, f
+-- of two calls of Run, and of two of list the order: if both return 0, no refusal, what the first left is the beginning
+-- of what the second left
 abbrev pub OrderGrows : ℕ → ℕ → RunLeaves → RunLeaves → Type 0
-OrderGrows p l e f = e .refusal ≡ None → f .refusal ≡ None → IsBeginning (orderLeft p l e) (orderLeft p l f)
+OrderGrows p l e f =
+    refusalNumber (e .refusal) ≡ 0 → refusalNumber (f .refusal) ≡ 0 → IsBeginning (orderLeft p l e) (orderLeft p l f)
 
 abbrev pub ListGrows : ListLeaves → ListLeaves → Type 0
-ListGrows e f = e .refusal ≡ None → f .refusal ≡ None → IsBeginning (listWritten e) (listWritten f)
+ListGrows e f = refusalNumber (e .refusal) ≡ 0 → refusalNumber (f .refusal) ≡ 0 → IsBeginning (listWritten e) (listWritten f)
 
 -- of p, L, the bytes of a list and those of its continuation, whatever table and buffer each call is lent
 pub record HistoryGrows (p l : ℕ) (records more : List ℕ) : Type 0 where

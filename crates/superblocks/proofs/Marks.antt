@@ -1,4 +1,5 @@
--- What is known of supers: where the superblock of a block may stand, whatever the order of steps. Used by proofs; no promise cites it.
+-- The invariant of supers: where the superblock of a block stands or may still come to stand, whatever the order of
+-- steps. Used by proofs; no promise cites it.
 use Prim.Native.Nat.{ℕ, _≤_, _<_}
 use native.Mathlib.Omega.{arith}
 use mathlib.Core.Path.{_≡_}
@@ -86,7 +87,7 @@ visit (C3 w l r) = w
 visit (C4 w n) = w
 visit Q = noVisit
 
--- what was seen takes in place i of the child on side d of node u
+-- what was seen covers place i of the child on side d of node u
 abbrev pub Covers : Memory → Side → ℕ → ℕ → Sight → Type 0
 Covers m d u i unseen = Unit {0}
 Covers m d u i (looking c) = (i ≤ c) × (c ≤ headOf m (childOf d u))
@@ -102,8 +103,8 @@ covers-rises m n d u i l (advances v h) p = p
 covers-rises m n d u i l headPast p = omega arith
 covers-rises m n d u i l (endRead e) p = p
 
--- a process that visits node u with a head past z has seen place i of its child on side d, as far as it has looked there. Helping is what makes this so: R3 and R5 leave the
--- head past every block that was present
+-- a process that visits node u with a head past z has seen place i of its child on side d, as far as it has looked
+-- there. Helping is what makes this so: R3 and R5 leave the head past every block that was present
 abbrev pub Seen : Memory → Side → ℕ → ℕ → ℕ → Status → Type 0
 Seen m d u i z Idle = Unit {0}
 Seen m d u i z (Busy o n) = visit n .node ≡ u → z < visit n .head → Covers m d u i (sight n d)
@@ -122,7 +123,8 @@ pub data Raises (v i : ℕ) : Status → Type 0 where
 abbrev pub Mark : Shape → Memory → (ℕ → Status) → ℕ → ℕ → ℕ → Type 0
 Mark s m at v i z = ((super s m v i ≡ z) × (1 ≤ z)) ⊎ ((super s m v i ≡ 0) × ((r : ℕ) × (r < processes s) × Asks v i z (at r)))
 
--- what a mark z of place i of the child on side d of node u says: u's blocks before z end before i, those after z do not; nor will those that are being built
+-- what a mark z of place i of the child on side d of node u says: u's blocks before z end before i, those after z do
+-- not; nor will those that are being built
 pub record Near (s : Shape) (m : Memory) (at : ℕ → Status) (d : Side) (u i z : ℕ) : Type 0 where
   pub first : 1 ≤ z
   pub last : z ≤ headOf m u
@@ -132,12 +134,13 @@ pub record Near (s : Shape) (m : Memory) (at : ℕ → Status) (d : Side) (u i z
 
 -- ---- the invariant
 
--- below the root, super is set in the blocks below the head, and in those that the head is about to be raised past
+-- below the root, super is set in the blocks below the head
 abbrev pub SupersSet : Shape → Memory → Type 0
 SupersSet s m = (v i : ℕ) → Node s v → 1 < v → 1 ≤ i → i < headOf m v → 1 ≤ super s m v i
 
 pub record MarksHold (s : Shape) (m : Memory) (at : ℕ → Status) : Type 0 where
   pub set : SupersSet s m
+  -- and in one that the head is about to be raised past
   pub raised : (r : ℕ) → r < processes s → (v i : ℕ) → 1 < v → Raises v i (at r) → 1 ≤ super s m v i
   pub near : (d : Side) (u : ℕ) → Inner s u → (i z : ℕ) → Mark s m at (childOf d u) i z → Near s m at d u i z
 

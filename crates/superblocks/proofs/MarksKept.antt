@@ -1,4 +1,4 @@
--- The start meets what is known of supers, and every begin and every step keeps it.
+-- The invariant of supers holds at the start, and every begin and every step keeps it.
 use Prim.Native.Nat.{ℕ, _≤_, _<_}
 use native.Mathlib.Omega.{arith}
 use mathlib.Core.Path.{_≡_, refl, ap, sym, _∙_, subst}

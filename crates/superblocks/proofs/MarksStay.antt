@@ -1,4 +1,5 @@
--- What is known of supers stays known after a step of any process, given what the step leaves its own process with. Used by proofs; no promise cites it.
+-- A step of any process keeps the invariant of supers, given what it leaves its own process with. Used by proofs; no
+-- promise cites it.
 use Prim.Native.Nat.{ℕ, zero, suc, _≤_, _<_}
 use native.Mathlib.Omega.{arith}
 use native.Mathlib.Decide.{ℕ-discrete, decLt, decLe}

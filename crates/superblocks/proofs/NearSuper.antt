@@ -1,13 +1,13 @@
--- A block's superblock stands at its super or one place later: the blocks before super end before it, and those after super do not.
+-- From the invariant of supers: a superblock stands at super or one place later, since the blocks before super end
+-- before the block, and those after super do not.
 use Prim.Native.Nat.{ℕ, _+_, _-_, _≤_, _<_}
 use native.Mathlib.Omega.{arith}
 use native.Mathlib.Decide.{ℕ-discrete, decLt}
-use mathlib.Core.Path.{_≡_, refl}
+use mathlib.Core.Path.{_≡_, refl, sym, _∙_}
 use mathlib.Core.Logic.{_⊎_, inl, inr}
-use mathlib.Core.Bool.{Bool, true, false, _||_}
+use mathlib.Core.Bool.{true, _||_, and-false, false≢true}
 use lib.Dec.{leb, eqb}
-use borrow.Author.Tests.{eq-eqb, ne-eqb, eqb-true, le-leb, leb-true}
-use Rattle.base.proofs.Cases.{and-true}
+use borrow.Author.Tests.{eq-eqb, ne-eqb, le-leb, lt-leb}
 use Rattle.tree.specs.Shape.{Shape}
 use Rattle.tree.specs.Sides.{Side, childOf, endOf}
 use Rattle.tree.specs.Memory.{Memory, block}
@@ -19,13 +19,22 @@ use Rattle.superblocks.specs.Supers.{nearSuper}
 use Rattle.superblocks.proofs.Marks.{super, Near, MarksHold}
 
 -- ---- what the test of a place says: super is set, and the place is super or super + 1, and no other
-one-of : (q z : ℕ) (b : Bool) → eqb q z ≡ b → (b || eqb q (z + 1)) ≡ true → (q ≡ z) ⊎ (q ≡ z + 1)
-one-of q z true e n = inl (eqb-true q z e)
-one-of q z false e n = inr (eqb-true q (z + 1) n)
-
-pub near-is : (q z : ℕ) → nearSuper q z ≡ true → (1 ≤ z) × ((q ≡ z) ⊎ (q ≡ z + 1))
+pub near-set : (q z : ℕ) → nearSuper q z ≡ true → 1 ≤ z
 unfolding nearSuper
-near-is q z e = let h = and-true (leb 1 z) (eqb q z || eqb q (z + 1)) e in (leb-true 1 z (h .0), one-of q z (eqb q z) refl (h .1))
+near-set q z e = on (decLt z 1)
+  where
+    on : Dec (z < 1) → 1 ≤ z
+    on (yes l) = absurd (false≢true (rw (lt-leb 1 z l) at e))
+    on (no l) = omega arith
+
+pub near-place : (q z : ℕ) → nearSuper q z ≡ true → (q ≡ z) ⊎ (q ≡ z + 1)
+unfolding nearSuper
+near-place q z e = on (ℕ-discrete q z) (ℕ-discrete q (z + 1))
+  where
+    on : Dec (q ≡ z) → Dec (q ≡ z + 1) → (q ≡ z) ⊎ (q ≡ z + 1)
+    on (yes f) d = inl f
+    on (no f) (yes g) = inr g
+    on (no f) (no g) = absurd (false≢true (sym (and-false (leb 1 z)) ∙ (rw (ne-eqb q z f, ne-eqb q (z + 1) g) at e)))
 
 pub near-within : (q z : ℕ) → 1 ≤ z → z ≤ q → q ≤ z + 1 → nearSuper q z ≡ true
 unfolding nearSuper

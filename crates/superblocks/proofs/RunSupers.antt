@@ -1,5 +1,5 @@
--- The theorem: every run leaves each superblock at its super or one place later, for general H of every list of records, and of what Run leaves for every p, L, list of bytes,
--- table and answer buffer.
+-- The theorem: every run leaves each superblock at its block's super or one place later, for general H of every list of
+-- records, and of what Run leaves for every p, L, list of bytes, table and answer buffer.
 use Prim.Native.Nat.{ℕ, _≤_}
 use native.Mathlib.Omega.{arith}
 use mathlib.Core.Path.{_≡_, sym, subst}
@@ -7,9 +7,11 @@ use mathlib.Core.Bool.{true}
 use mathlib.Core.List.{List}
 use lib.ListN.{length, take}
 use Rattle.base.proofs.Cases.{cases}
+use Rattle.base.proofs.Members.{all-between}
 use Rattle.record.specs.declared.StepRecord.{StepRecord}
 use Rattle.record.specs.StepRecords.{isStep, stepRecords}
 use Rattle.tree.specs.Shape.{Shape, root}
+use Rattle.tree.specs.Sides.{subblocks}
 use Rattle.tree.specs.Memory.{block}
 use Rattle.tree.proofs.Presence.{present-count}
 use Rattle.steps.specs.Machine.{Machine, processOf}
@@ -46,12 +48,13 @@ runs-supers s tall (more {rs} {r} l a) =
 
 -- ---- the words of the table
 supers-near : (s : Shape) (m : Machine) → Invariant s m → SuperInvariant s m → SupersNear s (m .memory .table)
-unfolding block root
+unfolding block root subblocks
 supers-near s m inv sup =
     record {
       near =
-          λ d v q i v1 vp here sub.
-          superblock-near s (m .memory) (statuses m) (inv .sound) sup d v (omega arith) i q (present-count _ here) (sub .after) (sub .upTo);
+          λ d v q v1 vp here.
+          all-between _ _ _
+          (λ i low high. superblock-near s (m .memory) (statuses m) (inv .sound) sup d v (omega arith) i q (present-count _ here) low high);
     }
 
 -- ---- a run of any records, to its end or up to its first refusal

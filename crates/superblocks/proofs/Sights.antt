@@ -1,5 +1,5 @@
--- What a step leaves its own process with, in what it has seen of a present block. R3 and R5 are where helping counts: a child's block that is there
--- is advanced first, so the head that C1 or C2 then reads is past it.
+-- What a step leaves its own process with, of a present block of a child that it has seen. Here helping counts: R3 and
+-- R5 advance a child's block that is there, so the head that C1 or C2 then reads is past it.
 use Prim.Native.Nat.{ℕ, _-_, _≤_, _<_}
 use native.Mathlib.Omega.{arith}
 use native.Mathlib.Decide.{ℕ-discrete}

@@ -1,4 +1,5 @@
--- Runs that show where a superblock stands, as rows, and one theorem over the rows: both places are taken, so neither half of nearSuper says it alone.
+-- Runs that show where a superblock stands, as rows, and one theorem over the rows. Both places are taken, so neither
+-- half of nearSuper says it alone; and a wrong step rule leaves the superblock of its row elsewhere.
 use Prim.Native.Nat.{ℕ}
 use mathlib.Core.Path.{_≡_, refl}
 use mathlib.Core.Bool.{Bool, true}
@@ -16,8 +17,8 @@ use Rattle.rules.specs.All.{rules}
 use Rattle.rules.specs.KnownRuns.{put, steps, lent}
 use Rattle.superblocks.specs.Supers.{nearSuper}
 
--- two processes of at most `most` operations, and what their records leave of the first block of the root's child on a side: its super, the first root block that ends there
--- at it or later, and whether that is near
+-- two processes of at most `most` operations, and what their records leave of the first block of the root's child on a
+-- side: its super, the first root block that ends there at it or later, and whether that is near
 pub record SuperRun : Type 0 where
   pub most : ℕ
   pub records : List ℕ
@@ -33,13 +34,14 @@ pub superRuns : List SuperRun
 superRuns =
     -- a put alone: at super
     superRun 1 (put 5 0 ++ steps 15 0) onLeft 1 1 true
-    -- process 1 has read where its block ends on the left when process 0 adds there and reads the root's head: one place later
+    -- process 1 has read where its root block ends on the left when process 0 adds there and reads the root's head: one
+    -- place later
     ∷ superRun 1 (put 7 1 ++ steps 10 1 ++ put 5 0 ++ steps 2 0 ++ steps 5 1 ++ steps 13 0) onLeft 1 2 true
     -- a block that comes after two root blocks
     ∷ superRun 2 (put 5 0 ++ steps 15 0 ++ put 6 0 ++ steps 15 0 ++ put 7 1 ++ steps 15 1) onRight 3 3 true
-    -- process 0 is to set a super that process 1 has set, and that is the superblock's place, since then
+    -- process 0 helps block 1 of process 1, and comes to set its super after the superblock is there: a set super stays
     ∷ superRun 1 (put 7 1 ++ steps 1 1 ++ put 5 0 ++ steps 9 0 ++ steps 14 1 ++ steps 2 0) onRight 1 1 true
-    -- a block that waits for its head, helped on the right and on the left
+    -- process 1 stops before it raises its head, and process 0 helps it on the right; and the same on the left
     ∷ superRun 2 (put 7 1 ++ steps 3 1 ++ put 5 0 ++ steps 18 0 ++ put 6 0 ++ steps 15 0) onRight 1 1 true
     ∷ superRun 2 (put 7 0 ++ steps 3 0 ++ put 5 1 ++ steps 18 1 ++ put 6 1 ++ steps 15 1) onLeft 1 1 true
     ∷ []

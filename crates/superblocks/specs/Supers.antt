@@ -6,10 +6,11 @@ use mathlib.Core.Bool.{Bool, true, false, _&&_, _||_}
 use mathlib.Core.List.{List}
 use lib.ListN.{take}
 use lib.Dec.{leb, eqb}
+use Rattle.base.specs.Members.{All}
 use Rattle.tree.specs.Shape.{Shape, processes, root}
 use Rattle.tree.specs.Layout.{wordsNeeded}
 use Rattle.tree.specs.Blocks.{blockAt, absent}
-use Rattle.tree.specs.Sides.{Side, childOf, Subblock}
+use Rattle.tree.specs.Sides.{Side, childOf, subblocks}
 use Rattle.rules.specs.Refusals.{shapeFor}
 use Rattle.rules.specs.Run.{RunLeaves}
 
@@ -17,11 +18,11 @@ use Rattle.rules.specs.Run.{RunLeaves}
 unfoldable pub nearSuper : ℕ → ℕ → Bool
 nearSuper q z = leb 1 z && (eqb q z || eqb q (z + 1))
 
--- of every node v above the leaves and its child on each side: where the child's block i is a subblock of v's present
--- block q, its super is set, and q is its super or its super + 1
+-- of every node v above the leaves, its child on each side and each present block q of v: all subblocks of q there have
+-- their super set, and q is that super or one place later
 pub record SupersNear (s : Shape) (t : List ℕ) : Type 0 where
-  pub near : (d : Side) (v q i : ℕ) → root ≤ v → v < processes s → absent (blockAt s t v q) ≡ false → Subblock s t d v q i
-      → nearSuper q (blockAt s t (childOf d v) i .superblock) ≡ true
+  pub near : (d : Side) (v q : ℕ) → root ≤ v → v < processes s → absent (blockAt s t v q) ≡ false
+      → All (λ i. nearSuper q (blockAt s t (childOf d v) i .superblock) ≡ true) (subblocks s t d v q)
 
 -- of a call of Run: of the needed words that it left
 abbrev pub RunSupers : ℕ → ℕ → RunLeaves → Type 0

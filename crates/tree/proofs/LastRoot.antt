@@ -9,7 +9,7 @@ use mathlib.Core.List.{flatMap}
 use lib.ListN.{length, length-append}
 use Rattle.base.specs.Between.{between}
 use Rattle.base.proofs.Cases.{cases}
-use Rattle.base.proofs.All.{All}
+use Rattle.base.specs.Members.{All}
 use Rattle.base.proofs.Gather.{gather-all, gather-measure}
 use Rattle.tree.specs.declared.Kind.{Kind}
 use Rattle.tree.specs.Shape.{Shape, processes, root, leafOf, lastPlace}

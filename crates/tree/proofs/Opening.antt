@@ -11,7 +11,8 @@ use borrow.Author.Tests.{lt-ltb, le-ltb, ltb-true}
 use Rattle.base.specs.Choice.{if_then_else_}
 use Rattle.base.specs.Between.{between}
 use Rattle.base.proofs.Cases.{cases}
-use Rattle.base.proofs.All.{All, all-append}
+use Rattle.base.specs.Members.{All}
+use Rattle.base.proofs.Members.{all-append}
 use Rattle.base.proofs.Gather.{gather-none, gather-same, gather-all, gather-measure}
 use Rattle.tree.specs.declared.Block.{Block}
 use Rattle.tree.specs.declared.Kind.{Kind}
@@ -20,7 +21,7 @@ use Rattle.tree.specs.Shape.{Shape, processes, leafOf}
 use Rattle.tree.specs.Memory.{Memory, block}
 use Rattle.tree.specs.Blocks.{blockAt}
 use Rattle.tree.specs.Order.{OpId, total, opened}
-use Rattle.tree.specs.Sides.{Side, onLeft, onRight, childOf, endOf}
+use Rattle.tree.specs.Sides.{subblocks, Side, onLeft, onRight, childOf, endOf}
 use Rattle.tree.proofs.Nodes.{Node, Inner, inner-node, child-node, leaf-node}
 use Rattle.tree.proofs.Presence.{Present, Written}
 use Rattle.tree.proofs.Sound.{Follows, AddsOne, Sound, before-written, sums-at}
@@ -43,12 +44,12 @@ module _ (s : Shape) (m : Memory) (κ : Kind) where
   opened-leaf v i = rw (less-one i)
 
   pub opened-inner : (h v i : ℕ) → opened s (m .table) κ (suc h) v (suc i) ≡ openedOn s m κ h v i onLeft ++ openedOn s m κ h v i onRight
-  unfolding opened block
+  unfolding opened subblocks block
   opened-inner h v i = rw (less-one i)
 
   -- block 0 opens to nothing: no block is before it
   pub opened-zero : (h v : ℕ) → opened s (m .table) κ h v 0 ≡ []
-  unfolding opened
+  unfolding opened subblocks
   opened-zero zero v = rw (le-ltb (total κ (blockAt s (m .table) v 0)) (total κ (blockAt s (m .table) v 0)) (omega arith))
   opened-zero (suc h) v =
       ap₂ _++_ (gather-none (opened s (m .table) κ h (childOf onLeft v)) (endOf onLeft (blockAt s (m .table) v 0)))

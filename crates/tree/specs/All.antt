@@ -4,11 +4,12 @@ use Rattle.base.specs.Between.{following, between}
 use Rattle.tree.specs.Shape.{processes, root, leftOf, rightOf, parentOf, leafOf, heightIn, heightOf, lastPlace}
 use Rattle.tree.specs.Layout.{blockWords, partWords, partStart, wordsNeeded, partOf, withPart}
 use Rattle.tree.specs.Blocks.{wordIn, blockIn, wordsOf, withBlock, blockAt, withBlockAt, absent}
+use Rattle.tree.specs.Sides.{subblocks}
 use Rattle.tree.specs.Memory.{headOf, block, write, writeIfAbsent, withSuper, setSuper, raise}
 use Rattle.tree.specs.Size.{rootSize}
 use Rattle.tree.specs.Order.{total, opened, inRoot, lastAmong, lastRoot, placed, blockOrder, rootOrder, rootOperations, rootPuts}
 use Rattle.tree.specs.Standing.{same, times, standsIn, firstOf, rootBlockOf, rankIn}
 
 unfoldable pub trees : Unit {0}
-unfolding flatMap following between processes root leftOf rightOf parentOf leafOf heightIn heightOf lastPlace blockWords partWords partStart wordsNeeded partOf withPart wordIn blockIn wordsOf withBlock blockAt withBlockAt absent headOf block write writeIfAbsent withSuper setSuper raise rootSize total opened inRoot lastAmong lastRoot placed blockOrder rootOrder rootOperations rootPuts same times standsIn firstOf rootBlockOf rankIn
+unfolding flatMap following between processes root leftOf rightOf parentOf leafOf heightIn heightOf lastPlace blockWords partWords partStart wordsNeeded partOf withPart wordIn blockIn wordsOf withBlock blockAt withBlockAt absent subblocks headOf block write writeIfAbsent withSuper setSuper raise rootSize total opened inRoot lastAmong lastRoot placed blockOrder rootOrder rootOperations rootPuts same times standsIn firstOf rootBlockOf rankIn
 trees = tt

@@ -9,6 +9,7 @@ use Rattle.tree.specs.declared.Kind.{Kind}
 use Rattle.tree.specs.declared.Kind.the-variants.{Puts, Takes}
 use Rattle.tree.specs.Shape.{Shape, processes, root, leftOf, rightOf, lastPlace}
 use Rattle.tree.specs.Blocks.{blockAt, absent}
+use Rattle.tree.specs.Sides.{onLeft, onRight, subblocks}
 
 -- an operation: its process, and its serial there, which is its place in the process's leaf
 pub record OpId : Type 0 where
@@ -20,16 +21,13 @@ unfoldable pub total : Kind → Block → ℕ
 total Puts b = b .puts
 total Takes b = b .takes
 
--- The operations of a kind in block b of node v, a node of height k. Subblocks of v's block b in a child are those after the end in block b − 1, up to the end in b:
--- first the operations of the left subblocks in place order, then those of the right, each opened likewise. A leaf's block gives the operation that its totals add.
+-- The operations of a kind in block b of node v, a node of height k: first those of the left subblocks in place order,
+-- then those of the right, each opened likewise. A leaf's block gives the operation that its totals add.
 unfoldable pub opened : Shape → List ℕ → Kind → ℕ → ℕ → ℕ → List OpId
 opened s t c zero v b =
     if ltb (total c (blockAt s t v (b - 1))) (total c (blockAt s t v b)) then record { process = v - processes s; serial = b } ∷ [] else []
 opened s t c (suc k) v b =
-    let x = blockAt s t v (b - 1) in
-    let y = blockAt s t v b in
-    flatMap (opened s t c k (leftOf v)) (between (x .left) (y .left))
-    ++ flatMap (opened s t c k (rightOf v)) (between (x .right) (y .right))
+    flatMap (opened s t c k (leftOf v)) (subblocks s t onLeft v b) ++ flatMap (opened s t c k (rightOf v)) (subblocks s t onRight v b)
 
 -- the operations of a kind in root block b
 unfoldable pub inRoot : Shape → List ℕ → Kind → ℕ → List OpId

@@ -61,7 +61,8 @@ pub struct Played {
 ///
 /// A call turned down with 1 to 4 changes nothing. Otherwise the run ends before the first record
 /// that is turned down. Table words past [`table_words`] and bytes past the answers keep their
-/// content.
+/// content. In the table a block below the root that stands in a block of its parent has that
+/// block's place as its super, or the place before it.
 ///
 /// ```
 /// let step_of_an_idle_process = [0; 8];
@@ -84,7 +85,9 @@ pub fn run(p: u32, l: u32, records: &[u8], table: &mut [u32], answers: &mut [u8]
 /// Plays the records, writes the order records of the root order, and gives their length in bytes.
 ///
 /// A refusal writes no output. The work table is left as [`run`] with room for every answer leaves
-/// it, and output bytes past the list keep their content.
+/// it, and output bytes past the list keep their content. The order only grows: if records, and the
+/// same records with more after them, are both listed without a refusal, the first list is the
+/// beginning of the second.
 ///
 /// ```
 /// let mut records = vec![0, 1, 0, 0, 7, 0, 0, 0];
@@ -96,6 +99,13 @@ pub fn run(p: u32, l: u32, records: &[u8], table: &mut [u32], answers: &mut [u8]
 /// assert_eq!(output, [0, 1, 1, 0, 1, 0, 0, 0, 0]);
 /// let refused = otq::list_order(2, 1, &records, &mut table, &mut output[..7]);
 /// assert_eq!(refused, Err(otq::Refusal::OutputShort));
+///
+/// records.extend([1, 2, 0, 0, 0, 0, 0, 0]);
+/// records.extend([1, 0, 0, 0, 0, 0, 0, 0].repeat(15));
+/// let mut longer = [0; 16];
+/// let length = otq::list_order(2, 1, &records, &mut table, &mut longer);
+/// assert_eq!(length, Ok(16));
+/// assert!(longer.starts_with(&output[..8]));
 /// ```
 pub fn list_order(
     p: u32,

@@ -33,6 +33,18 @@ const NO_HELP_ON_THE_RIGHT: Spoil = |_, mut step| {
     step
 };
 
+/// V2 has the node's own head in the place of its parent's.
+const OWN_HEAD: Spoil = |memory, mut step| {
+    if let Step::V2 {
+        advance,
+        parent_head,
+    } = &mut step
+    {
+        *parent_head = memory.head(advance.node);
+    }
+    step
+};
+
 /// V2 sets super even if it is set.
 const SUPER_SET_AGAIN: Spoil = |memory, step| {
     if let Step::V2 { advance, .. } = step {
@@ -81,6 +93,16 @@ fn without_help_the_superblock_comes_two_later() {
     assert_eq!(supers_near(shape, &right), Err(placed_at(3, 1, 3, 1)));
     let left = table_by(NO_HELP_ON_THE_LEFT, shape, stopped(0, 1));
     assert_eq!(supers_near(shape, &left), Err(placed_at(2, 1, 3, 1)));
+}
+
+#[test]
+fn with_its_own_head_as_super_the_superblock_comes_later() {
+    let shape = Shape::new(2, 2).unwrap();
+    let two_before = List::new().put(0, 5).steps(0, 15).put(0, 6).steps(0, 15);
+    let list = two_before.put(1, 7).steps(1, 15);
+    let near = |spoil| supers_near(shape, &table_by(spoil, shape, list.clone()));
+    assert_eq!(near(RIGHT), Ok(()));
+    assert_eq!(near(OWN_HEAD), Err(placed_at(3, 1, 3, 1)));
 }
 
 #[test]
