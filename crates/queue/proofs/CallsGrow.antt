@@ -16,20 +16,20 @@ use Rattle.queue.specs.declared.OtqRun.{OtqRun}
 use Rattle.queue.specs.declared.OtqList.{OtqList}
 use Rattle.queue.specs.Exported.{RunExport, ListExport}
 
--- each call is lent buffers of its own, x and y, and leaves table, and answers or output
-module _ (p l : ℕ) (records more x y x' y' : List ℕ) where
+-- each call is lent buffers of its own, a table and answer or output bytes
+module _ (p l : ℕ) (records more words bytes words' bytes' : List ℕ) where
   -- the root order in the table that otq_run left
-  pub runs-grow : (r r' : OtqRun) (table answers table' answers' : List ℕ) → RunExport (run p l records x y) r table answers
-      → RunExport (run p l (records ++ more) x' y') r' table' answers' → r .refusal ≡ 0 → r' .refusal ≡ 0
+  pub exported-runs-grow : (r r' : OtqRun) (table answers table' answers' : List ℕ) → RunExport (run p l records words bytes) r table answers
+      → RunExport (run p l (records ++ more) words' bytes') r' table' answers' → r .refusal ≡ 0 → r' .refusal ≡ 0
       → IsBeginning (rootOrder (shapeFor p l) (take (wordsNeeded (shapeFor p l)) table)) (rootOrder (shapeFor p l) (take (wordsNeeded (shapeFor p l)) table'))
   unfolding orderLeft
-  runs-grow r r' table answers table' answers' e e' z z' =
-      rw (e .words, e' .words) (history-grows p l records more .order x y x' y' (sym (e .refusal) ∙ z) (sym (e' .refusal) ∙ z'))
+  exported-runs-grow r r' table answers table' answers' e e' z z' =
+      rw (e .words, e' .words) (history-grows p l records more .order words bytes words' bytes' (sym (e .refusal) ∙ z) (sym (e' .refusal) ∙ z'))
 
   -- the bytes that otq_list_order wrote
-  pub lists-grow : (r r' : OtqList) (table output table' output' : List ℕ) → ListExport (listOrder p l records x y) r table output
-      → ListExport (listOrder p l (records ++ more) x' y') r' table' output' → r .refusal ≡ 0 → r' .refusal ≡ 0
+  pub exported-lists-grow : (r r' : OtqList) (table output table' output' : List ℕ) → ListExport (listOrder p l records words bytes) r table output
+      → ListExport (listOrder p l (records ++ more) words' bytes') r' table' output' → r .refusal ≡ 0 → r' .refusal ≡ 0
       → IsBeginning (take (r .length) output) (take (r' .length) output')
   unfolding listWritten
-  lists-grow r r' table output table' output' e e' z z' =
-      rw (e .size, e .bytes, e' .size, e' .bytes) (history-grows p l records more .list x y x' y' (sym (e .refusal) ∙ z) (sym (e' .refusal) ∙ z'))
+  exported-lists-grow r r' table output table' output' e e' z z' =
+      rw (e .size, e .bytes, e' .size, e' .bytes) (history-grows p l records more .list words bytes words' bytes' (sym (e .refusal) ∙ z) (sym (e' .refusal) ∙ z'))

@@ -1,4 +1,4 @@
--- What is known of a call that is not turned down: no test before its first record failed. Used by proofs; no promise cites it.
+-- What is known of a call that is not turned down. Used by proofs; no promise cites it.
 use Prim.Native.Nat.{ℕ, _%_, _≤_}
 use mathlib.Core.Path.{_≡_, refl}
 use mathlib.Core.Bool.{Bool, true, false, not, false≢true}
@@ -16,6 +16,7 @@ pub whole-records : (bytes : ℕ) → torn stepSize bytes ≡ false → bytes % 
 unfolding torn stepSize
 whole-records bytes e = eqb-true (bytes % 8) 0 (not-false (eqb (bytes % 8) 0) e)
 
+-- no test of a call failed
 tests : (a b c d : Bool) → accepted (if a then Processes else if b then Operations else if c then TableShort else if d then RecordsTorn else None) ≡ true
     → (a ≡ false) × (b ≡ false) × (c ≡ false) × (d ≡ false)
 unfolding accepted refusalNumber

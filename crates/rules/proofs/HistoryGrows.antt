@@ -64,14 +64,14 @@ module _ (p l : ℕ) (records more : List ℕ) where
   continued : torn stepSize (length records) ≡ false → stepRecords (records ++ more) ≡ stepRecords records ++ stepRecords more
   continued e = records-append records more (whole-records (length records) e)
 
-  pub runs-grow : (table answers table' answers' : List ℕ) → OrderGrows p l (run p l records table answers) (run p l (records ++ more) table' answers')
+  runs-grow : (table answers table' answers' : List ℕ) → OrderGrows p l (run p l records table answers) (run p l (records ++ more) table' answers')
   runs-grow table answers table' answers' none none' =
       let both-parts = continued (accepted-whole p l (length table) (length records) (run-accepted p l records table answers none)) in
       rw (run-order p l records table answers none, run-order p l (records ++ more) table' answers' none', both-parts)
       (played-grows (shapeFor p l) (tall-for p l) (length answers) (length answers') (stepRecords records) (stepRecords more) (run-played p l records table answers none)
       (rw both-parts at (run-played p l (records ++ more) table' answers' none')))
 
-  pub lists-grow : (table output table' output' : List ℕ) → ListGrows (listOrder p l records table output) (listOrder p l (records ++ more) table' output')
+  lists-grow : (table output table' output' : List ℕ) → ListGrows (listOrder p l records table output) (listOrder p l (records ++ more) table' output')
   unfolding orderList playAll
   lists-grow table output table' output' none none' =
       let both-parts = continued (accepted-whole p l (length table) (length records) (list-accepted p l records table output none)) in
