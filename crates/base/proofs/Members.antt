@@ -1,7 +1,9 @@
--- What holds of every member of two lists holds of those of both; and what holds of every number between two numbers
--- holds of the members of their list.
+-- What holds of every member of two lists holds of those of both; and the members of the list of numbers between two
+-- numbers are these numbers.
 use Prim.Native.Nat.{ℕ, zero, suc, _+_, _≤_, _<_}
 use native.Mathlib.Omega.{arith}
+use native.Mathlib.Decide.{ℕ-discrete}
+use mathlib.Core.Path.{_≡_, sym, subst}
 use mathlib.Core.List.{List, [], _∷_, _++_}
 use Rattle.base.specs.Between.{following, between}
 use Rattle.base.specs.Members.{All}
@@ -18,3 +20,16 @@ all-following P (suc n) i p = (p (suc i) (omega arith) (omega arith), all-follow
 pub all-between : (P : ℕ → Type 0) (i j : ℕ) → ((k : ℕ) → i < k → k ≤ j → P k) → All P (between i j)
 unfolding between
 all-between P i j p = all-following P _ i (λ k l g. p k l (omega arith))
+
+following-at : (P : ℕ → Type 0) (n i : ℕ) → All P (following i n) → (k : ℕ) → i < k → k ≤ i + n → P k
+unfolding following
+following-at P zero i p k l g = absurd (omega arith)
+following-at P (suc n) i p k l g = on (ℕ-discrete k (suc i)) (λ h. following-at P n (suc i) (p .1) k h (omega arith))
+  where
+    on : Dec (k ≡ suc i) → (suc i < k → P k) → P k
+    on (yes e) later = subst P (sym e) (p .0)
+    on (no e) later = later (omega arith)
+
+pub between-at : (P : ℕ → Type 0) (i j : ℕ) → All P (between i j) → (k : ℕ) → i < k → k ≤ j → P k
+unfolding between
+between-at P i j p k l g = following-at P _ i p k l (omega arith)

@@ -1,3 +1,4 @@
+pub mod ClaimLaws
 pub mod Marks
 pub mod Traces
 pub mod Sights

@@ -3,11 +3,11 @@
 use Prim.Native.Nat.{ℕ, _+_, _-_, _≤_, _<_}
 use native.Mathlib.Omega.{arith}
 use native.Mathlib.Decide.{ℕ-discrete, decLt}
-use mathlib.Core.Path.{_≡_, refl, sym, _∙_}
-use mathlib.Core.Logic.{_⊎_, inl, inr}
-use mathlib.Core.Bool.{true, _||_, and-false, false≢true}
-use lib.Dec.{leb, eqb}
-use borrow.Author.Tests.{eq-eqb, ne-eqb, le-leb, lt-leb}
+use mathlib.Core.Path.{_≡_, refl}
+use mathlib.Core.Logic.{inl, inr}
+use mathlib.Core.Bool.{true, _||_}
+use lib.Dec.{eqb}
+use borrow.Author.Tests.{eq-eqb, ne-eqb, le-leb}
 use Rattle.tree.specs.Shape.{Shape}
 use Rattle.tree.specs.Sides.{Side, childOf, endOf}
 use Rattle.tree.specs.Memory.{Memory, block}
@@ -18,25 +18,7 @@ use Rattle.steps.specs.declared.Status.{Status}
 use Rattle.superblocks.specs.Supers.{nearSuper}
 use Rattle.superblocks.proofs.Marks.{super, Near, MarksHold}
 
--- ---- what the test of a place says: super is set, and the place is super or super + 1, and no other
-pub near-set : (q z : ℕ) → nearSuper q z ≡ true → 1 ≤ z
-unfolding nearSuper
-near-set q z e = on (decLt z 1)
-  where
-    on : Dec (z < 1) → 1 ≤ z
-    on (yes l) = absurd (false≢true (rw (lt-leb 1 z l) at e))
-    on (no l) = omega arith
-
-pub near-place : (q z : ℕ) → nearSuper q z ≡ true → (q ≡ z) ⊎ (q ≡ z + 1)
-unfolding nearSuper
-near-place q z e = on (ℕ-discrete q z) (ℕ-discrete q (z + 1))
-  where
-    on : Dec (q ≡ z) → Dec (q ≡ z + 1) → (q ≡ z) ⊎ (q ≡ z + 1)
-    on (yes f) d = inl f
-    on (no f) (yes g) = inr g
-    on (no f) (no g) = absurd (false≢true (sym (and-false (leb 1 z)) ∙ (rw (ne-eqb q z f, ne-eqb q (z + 1) g) at e)))
-
-pub near-within : (q z : ℕ) → 1 ≤ z → z ≤ q → q ≤ z + 1 → nearSuper q z ≡ true
+near-within : (q z : ℕ) → 1 ≤ z → z ≤ q → q ≤ z + 1 → nearSuper q z ≡ true
 unfolding nearSuper
 near-within q z set low high = rw (le-leb 1 z set) (on (ℕ-discrete q z))
   where

@@ -5,7 +5,7 @@ use crate::tree::{parent, Shape, Tree, ROOT};
 
 /// A block below the root with a block of the parent that has it as a subblock.
 #[derive(Clone, Copy, PartialEq, Eq, Debug)]
-pub struct Placed {
+pub struct Subblock {
     pub node: u32,
     pub place: u32,
     /// The place of the parent's block.
@@ -14,7 +14,7 @@ pub struct Placed {
     pub super_word: u32,
 }
 
-impl Placed {
+impl Subblock {
     /// Whether super is set and the superblock stands there or one place later.
     pub fn near(self) -> bool {
         let set = self.super_word != 0;
@@ -23,15 +23,15 @@ impl Placed {
 }
 
 /// Each subblock of each present block, by node, then by superblock.
-pub fn placed(shape: Shape, table: &[u32]) -> Vec<Placed> {
+pub fn all_subblocks(shape: Shape, table: &[u32]) -> Vec<Subblock> {
     let tree = Tree::from_words(shape, table);
-    let mut placed = Vec::new();
+    let mut found = Vec::new();
     for node in ROOT + 1..=shape.last_node() {
         let above = parent(node);
         let places = 1..=shape.last_place(above);
         for superblock in places.filter(|&b| tree.block(above, b).present()) {
             for place in subblocks(&tree, above, superblock, node) {
-                placed.push(Placed {
+                found.push(Subblock {
                     node,
                     place,
                     superblock,
@@ -40,12 +40,15 @@ pub fn placed(shape: Shape, table: &[u32]) -> Vec<Placed> {
             }
         }
     }
-    placed
+    found
 }
 
 /// Checks that every superblock is near its subblock's super; else the first that is not.
-pub fn supers_near(shape: Shape, table: &[u32]) -> Result<(), Placed> {
-    match placed(shape, table).into_iter().find(|block| !block.near()) {
+pub fn supers_near(shape: Shape, table: &[u32]) -> Result<(), Subblock> {
+    match all_subblocks(shape, table)
+        .into_iter()
+        .find(|block| !block.near())
+    {
         Some(misplaced) => Err(misplaced),
         None => Ok(()),
     }

@@ -1,8 +1,8 @@
 //! The checker of superblocks can fail: a wrong super or a moved superblock is named rightly.
 
-use crate::support::{block_words, mixed_list, placed_at, run_amply};
+use crate::support::{block_words, mixed_list, run_amply, subblock_at};
 use reference::lists::List;
-use reference::superblocks::{placed, supers_near, Placed};
+use reference::superblocks::{all_subblocks, supers_near, Subblock};
 use reference::tree::{Shape, ROOT};
 
 const P: u32 = 2;
@@ -42,11 +42,11 @@ impl Left {
         &mut block_words(self.shape, &mut self.table, node, place)[word]
     }
 
-    fn placed(&self) -> Vec<Placed> {
-        placed(self.shape, &self.table)
+    fn subblocks(&self) -> Vec<Subblock> {
+        all_subblocks(self.shape, &self.table)
     }
 
-    fn check(&self) -> Result<(), Placed> {
+    fn check(&self) -> Result<(), Subblock> {
         supers_near(self.shape, &self.table)
     }
 }
@@ -54,16 +54,16 @@ impl Left {
 #[test]
 fn the_unchanged_run_and_the_empty_run_hold() {
     let good = Left::good();
-    let leaf_2 = [placed_at(2, 1, 1, 1), placed_at(2, 2, 3, 2)];
-    let leaf_3 = [placed_at(3, 1, 2, 2), placed_at(3, 2, 4, 4)];
-    assert_eq!(good.placed(), [leaf_2, leaf_3].concat());
+    let leaf_2 = [subblock_at(2, 1, 1, 1), subblock_at(2, 2, 3, 2)];
+    let leaf_3 = [subblock_at(3, 1, 2, 2), subblock_at(3, 2, 4, 4)];
+    assert_eq!(good.subblocks(), [leaf_2, leaf_3].concat());
     assert_eq!(good.check(), Ok(()));
     let empty = Left::of(P, L, &[]);
-    assert_eq!((empty.placed(), empty.check()), (vec![], Ok(())));
+    assert_eq!((empty.subblocks(), empty.check()), (vec![], Ok(())));
 }
 
 /// The good run with another super in one block.
-fn with_super(node: u32, place: u32, super_word: u32) -> Result<(), Placed> {
+fn with_super(node: u32, place: u32, super_word: u32) -> Result<(), Subblock> {
     let mut left = Left::good();
     *left.word(node, place, SUPER) = super_word;
     left.check()
@@ -71,28 +71,28 @@ fn with_super(node: u32, place: u32, super_word: u32) -> Result<(), Placed> {
 
 #[test]
 fn a_super_one_down() {
-    assert_eq!(with_super(2, 2, 1), Err(placed_at(2, 2, 3, 1)));
+    assert_eq!(with_super(2, 2, 1), Err(subblock_at(2, 2, 3, 1)));
     // From the superblock's place itself the claim leaves room.
     assert_eq!(with_super(3, 2, 3), Ok(()));
 }
 
 #[test]
 fn a_super_one_up() {
-    assert_eq!(with_super(3, 1, 3), Err(placed_at(3, 1, 2, 3)));
+    assert_eq!(with_super(3, 1, 3), Err(subblock_at(3, 1, 2, 3)));
     assert_eq!(with_super(2, 2, 3), Ok(()));
 }
 
 #[test]
 fn a_super_two_off() {
-    assert_eq!(with_super(2, 2, 4), Err(placed_at(2, 2, 3, 4)));
-    assert_eq!(with_super(3, 2, 2), Err(placed_at(3, 2, 4, 2)));
+    assert_eq!(with_super(2, 2, 4), Err(subblock_at(2, 2, 3, 4)));
+    assert_eq!(with_super(3, 2, 2), Err(subblock_at(3, 2, 4, 2)));
 }
 
 #[test]
 fn a_super_not_set() {
     // Root block 1 is no place later than a super that is not set.
-    assert_eq!(with_super(2, 1, 0), Err(placed_at(2, 1, 1, 0)));
-    assert_eq!(with_super(3, 2, 0), Err(placed_at(3, 2, 4, 0)));
+    assert_eq!(with_super(2, 1, 0), Err(subblock_at(2, 1, 1, 0)));
+    assert_eq!(with_super(3, 2, 0), Err(subblock_at(3, 2, 4, 0)));
 }
 
 #[test]
@@ -100,7 +100,7 @@ fn two_supers_swapped() {
     let mut left = Left::good();
     *left.word(3, 1, SUPER) = 4;
     *left.word(3, 2, SUPER) = 2;
-    assert_eq!(left.check(), Err(placed_at(3, 1, 2, 4)));
+    assert_eq!(left.check(), Err(subblock_at(3, 1, 2, 4)));
 }
 
 /// At every height, every other super than the two allowed is reported, and at its block.
@@ -108,7 +108,7 @@ fn two_supers_swapped() {
 fn each_wrong_super_of_a_large_tree() {
     let good = Left::of(8, 3, &mixed_list(8, 3, 6));
     let mut wrong = [0; 3];
-    for found in good.placed() {
+    for found in good.subblocks() {
         let words = 0..=found.superblock + 2;
         for super_word in words.chain([u32::MAX]) {
             let mut left = good.clone();
@@ -119,7 +119,7 @@ fn each_wrong_super_of_a_large_tree() {
                 continue;
             }
             let (node, place, superblock) = (found.node, found.place, found.superblock);
-            let named = placed_at(node, place, superblock, super_word);
+            let named = subblock_at(node, place, superblock, super_word);
             assert_eq!(left.check(), Err(named));
             wrong[good.shape.height(node) as usize] += 1;
         }
@@ -131,10 +131,10 @@ fn each_wrong_super_of_a_large_tree() {
 fn a_superblock_moved_down() {
     let mut left = Left::good();
     *left.word(ROOT, 1, END_LEFT) = 2;
-    assert_eq!(left.check(), Err(placed_at(2, 2, 1, 2)));
+    assert_eq!(left.check(), Err(subblock_at(2, 2, 1, 2)));
     let mut left = Left::good();
     *left.word(ROOT, 1, END_RIGHT) = 1;
-    assert_eq!(left.check(), Err(placed_at(3, 1, 1, 2)));
+    assert_eq!(left.check(), Err(subblock_at(3, 1, 1, 2)));
 }
 
 #[test]
@@ -142,10 +142,10 @@ fn a_superblock_moved_up() {
     let mut left = Left::good();
     *left.word(ROOT, 1, END_LEFT) = 0;
     // One place later than its super, which the claim allows.
-    assert_eq!(left.placed()[0], placed_at(2, 1, 2, 1));
+    assert_eq!(left.subblocks()[0], subblock_at(2, 1, 2, 1));
     assert_eq!(left.check(), Ok(()));
     *left.word(ROOT, 2, END_LEFT) = 0;
-    assert_eq!(left.check(), Err(placed_at(2, 1, 3, 1)));
+    assert_eq!(left.check(), Err(subblock_at(2, 1, 3, 1)));
 }
 
 /// Every end of the root changed: the checker's verdict is the claim read block by block.
@@ -189,7 +189,7 @@ fn holds_by_words(left: &mut Left) -> bool {
 fn a_subblock_that_is_absent() {
     let mut left = Left::good();
     *left.word(ROOT, 4, END_RIGHT) = 3;
-    assert_eq!(left.check(), Err(placed_at(3, 3, 4, 0)));
+    assert_eq!(left.check(), Err(subblock_at(3, 3, 4, 0)));
 }
 
 #[test]
@@ -197,10 +197,10 @@ fn superblocks_that_are_absent() {
     let mut left = Left::good();
     *left.word(ROOT, 4, 0) = 0;
     *left.word(ROOT, 4, 1) = 0;
-    assert_eq!(left.placed().len(), 3);
+    assert_eq!(left.subblocks().len(), 3);
     *left.word(3, 2, SUPER) = 0;
     assert_eq!(left.check(), Ok(()));
     // With block 2 gone, block 3's subblocks in leaf 2 start at place 1.
     block_words(left.shape, &mut left.table, ROOT, 2).fill(0);
-    assert_eq!(left.check(), Err(placed_at(2, 1, 3, 1)));
+    assert_eq!(left.check(), Err(subblock_at(2, 1, 3, 1)));
 }

@@ -1,28 +1,28 @@
 //! Superblocks near their subblocks' super: by hand, on random, hostile and refused lists.
 
-use crate::support::{every_shape, needed, placed_at, run_with, stalls, Met};
+use crate::support::{every_shape, needed, run_with, stalls, subblock_at, Met};
 use reference::demand3::step_limit;
 use reference::known_runs::known_runs;
 use reference::lists::List;
 use reference::process::STEP_NAMES;
 use reference::schedules::{schedule, Pace, Plan};
-use reference::superblocks::{placed, supers_near, Placed};
+use reference::superblocks::{all_subblocks, supers_near, Subblock};
 use reference::tree::Shape;
 
 /// The words that a run of p = 2, L = 1 leaves, and what stands where in them.
-fn by_hand(list: List) -> (Vec<u32>, Vec<Placed>) {
+fn by_hand(list: List) -> (Vec<u32>, Vec<Subblock>) {
     let after = run_with(2, 1, &list.bytes(), needed(2, 1), 32);
     assert_eq!(after.result.refusal, 0);
     let shape = Shape::new(2, 1).unwrap();
     assert_eq!(supers_near(shape, &after.table), Ok(()));
-    let placed = placed(shape, &after.table);
-    (after.table, placed)
+    let found = all_subblocks(shape, &after.table);
+    (after.table, found)
 }
 
 #[test]
 fn the_superblock_at_super() {
-    let (table, placed) = by_hand(List::new().put(0, 5).steps(0, 15));
-    assert_eq!(placed, [placed_at(2, 1, 1, 1)]);
+    let (table, found) = by_hand(List::new().put(0, 5).steps(0, 15));
+    assert_eq!(found, [subblock_at(2, 1, 1, 1)]);
     let root = [[0; 6], [1, 0, 0, 1, 0, 1], [0; 6]].concat();
     let leaf_of_0 = [[0; 6], [1, 0, 1, 5, 0, 0]].concat();
     assert_eq!(table, [root, leaf_of_0, vec![0; 12]].concat());
@@ -32,8 +32,8 @@ fn the_superblock_at_super() {
 #[test]
 fn the_superblock_one_later() {
     let begun = List::new().put(1, 7).steps(1, 10).put(0, 5).steps(0, 2);
-    let (table, placed) = by_hand(begun.steps(1, 5).steps(0, 13));
-    assert_eq!(placed, [placed_at(2, 1, 2, 1), placed_at(3, 1, 1, 1)]);
+    let (table, found) = by_hand(begun.steps(1, 5).steps(0, 13));
+    assert_eq!(found, [subblock_at(2, 1, 2, 1), subblock_at(3, 1, 1, 1)]);
     let root = [[0; 6], [1, 0, 0, 0, 1, 1], [2, 0, 0, 1, 1, 2]].concat();
     let leaf_of_0 = [[0; 6], [1, 0, 1, 5, 0, 0]].concat();
     let leaf_of_1 = [[0; 6], [1, 0, 1, 7, 0, 0]].concat();

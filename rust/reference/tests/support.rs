@@ -8,7 +8,7 @@ use reference::machine::Machine;
 use reference::process::StepName;
 use reference::run::{run, RunResult};
 use reference::schedules::{schedule, Ending, Pace, Plan};
-use reference::superblocks::{placed, supers_near, Placed};
+use reference::superblocks::{all_subblocks, supers_near, Subblock};
 use reference::tree::{Shape, BLOCK_WORDS};
 use std::fmt::Debug;
 use std::ops::Range;
@@ -115,8 +115,8 @@ pub fn then_pattern_bytes(start: &[u8], count: usize) -> Vec<u8> {
     [start, &pattern_bytes(count)[start.len()..]].concat()
 }
 
-pub fn placed_at(node: u32, place: u32, superblock: u32, super_word: u32) -> Placed {
-    Placed {
+pub fn subblock_at(node: u32, place: u32, superblock: u32, super_word: u32) -> Subblock {
+    Subblock {
         node,
         place,
         superblock,
@@ -135,7 +135,7 @@ impl Met {
     /// Checks that every superblock in the table is near, and counts them.
     pub fn assert_near(&mut self, shape: Shape, table: &[u32], told: impl Debug) {
         assert_eq!(supers_near(shape, table), Ok(()), "{told:?}");
-        for block in placed(shape, table) {
+        for block in all_subblocks(shape, table) {
             let height = shape.height(block.node) as usize;
             if block.superblock == block.super_word {
                 self.at_super[height] += 1;

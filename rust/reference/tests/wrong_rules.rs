@@ -1,6 +1,6 @@
 //! Wrong step rules: the checkers of superblocks and of growth see what they leave.
 
-use crate::support::{placed_at, table_of};
+use crate::support::{subblock_at, table_of};
 use reference::growth::{grows, Departure, Past};
 use reference::known_runs::m6;
 use reference::lists::List;
@@ -90,9 +90,9 @@ fn stopped(slow: u32, other: u32) -> List {
 fn without_help_the_superblock_comes_two_later() {
     let shape = Shape::new(2, 2).unwrap();
     let right = table_by(NO_HELP_ON_THE_RIGHT, shape, stopped(1, 0));
-    assert_eq!(supers_near(shape, &right), Err(placed_at(3, 1, 3, 1)));
+    assert_eq!(supers_near(shape, &right), Err(subblock_at(3, 1, 3, 1)));
     let left = table_by(NO_HELP_ON_THE_LEFT, shape, stopped(0, 1));
-    assert_eq!(supers_near(shape, &left), Err(placed_at(2, 1, 3, 1)));
+    assert_eq!(supers_near(shape, &left), Err(subblock_at(2, 1, 3, 1)));
 }
 
 #[test]
@@ -102,7 +102,7 @@ fn with_its_own_head_as_super_the_superblock_comes_later() {
     let list = two_before.put(1, 7).steps(1, 15);
     let near = |spoil| supers_near(shape, &table_by(spoil, shape, list.clone()));
     assert_eq!(near(RIGHT), Ok(()));
-    assert_eq!(near(OWN_HEAD), Err(placed_at(3, 1, 3, 1)));
+    assert_eq!(near(OWN_HEAD), Err(subblock_at(3, 1, 3, 1)));
 }
 
 #[test]
@@ -110,7 +110,7 @@ fn with_super_set_again_the_superblock_comes_before_it() {
     let shape = Shape::new(2, 1).unwrap();
     let near = |spoil| supers_near(shape, &table_by(spoil, shape, m6(0, 1)));
     assert_eq!(near(RIGHT), Ok(()));
-    assert_eq!(near(SUPER_SET_AGAIN), Err(placed_at(2, 1, 1, 2)));
+    assert_eq!(near(SUPER_SET_AGAIN), Err(subblock_at(2, 1, 1, 2)));
 }
 
 /// Process 1 comes to C4 with a block of its own put alone; 0 writes one with both.
