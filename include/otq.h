@@ -87,9 +87,10 @@ typedef struct OtqCheck {
 
    Turned down with 1 to 4, it changes nothing and returns zero counts. Otherwise it clears the words
    needed and plays until a record is turned down with 5 to 9; that record changes nothing and ends
-   the run. Answer bytes past the answers and table words past those needed keep their content. In the
-   table a block below the root that stands in a block of its parent has that block's place as its
-   super, or the place before it. */
+   the run. Answer bytes past the answers and table words past those needed keep their content.
+
+   In the table that it leaves unless turned down with 1 to 4, a block's superblock, the present block
+   of its parent's that has it as a subblock, stands at the block's super or one place later. */
 OtqRun otq_run(uint32_t p, uint32_t l,
                const uint8_t *records, size_t records_bytes,
                uint32_t *table, size_t table_words,
@@ -99,8 +100,9 @@ OtqRun otq_run(uint32_t p, uint32_t l,
 
    Turned down with 1 to 4, it changes nothing; with 5 to 8 or 10 it writes no output. Output bytes past
    the list keep their content. From 5 on, and without a refusal, the table is left as otq_run with
-   room for every answer leaves it. The order only grows: if records, and the same records with more
-   after them, are both listed without a refusal, the first list is the beginning of the second. */
+   room for every answer leaves it. The order only grows: if, with the same p and l, records and
+   the same records with more after them are both listed without a refusal, the first list is the
+   beginning of the second. */
 OtqList otq_list_order(uint32_t p, uint32_t l,
                        const uint8_t *records, size_t records_bytes,
                        uint32_t *table, size_t table_words,

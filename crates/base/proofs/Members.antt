@@ -12,24 +12,24 @@ pub all-append : {A : Type 0} (P : A → Type 0) (xs ys : List A) → All P xs �
 all-append P [] ys p q = q
 all-append P (x ∷ xs) ys p q = (p .0, all-append P xs ys (p .1) q)
 
-all-following : (P : ℕ → Type 0) (n i : ℕ) → ((k : ℕ) → i < k → k ≤ i + n → P k) → All P (following i n)
+members-following : (P : ℕ → Type 0) (n i : ℕ) → ((k : ℕ) → i < k → k ≤ i + n → P k) → All P (following i n)
 unfolding following
-all-following P zero i p = tt
-all-following P (suc n) i p = (p (suc i) (omega arith) (omega arith), all-following P n (suc i) (λ k l g. p k (omega arith) (omega arith)))
+members-following P zero i p = tt
+members-following P (suc n) i p = (p (suc i) (omega arith) (omega arith), members-following P n (suc i) (λ k l g. p k (omega arith) (omega arith)))
 
-pub all-between : (P : ℕ → Type 0) (i j : ℕ) → ((k : ℕ) → i < k → k ≤ j → P k) → All P (between i j)
+pub members-between : (P : ℕ → Type 0) (i j : ℕ) → ((k : ℕ) → i < k → k ≤ j → P k) → All P (between i j)
 unfolding between
-all-between P i j p = all-following P _ i (λ k l g. p k l (omega arith))
+members-between P i j p = members-following P _ i (λ k l g. p k l (omega arith))
 
-following-at : (P : ℕ → Type 0) (n i : ℕ) → All P (following i n) → (k : ℕ) → i < k → k ≤ i + n → P k
+member-following : (P : ℕ → Type 0) (n i : ℕ) → All P (following i n) → (k : ℕ) → i < k → k ≤ i + n → P k
 unfolding following
-following-at P zero i p k l g = absurd (omega arith)
-following-at P (suc n) i p k l g = on (ℕ-discrete k (suc i)) (λ h. following-at P n (suc i) (p .1) k h (omega arith))
+member-following P zero i p k l g = absurd (omega arith)
+member-following P (suc n) i p k l g = on (ℕ-discrete k (suc i)) (λ h. member-following P n (suc i) (p .1) k h (omega arith))
   where
     on : Dec (k ≡ suc i) → (suc i < k → P k) → P k
     on (yes e) later = subst P (sym e) (p .0)
     on (no e) later = later (omega arith)
 
-pub between-at : (P : ℕ → Type 0) (i j : ℕ) → All P (between i j) → (k : ℕ) → i < k → k ≤ j → P k
+pub member-between : (P : ℕ → Type 0) (i j : ℕ) → All P (between i j) → (k : ℕ) → i < k → k ≤ j → P k
 unfolding between
-between-at P i j p k l g = following-at P _ i p k l (omega arith)
+member-between P i j p k l g = member-following P _ i p k l (omega arith)

@@ -23,7 +23,7 @@ cut-at size (suc n) (suc i) bs h =
     cut-at size n i (drop size bs) (omega arith) ∙ ap (take size) (drop-drop (size * i) size bs ∙ ap (λ (k : ℕ). drop k bs) e)
 
 -- bytes that whole records begin are cut into these records and those of the rest
-pub cut-append : (size n k : ℕ) (xs ys : List ℕ) → length xs ≡ size * n → cut size (n + k) (xs ++ ys) ≡ cut size n xs ++ cut size k ys
+cut-append : (size n k : ℕ) (xs ys : List ℕ) → length xs ≡ size * n → cut size (n + k) (xs ++ ys) ≡ cut size n xs ++ cut size k ys
 unfolding cut
 cut-append size zero k [] ys e = rw (zero-add k)
 cut-append size zero k (x ∷ xs) ys e = absurd (omega (arith, rw mul-zero at e))

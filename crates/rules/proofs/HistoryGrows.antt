@@ -21,7 +21,7 @@ use Rattle.rules.specs.Refusals.{accepted, shapeFor, torn}
 use Rattle.rules.specs.Run.{play, run}
 use Rattle.rules.specs.ListOrder.{orderRecord, orderList, playAll, listOrder}
 use Rattle.rules.specs.History.{machineAfter}
-use Rattle.rules.specs.Continuation.{OrderGrows, ListGrows, HistoryGrows}
+use Rattle.rules.specs.Continuation.{RunGrows, ListGrows, HistoryGrows}
 use Rattle.rules.proofs.Legal.{Legal}
 use Rattle.rules.proofs.Prefixes.{legal-prefix}
 use Rattle.rules.proofs.Played.{played-machine, played-legal, played-all}
@@ -64,7 +64,7 @@ module _ (p l : ℕ) (records more : List ℕ) where
   continued : torn stepSize (length records) ≡ false → stepRecords (records ++ more) ≡ stepRecords records ++ stepRecords more
   continued e = records-append records more (whole-records (length records) e)
 
-  runs-grow : (table answers table' answers' : List ℕ) → OrderGrows p l (run p l records table answers) (run p l (records ++ more) table' answers')
+  runs-grow : (table answers table' answers' : List ℕ) → RunGrows p l (run p l records table answers) (run p l (records ++ more) table' answers')
   runs-grow table answers table' answers' none none' =
       let both-parts = continued (accepted-whole p l (length table) (length records) (run-accepted p l records table answers none)) in
       rw (run-order p l records table answers none, run-order p l (records ++ more) table' answers' none', both-parts)

@@ -36,13 +36,13 @@ module _ (p l : ℕ) (records table answers : List ℕ) where
   abbrev g : Played
   g = play (shapeFor p l) (length answers) (stepRecords records)
 
-  run-down : accepted n ≡ false → run p l records table answers .refusal ≡ n
+  run-turned-down : accepted n ≡ false → run p l records table answers .refusal ≡ n
   unfolding run runTurnedDown
-  run-down e = rw e
+  run-turned-down e = rw e
 
   module _ (none : refusalNumber (run p l records table answers .refusal) ≡ 0) where
     pub run-accepted : accepted n ≡ true
-    run-accepted = passed-test n (run p l records table answers .refusal) run-down none
+    run-accepted = passed-test n (run p l records table answers .refusal) run-turned-down none
 
     pub run-played : accepted (g .refusal) ≡ true
     unfolding runPlayed
@@ -66,13 +66,13 @@ module _ (p l : ℕ) (records table output : List ℕ) where
   abbrev orders : List ℕ
   orders = orderList (shapeFor p l) (all .machine .memory .table)
 
-  list-down : accepted listing ≡ false → listOrder p l records table output .refusal ≡ listing
+  list-turned-down : accepted listing ≡ false → listOrder p l records table output .refusal ≡ listing
   unfolding listOrder listed
-  list-down e = rw e
+  list-turned-down e = rw e
 
   module _ (none : refusalNumber (listOrder p l records table output .refusal) ≡ 0) where
     pub list-accepted : accepted listing ≡ true
-    list-accepted = passed-test listing (listOrder p l records table output .refusal) list-down none
+    list-accepted = passed-test listing (listOrder p l records table output .refusal) list-turned-down none
 
     list-is : listOrder p l records table output ≡ listPlayed (shapeFor p l) all table output
     unfolding listOrder

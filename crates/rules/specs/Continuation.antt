@@ -21,8 +21,8 @@ listWritten e = take (e .length) (e .output)
 
 -- of two calls of Run, and of two of list the order: if both return 0, no refusal, what the first left is the beginning
 -- of what the second left
-abbrev pub OrderGrows : ℕ → ℕ → RunLeaves → RunLeaves → Type 0
-OrderGrows p l e f =
+abbrev pub RunGrows : ℕ → ℕ → RunLeaves → RunLeaves → Type 0
+RunGrows p l e f =
     refusalNumber (e .refusal) ≡ 0 → refusalNumber (f .refusal) ≡ 0 → IsBeginning (orderLeft p l e) (orderLeft p l f)
 
 abbrev pub ListGrows : ListLeaves → ListLeaves → Type 0
@@ -30,5 +30,5 @@ ListGrows e f = refusalNumber (e .refusal) ≡ 0 → refusalNumber (f .refusal) 
 
 -- of p, L, the bytes of a list and those of its continuation, whatever table and buffer each call is lent
 pub record HistoryGrows (p l : ℕ) (records more : List ℕ) : Type 0 where
-  pub order : (table answers table' answers' : List ℕ) → OrderGrows p l (run p l records table answers) (run p l (records ++ more) table' answers')
+  pub order : (table answers table' answers' : List ℕ) → RunGrows p l (run p l records table answers) (run p l (records ++ more) table' answers')
   pub list : (table output table' output' : List ℕ) → ListGrows (listOrder p l records table output) (listOrder p l (records ++ more) table' output')

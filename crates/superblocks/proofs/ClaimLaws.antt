@@ -8,8 +8,8 @@ use mathlib.Core.Logic.{_⊎_, inl, inr}
 use mathlib.Core.Bool.{true, false, and-false, false≢true}
 use mathlib.Core.List.{List}
 use lib.Dec.{leb}
-use borrow.Author.Tests.{ne-eqb, lt-leb}
-use Rattle.base.proofs.Members.{between-at}
+use borrow.Author.Tests.{ne-eqb}
+use Rattle.base.proofs.Members.{member-between}
 use Rattle.tree.specs.Shape.{Shape, root, parentOf}
 use Rattle.tree.specs.Blocks.{blockAt, absent}
 use Rattle.tree.specs.Sides.{endOf, subblocks}
@@ -22,7 +22,7 @@ unfolding nearSuper
 near-set q z e = on (decLt z 1)
   where
     on : Dec (z < 1) → 1 ≤ z
-    on (yes l) = absurd (false≢true (rw (lt-leb 1 z l) at e))
+    on (yes l) = let f : z ≡ 0 = omega arith in absurd (false≢true (rw f at e))
     on (no l) = omega arith
 
 near-place : (q z : ℕ) → nearSuper q z ≡ true → (q ≡ z) ⊎ (q ≡ z + 1)
@@ -43,6 +43,6 @@ superblock-of s t claim v q i nv below here after up =
     let inner = parent-inner s v nv (λ e. omega arith) in
     let near : nearSuper q (blockAt s t v i .superblock) ≡ true =
     subst (λ (c : ℕ). nearSuper q (blockAt s t c i .superblock) ≡ true) (child-of-parent v)
-    (between-at _ _ _ (claim .near (sideOf v) (parentOf v) q (inner .first) (inner .last) here) i after up)
+    (member-between _ _ _ (claim .near (sideOf v) (parentOf v) q (inner .first) (inner .last) here) i after up)
     in
     (near-set q _ near, near-place q _ near)

@@ -71,7 +71,7 @@ module _ (s : Shape) (m n : Memory) (at at' : ℕ → Status) (facts : MachineFa
         on (inr e) = absurd (omega (arith, e .0))
 
     -- ---- supers below the head
-    pub set-keeps : SupersSet s n
+    set-keeps : SupersSet s n
     set-keeps v i nv v1 i1 l = on (tr .heads v)
       where
         on : HeadLeft s m n v → 1 ≤ super s n v i
@@ -87,7 +87,7 @@ module _ (s : Shape) (m n : Memory) (at at' : ℕ → Status) (facts : MachineFa
     raised-keeps r rp v i l q = on (ℕ-discrete r k)
       where
         on : Dec (r ≡ k) → 1 ≤ super s n v i
-        on (yes e) = tr .raises v i l (subst (λ (j : ℕ). Raises v i (at' j)) e q)
+        on (yes e) = tr .comesToV3 v i l (subst (λ (j : ℕ). Raises v i (at' j)) e q)
         on (no e) = super-stays v i (old .raised r rp v i l (subst (Raises v i) (others r e) q))
 
     -- ---- marks
@@ -173,7 +173,7 @@ module _ (s : Shape) (m n : Memory) (at at' : ℕ → Status) (facts : MachineFa
           }
         where
           read : z ≡ headOf n u
-          read = tr .asks v i z q ∙ ap (headOf n) (parent-of-child d u)
+          read = tr .comesToV2 v i z q ∙ ap (headOf n) (parent-of-child d u)
 
           here : Present s n v i
           here = facts' .asked k kp v i z q .1

@@ -7,7 +7,7 @@ use mathlib.Core.Bool.{true}
 use mathlib.Core.List.{List}
 use lib.ListN.{length, take}
 use Rattle.base.proofs.Cases.{cases}
-use Rattle.base.proofs.Members.{all-between}
+use Rattle.base.proofs.Members.{members-between}
 use Rattle.record.specs.declared.StepRecord.{StepRecord}
 use Rattle.record.specs.StepRecords.{isStep, stepRecords}
 use Rattle.tree.specs.Shape.{Shape, root}
@@ -40,7 +40,7 @@ record-supers s tall m inv r acc old =
     (λ z. begin-supers s m inv (r .process) (acc .process-low) (operationOf r) (acc .idle (not-step r z)) (acc .within (not-step r z)) old)
 
 -- ---- every legal list
-pub runs-supers : (s : Shape) → 1 ≤ s .height → {rs : List StepRecord} → Legal s rs → SuperInvariant s (machineAfter s rs)
+runs-supers : (s : Shape) → 1 ≤ s .height → {rs : List StepRecord} → Legal s rs → SuperInvariant s (machineAfter s rs)
 unfolding machineAfter
 runs-supers s tall none = start-supers s
 runs-supers s tall (more {rs} {r} l a) =
@@ -53,7 +53,7 @@ supers-near s m inv sup =
     record {
       near =
           λ d v q v1 vp here.
-          all-between _ _ _
+          members-between _ _ _
           (λ i low high. superblock-near s (m .memory) (statuses m) (inv .sound) sup d v (omega arith) i q (present-count _ here) low high);
     }
 

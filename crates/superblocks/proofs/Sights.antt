@@ -29,9 +29,9 @@ use Rattle.steps.proofs.Progress.{Way}
 use Rattle.superblocks.proofs.Marks.{looking, advances, helpSight, Covers, covers-rises, Seen}
 
 -- what follows the advance of a refreshed node: the second refresh, or the way up
-after-refresh : (P : After → Type 0) → P Up → P Again → (second success : Bool) → P (afterRefresh second success)
+next-refresh : (P : After → Type 0) → P Up → P Again → (second success : Bool) → P (afterRefresh second success)
 unfolding afterRefresh
-after-refresh P up again second success = both P (success || second) up again
+next-refresh P up again second success = both P (success || second) up again
 
 -- ---- what is seen of a present block, at place i of the child on side d of node u
 module _ (s : Shape) (m : Memory) (sound : Sound s m) (o : Operation) (u i z : ℕ) where
@@ -50,8 +50,8 @@ module _ (s : Shape) (m : Memory) (sound : Sound s m) (o : Operation) (u i z : �
   seen-help d w a v c p q = cases (λ (x : Step). Seen m d u i z (Busy o x)) (absent (block s m v c)) p (λ e. seen-advance d m w a v c q)
 
   -- the place looked at was the head, so if it is absent it is not the block's: the head is past the block
-  passed : (d : Side) (v c : ℕ) → Present s m (childOf d u) i → v ≡ u → absent (block s m (childOf d v) c) ≡ true → Covers m d u i (looking c) → i < headOf m (childOf d u)
-  passed d v c here e free p = on (ℕ-discrete i c)
+  passed-over : (d : Side) (v c : ℕ) → Present s m (childOf d u) i → v ≡ u → absent (block s m (childOf d v) c) ≡ true → Covers m d u i (looking c) → i < headOf m (childOf d u)
+  passed-over d v c here e free p = on (ℕ-discrete i c)
     where
       none : count (block s m (childOf d u) c) ≡ 0
       none = rw e at (absent-count (block s m (childOf d v) c) free)
@@ -66,15 +66,15 @@ module _ (s : Shape) (m : Memory) (sound : Sound s m) (o : Operation) (u i z : �
       subst (λ (y : ℕ). i < headOf (raise m v h) y) (p .1)
       (omega (arith, p .0, raise-past m v h (omega (arith, nv .last, sized .heads)) (present-low (sound .node v nv) h here)))
 
-  raised-keeps : (v h y : ℕ) → i < headOf m y → i < headOf (raise m v h) y
-  raised-keeps v h y l = raise-cases m v h (λ (x : ℕ). i < x) y (λ e f. omega arith) l
+  head-stays : (v h y : ℕ) → i < headOf m y → i < headOf (raise m v h) y
+  head-stays v h y l = raise-cases m v h (λ (x : ℕ). i < x) y (λ e f. omega arith) l
 
   seen-resume : Sized s m → (d : Side) (a : After) (w : Visit) (v h : ℕ) → Node s v → Present s m v h → (w .node ≡ u → z < w .head → Covers m d u i (helpSight a d v h))
       → Seen (raise m v h) d u i z (Busy o (resume a w))
   unfolding resume
   seen-resume sized onLeft Right w v h nv here q = λ e l. raised-over sized onLeft v h nv here (q e l)
   seen-resume sized onRight Right w v h nv here q = λ e l. tt
-  seen-resume sized onLeft Ends w v h nv here q = λ e l. raised-keeps v h (leftOf u) (q e l)
+  seen-resume sized onLeft Ends w v h nv here q = λ e l. head-stays v h (leftOf u) (q e l)
   seen-resume sized onRight Ends w v h nv here q = λ e l. raised-over sized onRight v h nv here (q e l)
   seen-resume sized d Again w v h nv here q = λ e l. tt
   seen-resume sized d Up w v h nv here q = seen-above d (raise m v h) (w .node)
@@ -104,13 +104,13 @@ module _ (s : Shape) (m : Memory) (sound : Sound s m) (o : Operation) (u i z : �
     seen-turn (R2 w) onLeft here low way q = λ e l. head-read onLeft (w .node) low e
     seen-turn (R2 w) onRight here low way q = λ e l. tt
     seen-turn (R3 w c) onLeft here low way q =
-        seen-help onLeft w Right (leftOf (w .node)) c (λ free e l. passed onLeft (w .node) c here e free (q e l)) (λ e l. helping onLeft (w .node) c e (q e l))
+        seen-help onLeft w Right (leftOf (w .node)) c (λ free e l. passed-over onLeft (w .node) c here e free (q e l)) (λ e l. helping onLeft (w .node) c e (q e l))
     seen-turn (R3 w c) onRight here low way q = seen-help onRight w Right (leftOf (w .node)) c (λ free e l. tt) (λ e l. tt)
     seen-turn (R4 w) onLeft here low way q = q
     seen-turn (R4 w) onRight here low way q = λ e l. head-read onRight (w .node) low e
     seen-turn (R5 w c) onLeft here low way q = seen-help onLeft w Ends (rightOf (w .node)) c (λ free. q) q
     seen-turn (R5 w c) onRight here low way q =
-        seen-help onRight w Ends (rightOf (w .node)) c (λ free e l. passed onRight (w .node) c here e free (q e l)) (λ e l. helping onRight (w .node) c e (q e l))
+        seen-help onRight w Ends (rightOf (w .node)) c (λ free e l. passed-over onRight (w .node) c here e free (q e l)) (λ e l. helping onRight (w .node) c e (q e l))
     seen-turn (C1 w) onLeft here low way q = λ e l. end-read onLeft (w .node) e (q e l)
     seen-turn (C1 w) onRight here low way q = q
     seen-turn (C2 w x) onLeft here low way q = q
@@ -123,5 +123,5 @@ module _ (s : Shape) (m : Memory) (sound : Sound s m) (o : Operation) (u i z : �
         seen-built onRight q = q
     seen-turn (C4 w n) d here low way q =
         seen-advance d _ w _ (w .node) (w .head)
-        (λ e l. after-refresh (λ (a : After). Covers (step s k o m (C4 w n) .memory) d u i (helpSight a d (w .node) (w .head))) tt tt (w .second) (absent (block s m (w .node) (w .head))))
+        (λ e l. next-refresh (λ (a : After). Covers (step s k o m (C4 w n) .memory) d u i (helpSight a d (w .node) (w .head))) tt tt (w .second) (absent (block s m (w .node) (w .head))))
     seen-turn Q d here low way q = tt

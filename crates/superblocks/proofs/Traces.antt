@@ -43,8 +43,8 @@ HeadLeft s m n v = (headOf n v ≡ headOf m v) ⊎ ((headOf n v ≡ headOf m v +
 pub record Traces (s : Shape) (m : Memory) (x : Status) (n : Memory) (y : Status) : Type 0 where
   pub supers : (v i : ℕ) → SuperLeft s m x n v i
   pub heads : (v : ℕ) → HeadLeft s m n v
-  pub asks : (v i z : ℕ) → Asks v i z y → z ≡ headOf n (parentOf v)
-  pub raises : (v i : ℕ) → 1 < v → Raises v i y → 1 ≤ super s n v i
+  pub comesToV2 : (v i z : ℕ) → Asks v i z y → z ≡ headOf n (parentOf v)
+  pub comesToV3 : (v i : ℕ) → 1 < v → Raises v i y → 1 ≤ super s n v i
 
 -- ---- V2: a super that is set stays, and one that is not becomes what is asked for
 abbrev KeptOrSet : Block → ℕ → Type 0
@@ -88,10 +88,14 @@ module _ (o : Operation) where
   help-quiet s m w a u c = both Quiet (absent (block s m u c)) (resume-quiet a w) (advance-quiet w a u c)
 
 module _ (s : Shape) (m : Memory) where
-  -- a step that changes no memory, and leads to such a one
-  pub quiet : (x : Status) (o : Operation) (n : Step) → Quiet o n → Traces s m x m (Busy o n)
-  quiet x o n p =
-      record { supers = λ v i. inl refl; heads = λ v. inl refl; asks = λ v i z q. absurd (p .0 v i z q); raises = λ v i l q. absurd (p .1 v i l q) }
+  -- a step that leads to such a one; and one that changes no memory besides
+  quiet-after : (x : Status) (n : Memory) (o : Operation) (y : Step) → Quiet o y → ((v i : ℕ) → SuperLeft s m x n v i) → ((v : ℕ) → HeadLeft s m n v)
+      → Traces s m x n (Busy o y)
+  quiet-after x n o y p supers heads =
+      record { supers = supers; heads = heads; comesToV2 = λ v i z q. absurd (p .0 v i z q); comesToV3 = λ v i l q. absurd (p .1 v i l q) }
+
+  pub quiet : (x : Status) (o : Operation) (y : Step) → Quiet o y → Traces s m x m (Busy o y)
+  quiet x o y p = quiet-after x m o y p (λ v i. inl refl) (λ v. inl refl)
 
   -- ---- steps that write
   module _ (sized : Sized s m) where
@@ -156,40 +160,29 @@ module _ (s : Shape) (m : Memory) (sized : Sized s m) (sound : Sound s m) (hold 
       → ((v i : ℕ) → 1 < v → Raises v i (Busy o n) → 1 ≤ super s m v i) → Traces s m (Busy o n) (step s k o m n .memory) (step s k o m n .next)
   unfolding step go write writeIfAbsent setSuper raise headOf blockOf
   traces A own way some set =
-      let next = advance-quiet o _ Up (leafOf s k) (headOf m (leafOf s k)) in
-      record {
-        supers =
-            λ v i.
-            inl (fresh-super s m sized sound (leafOf s k) (headOf m (leafOf s k)) _ (leaf-node s k kp) (own .ends (headOf m (leafOf s k)) (omega (arith, own .some, own .head))) (plus-super o _) v i);
-        heads = λ v. inl refl;
-        asks = λ v i z q. absurd (next .0 v i z q);
-        raises = λ v i l q. absurd (next .1 v i l q);
-      }
+      let h = headOf m (leafOf s k) in
+      let none = own .ends h (omega (arith, own .some, own .head)) in
+      quiet-after s m _ _ o _ (advance-quiet o _ Up (leafOf s k) h)
+      (λ v i. inl (fresh-super s m sized sound (leafOf s k) h _ (leaf-node s k kp) none (plus-super o _) v i)) (λ v. inl refl)
   traces (V1 a w u h) own way some set =
       record {
         supers = λ v i. inl refl;
         heads = λ v. inl refl;
-        asks = λ v i z q. let e = asks-v2 o a w u h (headOf m (parentOf u)) v i z q in rw (← e .0, ← e .1) refl;
-        raises = λ v i l. elim [ ];
+        comesToV2 = λ v i z q. let e = asks-v2 o a w u h (headOf m (parentOf u)) v i z q in rw (← e .0, ← e .1) refl;
+        comesToV3 = λ v i l. elim [ ];
       }
   traces (V2 a w u h x) own way some set =
       record {
         supers = set-super s m sized o a w u h x (way .node);
         heads = λ v. inl refl;
-        asks = λ v i z. elim [ ];
-        raises =
+        comesToV2 = λ v i z. elim [ ];
+        comesToV3 =
             λ v i l q.
             let e = raises-v3 o a w u h v i q in
             rw (← e .0, ← e .1) (super-set s m sized u h x (way .node) (sound .node u (way .node)) (way .present) (λ f. some u h x (asks o a w) (omega (arith, e .0)) f));
       }
   traces (V3 a w u h) own way some set =
-      let next = resume-quiet o a w in
-      record {
-        supers = λ v i. inl (raised-super s m u h v i);
-        heads = raised-head s m u h (λ l. set u h l (raises o a w));
-        asks = λ v i z q. absurd (next .0 v i z q);
-        raises = λ v i l q. absurd (next .1 v i l q);
-      }
+      quiet-after s m _ _ o _ (resume-quiet o a w) (λ v i. inl (raised-super s m u h v i)) (raised-head s m u h (λ l. set u h l (raises o a w)))
   traces (R1 q u) own way some set = quiet s m _ o _ (λ v i z. elim [ ], λ v i l. elim [ ])
   traces (R2 w) own way some set = quiet s m _ o _ (λ v i z. elim [ ], λ v i l. elim [ ])
   traces (R3 w c) own way some set = quiet s m _ o _ (help-quiet o s m w Right (leftOf (w .node)) c)
@@ -201,11 +194,7 @@ module _ (s : Shape) (m : Memory) (sized : Sized s m) (sound : Sound s m) (hold 
       quiet s m _ o _
       (both (Quiet o) (sameTotals (built s m w l r) (block s m (w .node) (w .head - 1))) (above-quiet o (w .node)) (λ v i z. elim [ ], λ v i l. elim [ ]))
   traces (C4 w n) own way some set =
-      let next = advance-quiet o w (afterRefresh (w .second) (absent (block s m (w .node) (w .head)))) (w .node) (w .head) in
-      record {
-        supers = write-super s m sized sound (w .node) (w .head) (blockOf n) (inner-node s (w .node) (step-nodes s m hold k kp b (C4 w n) way)) refl (Busy o (C4 w n));
-        heads = λ v. inl refl;
-        asks = λ v i z q. absurd (next .0 v i z q);
-        raises = λ v i l q. absurd (next .1 v i l q);
-      }
-  traces Q own way some set = record { supers = λ v i. inl refl; heads = λ v. inl refl; asks = λ v i z. elim [ ]; raises = λ v i l. elim [ ] }
+      let inner = step-nodes s m hold k kp b (C4 w n) way in
+      quiet-after s m _ _ o _ (advance-quiet o w (afterRefresh (w .second) (absent (block s m (w .node) (w .head)))) (w .node) (w .head))
+      (write-super s m sized sound (w .node) (w .head) (blockOf n) (inner-node s (w .node) inner) refl (Busy o (C4 w n))) (λ v. inl refl)
+  traces Q own way some set = record { supers = λ v i. inl refl; heads = λ v. inl refl; comesToV2 = λ v i z. elim [ ]; comesToV3 = λ v i l. elim [ ] }

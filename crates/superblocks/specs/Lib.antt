@@ -1,2 +1,2 @@
 pub mod Supers
-pub mod SuperRuns
+pub mod SuperRows

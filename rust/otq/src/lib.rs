@@ -61,8 +61,9 @@ pub struct Played {
 ///
 /// A call turned down with 1 to 4 changes nothing. Otherwise the run ends before the first record
 /// that is turned down. Table words past [`table_words`] and bytes past the answers keep their
-/// content. In the table a block below the root that stands in a block of its parent has that
-/// block's place as its super, or the place before it.
+/// content. In the table that a call leaves unless turned down with 1 to 4, a block's superblock,
+/// the present block of its parent's that has it as a subblock, stands at the block's super or one
+/// place later.
 ///
 /// ```
 /// let step_of_an_idle_process = [0; 8];
@@ -85,9 +86,9 @@ pub fn run(p: u32, l: u32, records: &[u8], table: &mut [u32], answers: &mut [u8]
 /// Plays the records, writes the order records of the root order, and gives their length in bytes.
 ///
 /// A refusal writes no output. The work table is left as [`run`] with room for every answer leaves
-/// it, and output bytes past the list keep their content. The order only grows: if records, and the
-/// same records with more after them, are both listed without a refusal, the first list is the
-/// beginning of the second.
+/// it, and output bytes past the list keep their content. The order only grows: if, with the same p
+/// and l, records and the same records with more after them are both listed without a refusal, the
+/// first list is the beginning of the second.
 ///
 /// ```
 /// let mut records = vec![0, 1, 0, 0, 7, 0, 0, 0];

@@ -2,7 +2,6 @@
 
 use crate::records::{Kind, OrderRecord, Outcome};
 use crate::tree::{left_child, parent, right_child, Tree, ROOT};
-use std::ops::RangeInclusive;
 
 /// One operation as the blocks give it: a place in the leaf of a process.
 #[derive(Clone, Copy, PartialEq, Eq, Hash, Debug)]
@@ -31,7 +30,7 @@ impl Standing {
 }
 
 /// The end of a node's block in its left or right child.
-fn end_in(tree: &Tree, node: u32, place: u32, child: u32) -> u32 {
+pub fn end_in(tree: &Tree, node: u32, place: u32, child: u32) -> u32 {
     let block = tree.block(node, place);
     if child == left_child(node) {
         block.end_left
@@ -42,7 +41,7 @@ fn end_in(tree: &Tree, node: u32, place: u32, child: u32) -> u32 {
 
 /// Places of the child after the end in block `place - 1`, up to the end in
 /// block `place`. Places that the child lacks are absent and left out.
-pub fn subblocks(tree: &Tree, node: u32, place: u32, child: u32) -> RangeInclusive<u32> {
+fn subblocks(tree: &Tree, node: u32, place: u32, child: u32) -> std::ops::RangeInclusive<u32> {
     let before = end_in(tree, node, place - 1, child);
     let last = tree.shape().last_place(child);
     let end = end_in(tree, node, place, child).min(last);

@@ -109,17 +109,17 @@ fn each_wrong_super_of_a_large_tree() {
     let good = Left::of(8, 3, &mixed_list(8, 3, 6));
     let mut wrong = [0; 3];
     for found in good.subblocks() {
-        let words = 0..=found.superblock + 2;
+        let words = 0..=found.above + 2;
         for super_word in words.chain([u32::MAX]) {
             let mut left = good.clone();
             *left.word(found.node, found.place, SUPER) = super_word;
-            let allowed = found.superblock.max(2) - 1..=found.superblock;
+            let allowed = found.above.max(2) - 1..=found.above;
             if allowed.contains(&super_word) {
                 assert_eq!(left.check(), Ok(()), "{found:?}");
                 continue;
             }
-            let (node, place, superblock) = (found.node, found.place, found.superblock);
-            let named = subblock_at(node, place, superblock, super_word);
+            let (node, place, above) = (found.node, found.place, found.above);
+            let named = subblock_at(node, place, above, super_word);
             assert_eq!(left.check(), Err(named));
             wrong[good.shape.height(node) as usize] += 1;
         }
@@ -171,8 +171,13 @@ fn each_moved_superblock_is_reported() {
 fn holds_by_words(left: &mut Left) -> bool {
     let mut holds = true;
     for (leaf, end) in [(2, END_LEFT), (3, END_RIGHT)] {
-        for place in 1..=L {
-            let super_word = *left.word(leaf, place, SUPER);
+        for place in 1..=L + 1 {
+            // A place that the leaf lacks is absent.
+            let super_word = if place > L {
+                0
+            } else {
+                *left.word(leaf, place, SUPER)
+            };
             for b in 1..=P * L {
                 let (after, to) = (*left.word(ROOT, b - 1, end), *left.word(ROOT, b, end));
                 let present = *left.word(ROOT, b, 0) + *left.word(ROOT, b, 1) > 0;
@@ -190,6 +195,15 @@ fn a_subblock_that_is_absent() {
     let mut left = Left::good();
     *left.word(ROOT, 4, END_RIGHT) = 3;
     assert_eq!(left.check(), Err(subblock_at(3, 3, 4, 0)));
+}
+
+#[test]
+fn a_subblock_past_the_last_place() {
+    for end in [2, 3, u32::MAX] {
+        let mut left = Left::of(2, 1, &List::new().put(0, 5).steps(0, 15).bytes());
+        *left.word(ROOT, 1, END_LEFT) = end;
+        assert_eq!(left.check(), Err(subblock_at(2, 2, 1, 0)));
+    }
 }
 
 #[test]

@@ -69,7 +69,7 @@ fn known_runs_and_their_refusals() {
     for known in known_runs() {
         let (p, l) = (known.p, known.l);
         let after = run_with(p, l, &known.list, known.words, known.bytes);
-        // A call that is turned down leaves no blocks.
+        // The claim is not of a call that is turned down: it leaves the words that it was lent.
         if after.result.refusal != 3 {
             met.assert_near(Shape::new(p, l).unwrap(), &after.table, known.name);
         }

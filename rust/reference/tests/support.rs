@@ -115,11 +115,11 @@ pub fn then_pattern_bytes(start: &[u8], count: usize) -> Vec<u8> {
     [start, &pattern_bytes(count)[start.len()..]].concat()
 }
 
-pub fn subblock_at(node: u32, place: u32, superblock: u32, super_word: u32) -> Subblock {
+pub fn subblock_at(node: u32, place: u32, above: u32, super_word: u32) -> Subblock {
     Subblock {
         node,
         place,
-        superblock,
+        above,
         super_word,
     }
 }
@@ -137,7 +137,7 @@ impl Met {
         assert_eq!(supers_near(shape, table), Ok(()), "{told:?}");
         for block in all_subblocks(shape, table) {
             let height = shape.height(block.node) as usize;
-            if block.superblock == block.super_word {
+            if block.above == block.super_word {
                 self.at_super[height] += 1;
             } else {
                 self.one_later[height] += 1;
