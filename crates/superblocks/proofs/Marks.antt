@@ -19,6 +19,7 @@ use Rattle.steps.specs.declared.Step.the-variants.{A, V1, V2, V3, R1, R2, R3, R
 use Rattle.steps.specs.declared.Status.{Status}
 use Rattle.steps.specs.declared.Status.the-variants.{Idle, Busy}
 use Rattle.steps.specs.Machine.{Machine, processOf}
+use Rattle.steps.proofs.Stages.{Stage, resting, adding, advancing, starting, building, answering, stage}
 
 -- super of the block at place i of node v
 abbrev pub super : Shape → Memory → ℕ → ℕ → ℕ
@@ -67,25 +68,17 @@ sight (C4 w n) onLeft = endRead (n .left)
 sight (C4 w n) onRight = endRead (n .right)
 sight Q d = unseen
 
--- the visit that a step is in; the values of a step outside of any stand for none, and have seen nothing
+-- the visit that a stage is in; the values of a stage outside of any stand for none, where nothing is seen
 abbrev noVisit : Visit
 noVisit = record { node = 0; head = 0; second = false }
 
-abbrev pub visit : Step → Visit
-visit A = noVisit
-visit (V1 a w v h) = w
-visit (V2 a w v h x) = w
-visit (V3 a w v h) = w
-visit (R1 q v) = noVisit
-visit (R2 w) = w
-visit (R3 w c) = w
-visit (R4 w) = w
-visit (R5 w c) = w
-visit (C1 w) = w
-visit (C2 w l) = w
-visit (C3 w l r) = w
-visit (C4 w n) = w
-visit Q = noVisit
+abbrev pub visitIn : Stage → Visit
+visitIn resting = noVisit
+visitIn adding = noVisit
+visitIn (advancing w a v h) = w
+visitIn (starting v second) = noVisit
+visitIn (building w x) = w
+visitIn answering = noVisit
 
 -- what was seen covers place i of the child on side d of node u
 abbrev pub Covers : Memory → Side → ℕ → ℕ → Sight → Type 0
@@ -107,7 +100,7 @@ covers-rises m n d u i l (endRead e) p = p
 -- there. Helping is what makes this so: R3 and R5 leave the head past every block that was present
 abbrev pub Seen : Memory → Side → ℕ → ℕ → ℕ → Status → Type 0
 Seen m d u i z Idle = Unit {0}
-Seen m d u i z (Busy o n) = visit n .node ≡ u → z < visit n .head → Covers m d u i (sight n d)
+Seen m d u i z (Busy o n) = visitIn (stage n) .node ≡ u → z < visitIn (stage n) .head → Covers m d u i (sight n d)
 
 -- ---- the marks of a block
 
