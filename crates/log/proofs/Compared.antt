@@ -2,19 +2,21 @@
 use Prim.Native.Nat.{ℕ, suc, _+_, _*_, _%_}
 use native.Mathlib.Nat.{add-zero}
 use native.Mathlib.Omega.{arith}
-use borrow.Author.Tests.{eqb-true, not-false}
-use mathlib.Core.Bool.{Bool, true, false}
+use borrow.Author.Tests.{eqb-true, eq-eqb, not-false}
+use mathlib.Core.Bool.{Bool, true, false, _&&_}
 use mathlib.Core.Path.{_≡_, refl, ap, sym, _∙_}
 use mathlib.Core.List.{List, [], _∷_, map}
 use lib.ListN.{length, length-map}
 use lib.Dec.{eqb}
 use Rattle.base.specs.Choice.{if_then_else_}
+use Rattle.base.proofs.Cases.{cases, and-true, contradiction}
 use Rattle.record.specs.declared.AnswerRecord.{AnswerRecord}
 use Rattle.record.specs.AnswerRecords.{answerSize, answerBytes}
+use Rattle.rules.specs.declared.Verdict.{Verdict}
 use Rattle.rules.specs.declared.Verdict.the-variants.{Same, Differs}
 use Rattle.rules.specs.Refusals.{torn}
 use Rattle.rules.specs.CheckLog.{sameBytes, compared}
-use Rattle.log.specs.Leading.{leading, leadingOf}
+use Rattle.log.specs.Leading.{leading, leadingOf, verdictOf}
 use Rattle.log.proofs.Cuts.{recordsOf, records-length}
 use Rattle.log.proofs.Counted.{counts}
 
@@ -47,13 +49,21 @@ module _ (xs : List AnswerRecord) (log : List ℕ) (whole : torn answerSize (len
   unfolding torn answerSize
   records-fill = omega (arith, eqb-true (length log % answerSize) 0 (not-false (eqb (length log % answerSize) 0) whole), records-length log)
 
-  pub compared-same : leadingOf xs log ≡ length xs → answerSize * length xs ≡ length log → compared 0 (map answerBytes xs) (recordsOf log) ≡ Same
+  compared-same : leadingOf xs log ≡ length xs → answerSize * length xs ≡ length log → compared 0 (map answerBytes xs) (recordsOf log) ≡ Same
   unfolding leadingOf answerSize
   compared-same e l = all-equal 0 (map answerBytes xs) (recordsOf log) (e ∙ sym (length-map xs answerBytes)) (omega (arith, records-fill, length-map xs answerBytes))
 
-  pub compared-differs : (leadingOf xs log ≡ length xs → answerSize * length xs ≡ length log → ⊥)
+  compared-differs : (leadingOf xs log ≡ length xs → answerSize * length xs ≡ length log → ⊥)
       → compared 0 (map answerBytes xs) (recordsOf log) ≡ Differs (leadingOf xs log)
   unfolding leadingOf answerSize
   compared-differs h =
       not-all 0 (map answerBytes xs) (recordsOf log) (λ e l. h (e ∙ length-map xs answerBytes) (omega (arith, records-fill, length-map xs answerBytes)))
       ∙ ap Differs (omega arith)
+
+  pub verdict-compared : verdictOf (leadingOf xs log) (length xs) (length log) ≡ compared 0 (map answerBytes xs) (recordsOf log)
+  unfolding verdictOf
+  verdict-compared =
+      let same : Bool = eqb (leadingOf xs log) (length xs) && eqb (answerSize * length xs) (length log) in
+      cases (λ (v : Verdict). v ≡ compared 0 (map answerBytes xs) (recordsOf log)) same
+      (λ t. let both = and-true _ _ t in sym (compared-same (eqb-true _ _ (both .0)) (eqb-true _ _ (both .1))))
+      (λ f. sym (compared-differs (λ e l. contradiction same (rw (eq-eqb _ _ e, eq-eqb _ _ l)) f)))

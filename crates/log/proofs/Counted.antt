@@ -1,20 +1,22 @@
--- The equal records at the beginning of two logs, when one of them gets more records.
+-- The equal records at the beginning of two logs, when one of them gets more records: what `countAfter` says of one more.
 use Prim.Native.Nat.{ℕ, suc, _+_, _*_, _/_, _≤_, _<_, zero-le}
 use native.Mathlib.Nat.{suc-add}
 use native.Mathlib.Omega.{arith}
-use mathlib.Core.Bool.{Bool, true, false}
+use mathlib.Core.Bool.{Bool, true, false, _&&_}
 use mathlib.Core.Path.{_≡_, refl, ap, sym, _∙_}
 use mathlib.Core.List.{List, [], _∷_, _++_, map, map-append}
 use lib.ListN.{length, take, drop, length-map, drop-of-length-le}
 use lib.Seq.{drop-cons}
+use lib.Dec.{leb, eqb}
+use borrow.Author.Tests.{leb-true, leb-false, eqb-true, eqb-false}
 use Rattle.base.specs.Choice.{if_then_else_}
 use Rattle.base.proofs.Cases.{both}
 use Rattle.record.specs.declared.AnswerRecord.{AnswerRecord}
 use Rattle.record.specs.AnswerRecords.{answerSize, answerBytes}
 use Rattle.rules.specs.CheckLog.{sameBytes}
-use Rattle.log.specs.Leading.{leading, leadingOf}
+use Rattle.log.specs.Leading.{leading, leadingOf, countAfter}
 use Rattle.record.proofs.Cuts.{cut-at}
-use Rattle.log.proofs.Cuts.{recordsOf, records-length}
+use Rattle.log.proofs.Cuts.{recordsOf, records-length, no-record}
 
 -- a record counts, and those after it, only if it is equal
 pub counts : (b : Bool) (r n : ℕ) → (if b then suc r else 0) ≡ suc n → (b ≡ true) × (r ≡ n)
@@ -49,8 +51,12 @@ unfolding leadingOf leading
 leading-none log = refl
 
 module _ (xs : List AnswerRecord) (a : AnswerRecord) (log : List ℕ) where
+  -- the log's record behind as many as there are answers
+  abbrev next : List ℕ
+  next = take answerSize (drop (answerSize * length xs) log)
+
   -- after a difference one more answer counts no more
-  pub leading-stays : (leadingOf xs log ≡ length xs → ⊥) → leadingOf (xs ++ (a ∷ [])) log ≡ leadingOf xs log
+  leading-stays : (leadingOf xs log ≡ length xs → ⊥) → leadingOf (xs ++ (a ∷ [])) log ≡ leadingOf xs log
   unfolding leadingOf
   leading-stays h =
       rw (map-append answerBytes xs (a ∷ [])) (leading-stopped (map answerBytes xs) (answerBytes a ∷ []) (recordsOf log) (λ e. h (e ∙ length-map xs answerBytes)))
@@ -63,17 +69,39 @@ module _ (xs : List AnswerRecord) (a : AnswerRecord) (log : List ℕ) where
         (leading-goes-on (map answerBytes xs) (answerBytes a ∷ []) (recordsOf log) (e ∙ sym (length-map xs answerBytes)))
 
     -- where the log has no record left, none is equal
-    pub leading-ended : length log < answerSize * length xs + answerSize → leadingOf (xs ++ (a ∷ [])) log ≡ length xs
+    leading-ended : length log < answerSize * length xs + answerSize → leadingOf (xs ++ (a ∷ [])) log ≡ length xs
     unfolding answerSize leading
     leading-ended h =
         let past : length (recordsOf log) ≤ length xs = omega (arith, records-length log) in
         goes-on ∙ rw (drop-of-length-le (recordsOf log) past) (omega arith)
 
     -- where it has one, that record decides
-    pub leading-next : answerSize * length xs + answerSize ≤ length log
-        → leadingOf (xs ++ (a ∷ [])) log ≡ length xs + (if sameBytes (answerBytes a) (take answerSize (drop (answerSize * length xs) log)) then 1 else 0)
+    leading-next : answerSize * length xs + answerSize ≤ length log
+        → leadingOf (xs ++ (a ∷ [])) log ≡ length xs + (if sameBytes (answerBytes a) next then 1 else 0)
     unfolding answerSize leading
     leading-next h =
         let within : length xs < length log / answerSize = omega arith in
         let there : length xs < length (recordsOf log) = omega (arith, records-length log) in
         goes-on ∙ rw (drop-cons (recordsOf log) (length xs) [] there, cut-at answerSize (length log / answerSize) (length xs) log within)
+
+    -- one more counts if that record is its bytes, and there it has sixteen
+    by-record : (if sameBytes (answerBytes a) next then leadingOf xs log + 1 else leadingOf xs log) ≡ leadingOf (xs ++ (a ∷ [])) log
+    by-record = on (leb (answerSize * length xs + answerSize) (length log)) refl
+      where
+        counted : (b : Bool) → (if b then leadingOf xs log + 1 else leadingOf xs log) ≡ length xs + (if b then 1 else 0)
+        counted true = omega arith
+        counted false = omega arith
+
+        on : (b : Bool) → leb (answerSize * length xs + answerSize) (length log) ≡ b
+            → (if sameBytes (answerBytes a) next then leadingOf xs log + 1 else leadingOf xs log) ≡ leadingOf (xs ++ (a ∷ [])) log
+        on true r = counted (sameBytes (answerBytes a) next) ∙ sym (leading-next (leb-true _ _ r))
+        on false r = let h = leb-false _ _ r in rw (no-record log (length xs) a h) (e ∙ sym (leading-ended h))
+
+  pub count-after : countAfter log (length xs) (leadingOf xs log) a ≡ leadingOf (xs ++ (a ∷ [])) log
+  unfolding countAfter
+  count-after = on (eqb (leadingOf xs log) (length xs)) refl
+    where
+      on : (b : Bool) → eqb (leadingOf xs log) (length xs) ≡ b
+          → (if b && sameBytes (answerBytes a) next then leadingOf xs log + 1 else leadingOf xs log) ≡ leadingOf (xs ++ (a ∷ [])) log
+      on true r = by-record (eqb-true _ _ r)
+      on false r = sym (leading-stays (eqb-false _ _ r))

@@ -6,10 +6,11 @@ use mathlib.Core.Path.{_≡_, ap, sym, _∙_}
 use mathlib.Core.List.{List, [], _∷_, _++_, flatMap, append-nil, append-assoc}
 use lib.ListN.{length, drop, length-append, length-drop}
 use lib.Seq.{sets, sets-eq, take-nil, drop-nil, take-all, take-at, drop-at, drop-drop}
+use borrow.Author.Tests.{le-leb, lt-leb}
 use Rattle.record.specs.declared.AnswerRecord.{AnswerRecord}
 use Rattle.record.specs.AnswerRecords.{answerSize, answerBytes, logBytes}
 use Rattle.record.proofs.Lengths.{answer-length, log-length}
-use Rattle.log.specs.Leading.{written}
+use Rattle.log.specs.Leading.{written, withAnswer}
 
 -- with no answers the bytes are as they were
 pub written-none : (out : List ℕ) → written out [] ≡ out
@@ -42,7 +43,7 @@ rest-stays : (p out : List ℕ) (n k : ℕ) → length p ≡ n → drop (n + k) 
 rest-stays p out n k e = sym (drop-drop k n (p ++ drop n out)) ∙ ap (drop k) (drop-at p (drop n out) n e) ∙ drop-drop k n out
 
 -- one more answer, stored behind the others
-pub written-more : (out : List ℕ) (xs : List AnswerRecord) (a : AnswerRecord) → answerSize * length xs + answerSize ≤ length out
+written-more : (out : List ℕ) (xs : List AnswerRecord) (a : AnswerRecord) → answerSize * length xs + answerSize ≤ length out
     → sets (written out xs) (answerSize * length xs) (answerBytes a) ≡ written out (xs ++ (a ∷ []))
 unfolding answerSize
 written-more out xs a h =
@@ -60,3 +61,14 @@ written-more out xs a h =
       take-at (logBytes xs) (drop n out) n (log-length xs),
       rest-stays (logBytes xs) out n answerSize (log-length xs),
     )
+
+-- the same, where there are no bytes at all too
+pub written-after : (out : List ℕ) (xs : List AnswerRecord) (a : AnswerRecord) → (length out ≡ 0) ⊎ (answerSize * length xs + answerSize ≤ length out)
+    → withAnswer (written out xs) (length xs) a ≡ written out (xs ++ (a ∷ []))
+unfolding withAnswer answerSize
+written-after out xs a (inl z) =
+    rw (lt-leb (answerSize * length xs + answerSize) (length (written out xs)) (omega (arith, written-length out xs (inl z))))
+    (written-nowhere out xs z ∙ sym (written-nowhere out (xs ++ (a ∷ [])) z))
+written-after out xs a (inr h) =
+    rw (le-leb (answerSize * length xs + answerSize) (length (written out xs)) (omega (arith, written-length out xs (inr (omega arith)))))
+    (written-more out xs a h)

@@ -1,16 +1,10 @@
 // A log that grows, compared with another: how many records at the beginning are equal, and the verdict at the end.
 use record::AnswerRecord;
-ghost use mathlib.Core.Bool.{false};
 ghost use mathlib.Core.Path.{_≡_};
-ghost use mathlib.Core.List.{List, [], _∷_, _++_, map};
-ghost use Prim.Native.Nat.{ℕ, _+_, _*_, _/_, _≤_, _<_};
+ghost use Prim.Native.Nat.{_+_, _*_, _≤_, _<_};
 ghost use lib.ListN.{length, take, drop};
-ghost use Rattle.record.specs.Bytes.{cut};
-ghost use Rattle.record.specs.AnswerRecords.{answerSize, answerBytes};
-ghost use Rattle.record.specs.declared.AnswerRecord.{AnswerRecord as Answer};
-ghost use Rattle.rules.specs.Refusals.{torn};
-ghost use Rattle.rules.specs.CheckLog.{sameBytes, compared};
-ghost use Rattle.log.specs.Leading.{leadingOf};
+ghost use Rattle.rules.specs.CheckLog.{sameBytes};
+ghost use Rattle.log.specs.Leading.{countAfter, verdictOf};
 
 // Whether sixteen bytes are those from an index on.
 fn same_sixteen(bytes: &[u8], log: &[u8], at: usize) -> bool
@@ -27,11 +21,10 @@ fn same_sixteen(bytes: &[u8], log: &[u8], at: usize) -> bool
     true
 }
 
-// How many records at the beginning of two logs are equal, when the one with n answers gets another, a. Once they differ, later records count no more.
+// How many records at the beginning of two logs are equal, when the one with n answers gets another, a, and `equal` were so far. Once they differ, later records count no more.
 pub fn equal_after(log: &[u8], n: usize, equal: usize, a: AnswerRecord) -> usize
     requires { ⌜ (16 * n + 16 < 18446744073709551616) × (a .process < 256) × (a .steps < 65536) ⌝ }
-    ensures { λ r. ⌜ ((xs : List Answer) → n ≡ length xs → equal ≡ leadingOf xs (now (log .entry))
-        → r ≡ leadingOf (xs ++ (a ∷ [])) (now (log .entry))) ⌝ }
+    ensures { λ r. ⌜ r ≡ countAfter (now (log .entry)) n equal a ⌝ }
 {
     if equal != n {
         return equal;
@@ -52,8 +45,7 @@ pub fn equal_after(log: &[u8], n: usize, equal: usize, a: AnswerRecord) -> usize
 // records here, so its bytes tell how many they are.
 pub fn verdict(equal: usize, answers: usize, bytes: usize) -> rules::Verdict
     requires { ⌜ 16 * answers < 18446744073709551616 ⌝ }
-    ensures { λ r. ⌜ ((xs : List Answer) (log : List ℕ) → answers ≡ length xs → equal ≡ leadingOf xs log → bytes ≡ length log
-        → torn answerSize (length log) ≡ false → r ≡ compared 0 (map answerBytes xs) (cut answerSize (length log / answerSize) log)) ⌝ }
+    ensures { λ r. ⌜ r ≡ verdictOf equal answers bytes ⌝ }
 {
     if equal != answers {
         return rules::Verdict::Differs(equal as u64);

@@ -2,13 +2,13 @@
 use Prim.Native.Nat.{ℕ, _+_, _*_, _-_, _≤_, _<_}
 use native.Mathlib.Omega.{arith}
 use mathlib.Core.Path.{_≡_, refl, ap, sym, _∙_, subst}
-use mathlib.Core.Logic.{_⊎_}
 use mathlib.Core.Bool.{false}
-use mathlib.Core.List.{List, [], _∷_, _++_}
+use mathlib.Core.List.{List, []}
 use lib.ListN.{length, take, drop, getD, set}
 use Rattle.record.specs.declared.StepRecord.{StepRecord}
 use Rattle.record.specs.declared.AnswerRecord.{AnswerRecord}
 use Rattle.record.specs.Bytes.{numberOf}
+use Rattle.record.specs.AnswerRecords.{answerSize}
 use Rattle.record.specs.StepRecords.{isStep, stepRecord, stepRecords, illFormed}
 use Rattle.tree.specs.Shape.{Shape, processes, leafOf}
 use Rattle.steps.specs.declared.Operation.{Operation}
@@ -19,14 +19,16 @@ use Rattle.steps.specs.declared.Process.{Process}
 use Rattle.steps.specs.Process.{idle}
 use Rattle.steps.specs.Rules.{step, go}
 use Rattle.steps.specs.Ready.{Begins, Ready}
-use Rattle.steps.specs.Next.{Placed, operationIn, stepIn, moved, Moves}
+use Rattle.steps.specs.Next.{Placed, Fits, FitsLeaf, operationIn, stepIn, moved, Moves}
 use Rattle.steps.proofs.NodeReads.{begins}
 use Rattle.steps.specs.Machine.{isIdle, isQ}
 use Rattle.rules.specs.declared.Refusal.the-variants.{StepWhileIdle, AnswersFull}
 use Rattle.rules.specs.Answer.{answerOf}
 use Rattle.rules.specs.Refusals.{shapeFor}
 use Rattle.rules.specs.Run.{play}
-use Rattle.log.specs.Leading.{leadingOf, written}
+use Rattle.log.specs.Leading.{withAnswer, countAfter}
+use Rattle.log.proofs.Counted.{count-after}
+use Rattle.log.proofs.Written.{written-after}
 use Rattle.answer.proofs.PlaysLaws.{plays-ready}
 use Rattle.answer.specs.Playing.{machineOf, Plays, Playing}
 use Rattle.player.specs.Turns.{rested}
@@ -65,6 +67,9 @@ module _ {p l : ℕ} {starts records heads₀ table₀ : List ℕ} {room : ℕ} 
     pub step-leaf : p + first ≡ leafOf s first
     unfolding leafOf
     step-leaf = ap (λ (x : ℕ). x + first) (sym (w .inv .width))
+
+    pub step-fits-leaf : p + first < length heads → FitsLeaf starts (p + first)
+    step-fits-leaf h = record { shape = s; process = first; own = step-leaf; begins = step-begins (p + first) h }
 
     abbrev q : Process
     q = getD procs j idle
@@ -121,6 +126,11 @@ module _ {p l : ℕ} {starts records heads₀ table₀ : List ℕ} {room : ℕ} 
           subst (λ (v : ℕ). Ready starts heads table v y) (ap (λ (x : ℕ). x + first) (w .inv .width))
           (plays-ready s (take (processes s) procs) starts heads table first q step-plays (operationIn (q .status)) y (step-busy refl (sym is)) goes)
 
+      pub step-fits : {y : Step} → x ≡ y → isQ y ≡ false → Fits starts (stepIn (q .status))
+      step-fits {y} is goes =
+          let told : stepIn (q .status) ≡ y = ap stepIn busy ∙ is in
+          record { shape = s; placed = subst (Placed s starts) (sym told) (placed y (step-ready told goes)) }
+
       pub step-moves : {y : Step} → x ≡ y → isQ y ≡ false → (table' heads' : List ℕ) (r : Process) → length heads' ≡ length heads → length table' ≡ length table
           → (stepIn (q .status) ≡ y → Ready starts heads table (p + first) y → Placed s starts (stepIn (q .status))
           → Moves q r
@@ -149,15 +159,14 @@ module _ {p l : ℕ} {starts records heads₀ table₀ : List ℕ} {room : ℕ} 
 
       pub finish-moves : (enough : 16 ≤ left) (a : AnswerRecord) (out' : List ℕ) (equal' : ℕ) → length out' ≡ length out
           → ((s' : Shape) (ps : List Process) → processes s' ≡ p → Plays s' ps starts heads table first q → a ≡ answerOf s' (machineOf table heads ps) first o)
-          → ((xs : List AnswerRecord) → answers ≡ length xs → equal ≡ leadingOf xs log → equal' ≡ leadingOf (xs ++ (a ∷ [])) log)
-          → ((before : List ℕ) (xs : List AnswerRecord) → answers ≡ length xs → (length before ≡ 0) ⊎ (16 * answers + 16 ≤ length before) → out ≡ written before xs
-          → out' ≡ written before (xs ++ (a ∷ [])))
+          → equal' ≡ countAfter log answers equal a → out' ≡ withAnswer out answers a
           → Loop p l starts records heads₀ table₀ room out₀ log n₀ heads table out' (set procs j (rested q)) (answers + 1) equal' (left - 16) (i + 1)
-      unfolding isStep isQ
+      unfolding isStep isQ answerSize
       finish-moves enough a out' equal' eo told-a told-e told-w =
           let xs : List AnswerRecord = play s room (take i rs) .answers in
           subst (λ (y : ℕ). Loop p l starts records heads₀ table₀ room out₀ log n₀ heads table out' (set procs y (rested (getD procs y idle))) (answers + 1) equal' (left - 16) (i + 1)) (sym (w .at))
           (loop-finishes (w .inv) (w .more) (stepOf first) step-is o a out' equal' (w .low) eo
           (last-turn s left (take (processes s) procs) starts heads table (stepOf first) q step-plays well refl o Q finish-busy refl enough)
-          (told-a s (take (processes s) procs) (w .inv .width) step-plays) enough (told-e xs (w .inv .going .answered) (w .inv .going .same))
-          (told-w out₀ xs (w .inv .going .answered) (loop-spare (w .inv) enough (w .inv .begun .bounded)) (w .inv .going .bytes)))
+          (told-a s (take (processes s) procs) (w .inv .width) step-plays) enough
+          (told-e ∙ rw (w .inv .going .answered, w .inv .going .same) (count-after xs a log))
+          (told-w ∙ rw (w .inv .going .answered, w .inv .going .bytes) (written-after out₀ xs a (rw (w .inv .going .answered) at (loop-spare (w .inv) enough (w .inv .begun .bounded))))))

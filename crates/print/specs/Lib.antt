@@ -3,4 +3,3 @@ pub mod Decimal
 pub mod AnswerBytes
 pub mod Lines
 pub mod Printed
-pub mod WorkedRun

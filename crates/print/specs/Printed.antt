@@ -7,7 +7,6 @@ use lib.Dec.{ltb}
 use Rattle.base.specs.Choice.{if_then_else_}
 use Rattle.record.specs.Bytes.{cut}
 use Rattle.record.specs.AnswerRecords.{answerSize}
-use Rattle.rules.specs.Refusals.{refusalNumber}
 use Rattle.rules.specs.Run.{RunLeaves, run}
 use Rattle.print.specs.AnswerBytes.{answerRecord}
 use Rattle.print.specs.Lines.{answerLine, lastLine, longLine}
@@ -22,7 +21,7 @@ printed answers n refusal taken = answerLines answers n ++ lastLine refusal take
 
 -- the text of what Run leaves
 unfoldable pub runText : RunLeaves → List ℕ
-runText r = printed (r .answers) (r .answered) (refusalNumber (r .refusal)) (r .taken)
+runText r = printed (r .answers) (r .answered) (r .refusal) (r .taken)
 
 -- what the printing program prints of an input: p = 4, L = 24, a table of 1,770 words, 1,536 answer bytes; an input longer than 65,536 bytes prints long alone
 unfoldable pub printRun : List ℕ → List ℕ

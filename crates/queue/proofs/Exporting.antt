@@ -1,26 +1,28 @@
 -- What the exported calls return, from what the calls return. Used by proofs; no promise cites it.
 use Prim.Native.Nat.{ℕ}
-use mathlib.Core.Path.{_≡_, ap, _∙_}
+use mathlib.Core.Path.{_≡_, ap, _∙_, subst}
 use mathlib.Core.List.{List}
-use Rattle.rules.specs.declared.Verdict.{Verdict}
+use lib.ListN.{length}
 use Rattle.rules.specs.Refusals.{refusalNumber}
 use Rattle.rules.specs.Run.{RunLeaves}
 use Rattle.rules.specs.ListOrder.{ListLeaves}
-use Rattle.rules.specs.CheckLog.{CheckLeaves}
+use Rattle.rules.specs.CheckLog.{CheckLeaves, checkLog}
+use Rattle.rules.specs.LogVerdict.{Judges}
+use Rattle.rules.proofs.LogVerdict.{check-judges}
 use Rattle.queue.specs.declared.Ran.{Ran}
 use Rattle.queue.specs.declared.Listed.{Listed}
 use Rattle.queue.specs.declared.OtqRun.{OtqRun}
 use Rattle.queue.specs.declared.OtqList.{OtqList}
 use Rattle.queue.specs.declared.OtqCheck.{OtqCheck}
-use Rattle.queue.specs.Left.{runLeft, listLeft, checkLeft}
-use Rattle.queue.specs.Exported.{RunExport, ListExport, CheckExport, checkedAs}
+use Rattle.queue.specs.Left.{runLeft, listLeft}
+use Rattle.queue.specs.Exported.{RunExport, ListExport, CheckExport}
 
 pub run-export : (r : Ran) (n : ℕ) (table answers : List ℕ) (e : RunLeaves) → runLeft r table answers ≡ e → n ≡ refusalNumber (r .refusal)
     → RunExport e (record { refusal = n; taken = r .taken; answers = r .answers }) table answers
 unfolding runLeft
 run-export r n table answers e h f =
     record {
-      refusal = f ∙ ap (λ (x : RunLeaves). refusalNumber (x .refusal)) h;
+      refusal = f ∙ ap (λ (x : RunLeaves). x .refusal) h;
       taken = ap (λ (x : RunLeaves). x .taken) h;
       answered = ap (λ (x : RunLeaves). x .answered) h;
       words = ap (λ (x : RunLeaves). x .table) h;
@@ -32,13 +34,16 @@ pub list-export : (r : Listed) (n : ℕ) (table output : List ℕ) (e : ListLeav
 unfolding listLeft
 list-export r n table output e h f =
     record {
-      refusal = f ∙ ap (λ (x : ListLeaves). refusalNumber (x .refusal)) h;
+      refusal = f ∙ ap (λ (x : ListLeaves). x .refusal) h;
       size = ap (λ (x : ListLeaves). x .length) h;
       words = ap (λ (x : ListLeaves). x .table) h;
       bytes = ap (λ (x : ListLeaves). x .output) h;
     }
 
-pub check-export : (v : Verdict) (r : OtqCheck) (table : List ℕ) (e : CheckLeaves) → checkLeft v table ≡ e → r ≡ checkedAs v → CheckExport e r table
-unfolding checkLeft
-check-export v r table e h f =
-    record { result = f ∙ ap (λ (x : CheckLeaves). checkedAs (x .verdict)) h; words = ap (λ (x : CheckLeaves). x .table) h }
+pub check-export : (r : OtqCheck) (table : List ℕ) (e f : CheckLeaves) → f ≡ e → CheckExport f r table → CheckExport e r table
+check-export r table e f h x = subst (λ (z : CheckLeaves). CheckExport z r table) h x
+
+-- the numbers that check a log returned are those of the definition
+pub check-told : (p l : ℕ) (records log table table' : List ℕ) (r : OtqCheck) → CheckExport (checkLog p l records log table) r table'
+    → Judges p l (length table) records log (r .verdict) (r .index)
+check-told p l records log table table' r x = rw (x .verdict, x .index) (check-judges p l records log table)

@@ -61,7 +61,7 @@ pub list-written : (s : Shape) (t table output output' : List ℕ) (n : ℕ) →
     → output' ≡ orderList s t ++ drop (length (orderList s t)) output
     → listLeft (record { refusal = None; length = n }) table output' ≡ listFrom s t table output
 unfolding listLeft listFrom listRefusal listed accepted refusalNumber
-list-written s t table output output' n e h f = rw (le-ltb _ _ h) (λ i. record { refusal = None; length = e i; table = table; output = f i })
+list-written s t table output output' n e h f = rw (le-ltb _ _ h) (λ i. record { refusal = 0; length = e i; table = table; output = f i })
 
 -- ---- the call
 module _ (p l : ℕ) (records table output : List ℕ) where
@@ -93,7 +93,7 @@ module _ (p l : ℕ) (records table output : List ℕ) where
         unfolding listLeft listPlayed listRefusal listed
         list-refused e =
             let z : accepted (g .refusal) ≡ false = ap accepted (sym (leaves .refusal)) ∙ e in
-            (λ i. record { refusal = leaves .refusal i; length = 0; table = left i; output = output })
+            (λ i. record { refusal = refusalNumber (leaves .refusal i); length = 0; table = left i; output = output })
             ∙ (rw (z, z))
             ∙ is-listed
 

@@ -8,7 +8,7 @@ use Rattle.record.specs.AnswerRecords.{answerSize}
 use Rattle.record.specs.StepRecords.{stepRecords}
 use Rattle.tree.specs.Shape.{Shape}
 use Rattle.tree.specs.Layout.{wordsNeeded}
-use Rattle.rules.specs.Refusals.{accepted, shapeFor, callRefusal}
+use Rattle.rules.specs.Refusals.{refusalNumber, accepted, shapeFor, callRefusal}
 use Rattle.rules.specs.Run.{Played, play, runTurnedDown, runPlayed, run}
 use Rattle.rules.specs.Demand3.{Demand3, RunKeeps}
 use Rattle.rules.proofs.Played.{played-room}
@@ -45,7 +45,7 @@ module _ (p l : ℕ) (records table answers : List ℕ) where
           rw ok
           (λ i.
           record {
-            refusal = leaves .refusal i;
+            refusal = refusalNumber (leaves .refusal i);
             taken = leaves .taken i;
             answered = leaves .answered i;
             table = table-left g log answers o (wordsNeeded s) table table' heads' answers' leaves rest i;

@@ -1,10 +1,7 @@
--- The results of the exported calls: numbers in the place of enums.
+-- The results of the exported calls, and the buffers that they leave.
 use Prim.Native.Nat.{ℕ}
 use mathlib.Core.Path.{_≡_}
 use mathlib.Core.List.{List}
-use Rattle.rules.specs.declared.Verdict.{Verdict}
-use Rattle.rules.specs.declared.Verdict.the-variants.{Same, Differs, Refused}
-use Rattle.rules.specs.Refusals.{refusalNumber}
 use Rattle.rules.specs.Run.{RunLeaves}
 use Rattle.rules.specs.ListOrder.{ListLeaves}
 use Rattle.rules.specs.CheckLog.{CheckLeaves}
@@ -14,7 +11,7 @@ use Rattle.queue.specs.declared.OtqCheck.{OtqCheck}
 
 -- r, the table and the answer bytes are what Run leaves
 pub record RunExport (e : RunLeaves) (r : OtqRun) (table answers : List ℕ) : Type 0 where
-  pub refusal : r .refusal ≡ refusalNumber (e .refusal)
+  pub refusal : r .refusal ≡ e .refusal
   pub taken : r .taken ≡ e .taken
   pub answered : r .answers ≡ e .answered
   pub words : table ≡ e .table
@@ -22,18 +19,14 @@ pub record RunExport (e : RunLeaves) (r : OtqRun) (table answers : List ℕ) : T
 
 -- r, the table and the output are what list the order leaves
 pub record ListExport (e : ListLeaves) (r : OtqList) (table output : List ℕ) : Type 0 where
-  pub refusal : r .refusal ≡ refusalNumber (e .refusal)
+  pub refusal : r .refusal ≡ e .refusal
   pub size : r .length ≡ e .length
   pub words : table ≡ e .table
   pub bytes : output ≡ e .output
 
--- a verdict as numbers: 0 same, 1 differs with an index, 2 refused with a number
-unfoldable pub checkedAs : Verdict → OtqCheck
-checkedAs Same = record { refusal = 0; verdict = 0; index = 0 }
-checkedAs (Differs i) = record { refusal = 0; verdict = 1; index = i }
-checkedAs (Refused n) = record { refusal = refusalNumber n; verdict = 2; index = 0 }
-
 -- r and the table are what check a log leaves
 pub record CheckExport (e : CheckLeaves) (r : OtqCheck) (table : List ℕ) : Type 0 where
-  pub result : r ≡ checkedAs (e .verdict)
+  pub refusal : r .refusal ≡ e .refusal
+  pub verdict : r .verdict ≡ e .verdict
+  pub index : r .index ≡ e .index
   pub words : table ≡ e .table

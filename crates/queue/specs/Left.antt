@@ -1,21 +1,22 @@
--- What a call returns together with what it leaves in the buffers, as the definitions have it.
+-- What a call returns together with what it leaves in the buffers, as the definitions have it: of an enum the paper's numbers.
 use Prim.Native.Nat.{ℕ}
 use mathlib.Core.List.{List}
 use Rattle.rules.specs.declared.Verdict.{Verdict}
+use Rattle.rules.specs.Refusals.{refusalNumber}
 use Rattle.rules.specs.Run.{RunLeaves}
 use Rattle.rules.specs.ListOrder.{ListLeaves}
-use Rattle.rules.specs.CheckLog.{CheckLeaves}
+use Rattle.rules.specs.CheckLog.{CheckLeaves, checked}
 use Rattle.queue.specs.declared.Ran.{Ran}
 use Rattle.queue.specs.declared.Listed.{Listed}
 
 -- Run, with its table and answer bytes
 unfoldable pub runLeft : Ran → List ℕ → List ℕ → RunLeaves
-runLeft r table answers = record { refusal = r .refusal; taken = r .taken; answered = r .answers; table = table; answers = answers }
+runLeft r table answers = record { refusal = refusalNumber (r .refusal); taken = r .taken; answered = r .answers; table = table; answers = answers }
 
 -- list the order, with its table and output
 unfoldable pub listLeft : Listed → List ℕ → List ℕ → ListLeaves
-listLeft r table output = record { refusal = r .refusal; length = r .length; table = table; output = output }
+listLeft r table output = record { refusal = refusalNumber (r .refusal); length = r .length; table = table; output = output }
 
 -- check a log, with its table
 unfoldable pub checkLeft : Verdict → List ℕ → CheckLeaves
-checkLeft v table = record { verdict = v; table = table }
+checkLeft v table = checked v table

@@ -9,7 +9,8 @@ use refusals::numbers::number;
 use rules::Verdict;
 ghost use mathlib.Core.Path.{_≡_};
 ghost use mathlib.Core.Bool.{true};
-ghost use Prim.Native.Nat.{_*_};
+ghost use mathlib.Core.List.{List};
+ghost use Prim.Native.Nat.{ℕ, _*_};
 ghost use lib.ListN.{length, take};
 ghost use Rattle.record.specs.StepRecords.{stepRecords};
 ghost use Rattle.record.specs.AnswerRecords.{answerSize};
@@ -18,9 +19,11 @@ ghost use Rattle.rules.specs.Refusals.{accepted, shapeFor, callRefusal};
 ghost use Rattle.rules.specs.Run.{run as runOf};
 ghost use Rattle.rules.specs.ListOrder.{listOrder};
 ghost use Rattle.rules.specs.CheckLog.{checkLog};
+ghost use Rattle.rules.specs.LogVerdict.{Judges};
 ghost use Rattle.rules.specs.Demand3.{Demand3};
 ghost use Rattle.superblocks.specs.Supers.{SupersNear};
-ghost use Rattle.queue.specs.Exported.{RunExport, ListExport, CheckExport, checkedAs};
+ghost use Rattle.queue.specs.Left.{checkLeft};
+ghost use Rattle.queue.specs.Exported.{RunExport, ListExport, CheckExport};
 
 // Run.
 #[no_mangle]
@@ -67,7 +70,7 @@ pub extern "C" fn otq_list_order(
 
 // A verdict as three numbers.
 fn checked(v: Verdict) -> OtqCheck
-    ensures { λ r. ⌜ r ≡ checkedAs v ⌝ }
+    ensures { λ r. ⌜ ((table : List ℕ) → CheckExport (checkLeft v table) r table) ⌝ }
 {
     match v {
         Verdict::Same => OtqCheck {
@@ -97,7 +100,8 @@ pub extern "C" fn otq_check_log(
     log: &[u8],
     table: &mut [u32],
 ) -> OtqCheck
-    ensures { λ r. ⌜ CheckExport (checkLog p l (now (records .entry)) (now (log .entry)) (now (table .entry))) r (now (table .exit)) ⌝ }
+    ensures rules { λ r. ⌜ CheckExport (checkLog p l (now (records .entry)) (now (log .entry)) (now (table .entry))) r (now (table .exit)) ⌝ }
+    ensures judges { λ r. ⌜ Judges p l (length (now (table .entry))) (now (records .entry)) (now (log .entry)) (r .verdict) (r .index) ⌝ }
 {
     checked(check_log(p, l, records, log, table))
 }

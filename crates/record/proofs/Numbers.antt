@@ -27,7 +27,7 @@ number-parts n m at b h =
     rw (take-add n m (drop at b), number-append, e, drop-drop)
 
 -- a part of a part of a list is a part of the list
-inner-part : (m k n : ℕ) (l : List ℕ) → k + m ≤ n → take m (drop k (take n l)) ≡ take m (drop k l)
+pub inner-part : (m k n : ℕ) (l : List ℕ) → k + m ≤ n → take m (drop k (take n l)) ≡ take m (drop k l)
 inner-part m zero n l h = take-take m n l (omega arith)
 inner-part m (suc k) zero l h = absurd (omega arith)
 inner-part m (suc k) (suc n) [] h = refl

@@ -1,15 +1,27 @@
 -- What is known of a call that is not turned down. Used by proofs; no promise cites it.
 use Prim.Native.Nat.{ℕ, _%_, _≤_}
-use mathlib.Core.Path.{_≡_, refl}
-use mathlib.Core.Bool.{Bool, true, false, not, false≢true}
+use mathlib.Core.Path.{_≡_, refl, sym, _∙_}
+use mathlib.Core.Bool.{Bool, true, false, not, _&&_, false≢true}
 use lib.Dec.{ltb, eqb}
-use borrow.Author.Tests.{eqb-true, ltb-false, not-false}
+use borrow.Author.Tests.{eqb-true, eq-eqb, ltb-false, not-false}
 use Rattle.base.specs.Choice.{if_then_else_}
 use Rattle.record.specs.StepRecords.{stepSize}
+use Rattle.record.specs.AnswerRecords.{answerSize}
 use Rattle.tree.specs.Layout.{wordsNeeded}
 use Rattle.steps.specs.Process.{processesAllowed, operationsAllowed}
-use Rattle.rules.specs.declared.Refusal.the-variants.{None, Processes, Operations, TableShort, RecordsTorn}
+use Rattle.rules.specs.declared.Refusal.{Refusal}
+use Rattle.rules.specs.declared.Refusal.the-variants.{None, Processes, Operations, TableShort, RecordsTorn, LogTorn}
 use Rattle.rules.specs.Refusals.{refusalNumber, accepted, shapeFor, torn, callRefusal}
+use Rattle.rules.specs.CheckLog.{checkRefusal}
+
+-- accepted is number 0
+pub accepted-zero : (n : Refusal) → refusalNumber n ≡ 0 → accepted n ≡ true
+unfolding accepted
+accepted-zero n e = eq-eqb (refusalNumber n) 0 e
+
+pub zero-accepted : (n : Refusal) → accepted n ≡ true → refusalNumber n ≡ 0
+unfolding accepted
+zero-accepted n e = eqb-true (refusalNumber n) 0 e
 
 -- bytes that are not torn are whole records
 pub whole-records : (bytes : ℕ) → torn stepSize bytes ≡ false → bytes % 8 ≡ 0
@@ -42,3 +54,24 @@ module _ (p l words bytes : ℕ) (ok : accepted (callRefusal p l words bytes) �
 
   pub accepted-enough : wordsNeeded (shapeFor p l) ≤ words
   accepted-enough = ltb-false words (wordsNeeded (shapeFor p l)) (passed .2)
+
+-- the same of check a log, whose log has whole records
+both-tests : (n : Refusal) (b : Bool) → accepted (if accepted n && b then LogTorn else n) ≡ true → (accepted n ≡ true) × (b ≡ false)
+unfolding accepted refusalNumber
+both-tests n b e = on (accepted n) b refl e
+  where
+    on : (a c : Bool) → accepted n ≡ a → accepted (if a && c then LogTorn else n) ≡ true → (accepted n ≡ true) × (c ≡ false)
+    on true true z h = absurd (false≢true h)
+    on true false z h = (z, refl)
+    on false c z h = absurd (false≢true (sym z ∙ h))
+
+module _ (p l words bytes log : ℕ) (ok : accepted (checkRefusal p l words bytes log) ≡ true) where
+  log-tests : (accepted (callRefusal p l words bytes) ≡ true) × (torn answerSize log ≡ false)
+  unfolding checkRefusal
+  log-tests = both-tests (callRefusal p l words bytes) (torn answerSize log) ok
+
+  pub check-call : accepted (callRefusal p l words bytes) ≡ true
+  check-call = log-tests .0
+
+  pub check-whole : torn answerSize log ≡ false
+  check-whole = log-tests .1

@@ -22,3 +22,5 @@ pub mod HistoryGrows
 pub mod Linearized
 pub mod WaitFree
 pub mod Corollaries
+pub mod SameBytes
+pub mod LogVerdict

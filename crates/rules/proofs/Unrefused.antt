@@ -5,7 +5,6 @@ use mathlib.Core.Bool.{Bool, true, false}
 use mathlib.Core.List.{List}
 use lib.ListN.{length, take, drop}
 use lib.Seq.{take-at}
-use borrow.Author.Tests.{eq-eqb}
 use Rattle.record.specs.StepRecords.{stepRecords}
 use Rattle.tree.specs.Layout.{wordsNeeded}
 use Rattle.tree.specs.Order.{rootOrder}
@@ -14,19 +13,16 @@ use Rattle.rules.specs.Refusals.{refusalNumber, accepted, shapeFor, call
 use Rattle.rules.specs.Run.{RunLeaves, Played, play, runPlayed, runTurnedDown, run}
 use Rattle.rules.specs.ListOrder.{ListLeaves, orderList, playAll, listRefusal, listed, listPlayed, listOrder}
 use Rattle.rules.specs.Continuation.{orderLeft, listWritten}
+use Rattle.rules.proofs.CallAccepted.{accepted-zero}
 use Rattle.rules.proofs.Theorem.{run-is, table-is}
 
-accepted-zero : (n : Refusal) → refusalNumber n ≡ 0 → accepted n ≡ true
-unfolding accepted
-accepted-zero n e = eq-eqb (refusalNumber n) 0 e
-
 -- a test that would have been the call's refusal did not fail
-passed-test : (n answer : Refusal) → (accepted n ≡ false → answer ≡ n) → refusalNumber answer ≡ 0 → accepted n ≡ true
+passed-test : (n : Refusal) (answer : ℕ) → (accepted n ≡ false → answer ≡ refusalNumber n) → answer ≡ 0 → accepted n ≡ true
 passed-test n answer kept none = on (accepted n) refl
   where
     on : (b : Bool) → accepted n ≡ b → accepted n ≡ true
     on true e = e
-    on false e = accepted-zero n (ap refusalNumber (sym (kept e)) ∙ none)
+    on false e = accepted-zero n (sym (kept e) ∙ none)
 
 -- ---- Run on some bytes, without refusal
 module _ (p l : ℕ) (records table answers : List ℕ) where
@@ -36,18 +32,18 @@ module _ (p l : ℕ) (records table answers : List ℕ) where
   abbrev g : Played
   g = play (shapeFor p l) (length answers) (stepRecords records)
 
-  run-turned-down : accepted n ≡ false → run p l records table answers .refusal ≡ n
+  run-turned-down : accepted n ≡ false → run p l records table answers .refusal ≡ refusalNumber n
   unfolding run runTurnedDown
   run-turned-down e = rw e
 
-  module _ (none : refusalNumber (run p l records table answers .refusal) ≡ 0) where
+  module _ (none : run p l records table answers .refusal ≡ 0) where
     pub run-accepted : accepted n ≡ true
     run-accepted = passed-test n (run p l records table answers .refusal) run-turned-down none
 
     pub run-played : accepted (g .refusal) ≡ true
     unfolding runPlayed
     run-played =
-        accepted-zero (g .refusal) (sym (ap (λ (e : RunLeaves). refusalNumber (e .refusal)) (run-is p l records table answers run-accepted)) ∙ none)
+        accepted-zero (g .refusal) (sym (ap (λ (e : RunLeaves). e .refusal) (run-is p l records table answers run-accepted)) ∙ none)
 
     pub run-order : orderLeft p l (run p l records table answers) ≡ rootOrder (shapeFor p l) (g .machine .memory .table)
     unfolding orderLeft
@@ -66,11 +62,11 @@ module _ (p l : ℕ) (records table output : List ℕ) where
   abbrev orders : List ℕ
   orders = orderList (shapeFor p l) (all .machine .memory .table)
 
-  list-turned-down : accepted listing ≡ false → listOrder p l records table output .refusal ≡ listing
+  list-turned-down : accepted listing ≡ false → listOrder p l records table output .refusal ≡ refusalNumber listing
   unfolding listOrder listed
   list-turned-down e = rw e
 
-  module _ (none : refusalNumber (listOrder p l records table output .refusal) ≡ 0) where
+  module _ (none : listOrder p l records table output .refusal ≡ 0) where
     pub list-accepted : accepted listing ≡ true
     list-accepted = passed-test listing (listOrder p l records table output .refusal) list-turned-down none
 
@@ -81,14 +77,14 @@ module _ (p l : ℕ) (records table output : List ℕ) where
     -- the refusal of the records, or 10
     final : refusalNumber (listRefusal (all .refusal) (length orders) (length output)) ≡ 0
     unfolding listPlayed listed
-    final = sym (ap (λ (e : ListLeaves). refusalNumber (e .refusal)) list-is) ∙ none
+    final = sym (ap (λ (e : ListLeaves). e .refusal) list-is) ∙ none
 
     refused : accepted (all .refusal) ≡ false → listRefusal (all .refusal) (length orders) (length output) ≡ all .refusal
     unfolding listRefusal
     refused e = rw e
 
     pub list-played : accepted (all .refusal) ≡ true
-    list-played = passed-test (all .refusal) (listRefusal (all .refusal) (length orders) (length output)) refused final
+    list-played = passed-test (all .refusal) (refusalNumber (listRefusal (all .refusal) (length orders) (length output))) (λ e. ap refusalNumber (refused e)) final
 
     pub list-bytes : listWritten (listOrder p l records table output) ≡ orders
     unfolding listWritten listPlayed listed

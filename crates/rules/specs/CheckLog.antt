@@ -14,7 +14,7 @@ use Rattle.rules.specs.declared.Refusal.{Refusal}
 use Rattle.rules.specs.declared.Refusal.the-variants.{LogTorn}
 use Rattle.rules.specs.declared.Verdict.{Verdict}
 use Rattle.rules.specs.declared.Verdict.the-variants.{Same, Differs, Refused}
-use Rattle.rules.specs.Refusals.{accepted, shapeFor, torn, callRefusal}
+use Rattle.rules.specs.Refusals.{refusalNumber, accepted, shapeFor, torn, callRefusal}
 use Rattle.rules.specs.Run.{Played}
 use Rattle.rules.specs.ListOrder.{playAll}
 
@@ -38,24 +38,44 @@ checkRefusal p l words bytes log =
     let n = callRefusal p l words bytes in
     if accepted n && torn answerSize log then LogTorn else n
 
--- what the call returns, and all that it leaves in the work table
+-- a verdict in numbers: 0 same, 1 differs, 2 refused; the index of the first record that differs, and the paper's number of the refusal, each 0 where there is none
+unfoldable pub verdictNumber : Verdict → ℕ
+verdictNumber Same = 0
+verdictNumber (Differs i) = 1
+verdictNumber (Refused n) = 2
+
+unfoldable pub verdictIndex : Verdict → ℕ
+verdictIndex Same = 0
+verdictIndex (Differs i) = i
+verdictIndex (Refused n) = 0
+
+unfoldable pub verdictRefusal : Verdict → ℕ
+verdictRefusal Same = 0
+verdictRefusal (Differs i) = 0
+verdictRefusal (Refused n) = refusalNumber n
+
+-- what the call returns, in numbers, and all that it leaves in the work table
 pub record CheckLeaves : Type 0 where
-  pub verdict : Verdict
+  pub refusal : ℕ
+  pub verdict : ℕ
+  pub index : ℕ
   pub table : List ℕ
 
--- a refusal gives neither 'same' nor 'differs'
+unfoldable pub checked : Verdict → List ℕ → CheckLeaves
+checked v table = record { refusal = verdictRefusal v; verdict = verdictNumber v; index = verdictIndex v; table = table }
+
+-- the verdict on a list that was played; a refusal gives neither 'same' nor 'differs'
+unfoldable pub verdictOn : Played → List ℕ → Verdict
+verdictOn g log =
+    if accepted (g .refusal) then compared 0 (map answerBytes (g .answers)) (cut answerSize (length log / answerSize) log)
+    else Refused (g .refusal)
+
 unfoldable pub checkPlayed : Shape → Played → List ℕ → List ℕ → CheckLeaves
-checkPlayed s g log table =
-    record {
-      verdict =
-          if accepted (g .refusal) then compared 0 (map answerBytes (g .answers)) (cut answerSize (length log / answerSize) log)
-          else Refused (g .refusal);
-      table = g .machine .memory .table ++ drop (wordsNeeded s) table;
-    }
+checkPlayed s g log table = checked (verdictOn g log) (g .machine .memory .table ++ drop (wordsNeeded s) table)
 
 -- check a log takes p, L, step records, log, work table
 unfoldable pub checkLog : ℕ → ℕ → List ℕ → List ℕ → List ℕ → CheckLeaves
 checkLog p l records log table =
     let n = checkRefusal p l (length table) (length records) (length log) in
     let s = shapeFor p l in
-    if accepted n then checkPlayed s (playAll s (stepRecords records)) log table else record { verdict = Refused n; table = table }
+    if accepted n then checkPlayed s (playAll s (stepRecords records)) log table else checked (Refused n) table

@@ -7,7 +7,7 @@ use lib.ListN.{take}
 use Rattle.base.specs.Beginning.{IsBeginning}
 use Rattle.tree.specs.Layout.{wordsNeeded}
 use Rattle.tree.specs.Order.{Placed, rootOrder}
-use Rattle.rules.specs.Refusals.{refusalNumber, shapeFor}
+use Rattle.rules.specs.Refusals.{shapeFor}
 use Rattle.rules.specs.Run.{RunLeaves, run}
 use Rattle.rules.specs.ListOrder.{ListLeaves, listOrder}
 
@@ -23,10 +23,10 @@ listWritten e = take (e .length) (e .output)
 -- of what the second left
 abbrev pub RunGrows : ℕ → ℕ → RunLeaves → RunLeaves → Type 0
 RunGrows p l e f =
-    refusalNumber (e .refusal) ≡ 0 → refusalNumber (f .refusal) ≡ 0 → IsBeginning (orderLeft p l e) (orderLeft p l f)
+    e .refusal ≡ 0 → f .refusal ≡ 0 → IsBeginning (orderLeft p l e) (orderLeft p l f)
 
 abbrev pub ListGrows : ListLeaves → ListLeaves → Type 0
-ListGrows e f = refusalNumber (e .refusal) ≡ 0 → refusalNumber (f .refusal) ≡ 0 → IsBeginning (listWritten e) (listWritten f)
+ListGrows e f = e .refusal ≡ 0 → f .refusal ≡ 0 → IsBeginning (listWritten e) (listWritten f)
 
 -- of p, L, the bytes of a list and those of its continuation, whatever table and buffer each call is lent
 pub record HistoryGrows (p l : ℕ) (records more : List ℕ) : Type 0 where

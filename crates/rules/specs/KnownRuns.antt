@@ -15,18 +15,18 @@ use Rattle.tree.specs.Shape.{Shape, leafOf}
 use Rattle.tree.specs.Order.{OpId, inRoot}
 use Rattle.tree.specs.Memory.{Memory, headOf}
 use Rattle.rules.specs.Answer.{margin}
-use Rattle.rules.specs.Refusals.{refusalNumber, shapeFor}
+use Rattle.rules.specs.Refusals.{shapeFor}
 use Rattle.rules.specs.Run.{RunLeaves, play, run}
 use Rattle.rules.specs.All.{rules}
 
 -- ---- what a row is made of
 
 -- the bytes of a begin put of x by process k, of a begin take, and of n steps
-unfoldable pub put : ℕ → ℕ → List ℕ
-put x k = k ∷ 1 ∷ 0 ∷ 0 ∷ bytesOf 4 x
+unfoldable pub beginPut : ℕ → ℕ → List ℕ
+beginPut x k = k ∷ 1 ∷ 0 ∷ 0 ∷ bytesOf 4 x
 
-unfoldable pub take : ℕ → List ℕ
-take k = k ∷ 2 ∷ 0 ∷ 0 ∷ bytesOf 4 0
+unfoldable pub beginTake : ℕ → List ℕ
+beginTake k = k ∷ 2 ∷ 0 ∷ 0 ∷ bytesOf 4 0
 
 unfoldable pub steps : ℕ → ℕ → List ℕ
 steps zero k = []
@@ -49,8 +49,8 @@ pub data Fact : Type 0 where
   -- the leaf of process k has this head
   leafHead : ℕ → ℕ → Fact
 
--- a call of Run and what it must leave: p, L, the words of the table, the bytes of the answer buffer and the records; the number returned, the records taken, the whole
--- answer buffer, and facts
+-- a call of Run and what it must leave: p, L, the words of the table, the bytes of the answer buffer and the records; the number returned, the records taken, the answers
+-- written, the whole answer buffer, and facts
 pub record Row : Type 0 where
   pub p : ℕ
   pub most : ℕ
@@ -59,6 +59,7 @@ pub record Row : Type 0 where
   pub records : List ℕ
   pub number : ℕ
   pub taken : ℕ
+  pub answered : ℕ
   pub answers : List ℕ
   pub facts : List Fact
 
@@ -76,6 +77,7 @@ row p l words room records number taken log facts =
       records = records;
       number = number;
       taken = taken;
+      answered = length log;
       answers = logBytes log ++ lent (room - length (logBytes log));
       facts = facts;
     }
@@ -87,31 +89,31 @@ knownRuns =
     -- M1 no records
     row 2 24 594 64 [] 0 0 [] []
     -- M2 the worked run of the printing program
-    ∷ row 4 24 1770 64 (put 7 0 ++ steps 27 0 ++ take 1 ++ steps 27 1) 0 56 (answer 0 1 27 1 Done ∷ answer 1 1 27 2 (Value 7) ∷ []) []
+    ∷ row 4 24 1770 64 (beginPut 7 0 ++ steps 27 0 ++ beginTake 1 ++ steps 27 1) 0 56 (answer 0 1 27 1 Done ∷ answer 1 1 27 2 (Value 7) ∷ []) []
     -- M3 block 1 holds both, steps 15 and 13, the take gets 5 at margin 0
-    ∷ row 2 24 594 64 (put 5 0 ++ take 1 ++ steps 4 0 ++ steps 4 1 ++ steps 11 0 ++ steps 9 1) 0 30
+    ∷ row 2 24 594 64 (beginPut 5 0 ++ beginTake 1 ++ steps 4 0 ++ steps 4 1 ++ steps 11 0 ++ steps 9 1) 0 30
     (answer 0 1 15 1 Done ∷ answer 1 1 13 1 (Value 5) ∷ [])
     (holds 1 (op 0 1 ∷ []) (op 1 1 ∷ []) ∷ takeMargin 1 1 (pos 0) ∷ [])
     -- M4 a take alone: 15 steps, none at margin −1
-    ∷ row 2 24 594 64 (take 0 ++ steps 15 0) 0 16 (answer 0 1 15 1 Nothing ∷ []) (takeMargin 1 1 (negsuc 0) ∷ [])
+    ∷ row 2 24 594 64 (beginTake 0 ++ steps 15 0) 0 16 (answer 0 1 15 1 Nothing ∷ []) (takeMargin 1 1 (negsuc 0) ∷ [])
     -- M5 the take gets 10
-    ∷ row 4 24 1770 64 (put 10 1 ++ steps 16 1 ++ put 20 0 ++ steps 27 0 ++ steps 9 1 ++ take 2 ++ steps 27 2) 0 82
+    ∷ row 4 24 1770 64 (beginPut 10 1 ++ steps 16 1 ++ beginPut 20 0 ++ steps 27 0 ++ steps 9 1 ++ beginTake 2 ++ steps 27 2) 0 82
     (answer 0 1 27 1 Done ∷ answer 1 1 25 1 Done ∷ answer 2 1 27 2 (Value 10) ∷ []) []
     -- M6 both in block 1, the leaf head of 0 is 2
-    ∷ row 2 24 594 64 (put 9 0 ++ steps 1 0 ++ put 8 1 ++ steps 18 1 ++ steps 12 0) 0 33
+    ∷ row 2 24 594 64 (beginPut 9 0 ++ steps 1 0 ++ beginPut 8 1 ++ steps 18 1 ++ steps 12 0) 0 33
     (answer 1 1 18 1 Done ∷ answer 0 1 13 1 Done ∷ [])
     (holds 1 (op 0 1 ∷ op 1 1 ∷ []) [] ∷ leafHead 0 2 ∷ [])
     -- M7 L = 1: the second begin is refused with 8, 16 taken
-    ∷ row 2 1 42 64 (put 1 0 ++ steps 15 0 ++ put 2 0) 8 16 (answer 0 1 15 1 Done ∷ []) []
+    ∷ row 2 1 42 64 (beginPut 1 0 ++ steps 15 0 ++ beginPut 2 0) 8 16 (answer 0 1 15 1 Done ∷ []) []
     -- M8 the first record a step: 7
     ∷ row 2 24 594 64 (steps 1 0) 7 0 [] []
     -- M9 L = 2, two begins: 6, 1 taken
-    ∷ row 2 2 78 64 (put 1 0 ++ put 2 0) 6 1 [] []
+    ∷ row 2 2 78 64 (beginPut 1 0 ++ beginPut 2 0) 6 1 [] []
     -- M10 15 answer bytes: 9, 15 taken
-    ∷ row 2 24 594 15 (put 1 0 ++ steps 15 0) 9 15 [] []
+    ∷ row 2 24 594 15 (beginPut 1 0 ++ steps 15 0) 9 15 [] []
     -- M11 L = 1: 41 words refuse with 3, 42 do
-    ∷ row 2 1 41 64 (put 1 0 ++ steps 15 0) 3 0 [] []
-    ∷ row 2 1 42 64 (put 1 0 ++ steps 15 0) 0 16 (answer 0 1 15 1 Done ∷ []) []
+    ∷ row 2 1 41 64 (beginPut 1 0 ++ steps 15 0) 3 0 [] []
+    ∷ row 2 1 42 64 (beginPut 1 0 ++ steps 15 0) 0 16 (answer 0 1 15 1 Done ∷ []) []
     ∷ []
 
 -- ---- the theorem
@@ -137,12 +139,13 @@ recomputed r =
       words = length (e .table);
       room = length (e .answers);
       records = r .records;
-      number = refusalNumber (e .refusal);
+      number = e .refusal;
       taken = e .taken;
+      answered = e .answered;
       answers = e .answers;
       facts = map (found (shapeFor (r .p) (r .most)) (memoryAfter r e)) (r .facts);
     }
 
 pub knownRunsHold : map recomputed knownRuns ≡ knownRuns
-unfolding rules put take steps op answer lent row knownRuns found memoryAfter recomputed
+unfolding rules beginPut beginTake steps op answer lent row knownRuns found memoryAfter recomputed
 knownRunsHold = refl

@@ -3,6 +3,7 @@ pub mod Refusals
 pub mod Run
 pub mod ListOrder
 pub mod CheckLog
+pub mod LogVerdict
 pub mod PlainQueue
 pub mod History
 pub mod Demand3

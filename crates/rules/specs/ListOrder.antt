@@ -16,7 +16,7 @@ use Rattle.tree.specs.Layout.{wordsNeeded}
 use Rattle.tree.specs.Order.{Placed, rootOrder}
 use Rattle.rules.specs.declared.Refusal.{Refusal}
 use Rattle.rules.specs.declared.Refusal.the-variants.{None, OutputShort}
-use Rattle.rules.specs.Refusals.{accepted, shapeFor, callRefusal}
+use Rattle.rules.specs.Refusals.{refusalNumber, accepted, shapeFor, callRefusal}
 use Rattle.rules.specs.Run.{Played, play}
 
 -- the kinds of an order record: 1 put, 2 take
@@ -36,9 +36,9 @@ orderList s t = flatMap (λ x. orderBytes (orderRecord x)) (rootOrder s t)
 unfoldable pub playAll : Shape → List StepRecord → Played
 playAll s rs = play s (answerSize * length rs) rs
 
--- what the call returns, and all that it leaves in the work table and in the output
+-- what the call returns (the paper's number of the refusal, the list's length), and all that it leaves in the work table and in the output
 pub record ListLeaves : Type 0 where
-  pub refusal : Refusal
+  pub refusal : ℕ
   pub length : ℕ
   pub table : List ℕ
   pub output : List ℕ
@@ -51,7 +51,7 @@ listRefusal n list output = if accepted n then (if ltb output list then OutputSh
 unfoldable pub listed : Refusal → List ℕ → List ℕ → List ℕ → ListLeaves
 listed n list table output =
     record {
-      refusal = n;
+      refusal = refusalNumber n;
       length = if accepted n then length list else 0;
       table = table;
       output = if accepted n then list ++ drop (length list) output else output;

@@ -16,7 +16,7 @@ use Rattle.steps.specs.Machine.{Machine, start, processOf, begin, stepOf}
 use Rattle.rules.specs.declared.Refusal.{Refusal}
 use Rattle.rules.specs.declared.Refusal.the-variants.{None}
 use Rattle.rules.specs.Answer.{answersOf}
-use Rattle.rules.specs.Refusals.{accepted, shapeFor, callRefusal, recordRefusal}
+use Rattle.rules.specs.Refusals.{refusalNumber, accepted, shapeFor, callRefusal, recordRefusal}
 
 -- the operation that a begin record opens
 unfoldable pub operationOf : StepRecord → Operation
@@ -60,9 +60,9 @@ playRecord s room g r =
 unfoldable pub play : Shape → ℕ → List StepRecord → Played
 play s room rs = foldl (playRecord s room) (atStart s) rs
 
--- what Run returns, and all that it leaves in the work table and in the answer bytes
+-- what Run returns (the paper's number of the refusal, the records taken, the answers written), and all that it leaves in the work table and in the answer bytes
 pub record RunLeaves : Type 0 where
-  pub refusal : Refusal
+  pub refusal : ℕ
   pub taken : ℕ
   pub answered : ℕ
   pub table : List ℕ
@@ -70,13 +70,13 @@ pub record RunLeaves : Type 0 where
 
 -- a call turned down returns zero counts and changes nothing
 unfoldable pub runTurnedDown : Refusal → List ℕ → List ℕ → RunLeaves
-runTurnedDown n table answers = record { refusal = n; taken = 0; answered = 0; table = table; answers = answers }
+runTurnedDown n table answers = record { refusal = refusalNumber n; taken = 0; answered = 0; table = table; answers = answers }
 
 -- words past those needed and bytes past the answers keep their content
 unfoldable pub runPlayed : Shape → Played → List ℕ → List ℕ → RunLeaves
 runPlayed s g table answers =
     record {
-      refusal = g .refusal;
+      refusal = refusalNumber (g .refusal);
       taken = g .taken;
       answered = length (g .answers);
       table = g .machine .memory .table ++ drop (wordsNeeded s) table;

@@ -4,15 +4,21 @@ use native.Mathlib.Omega.{arith}
 use mathlib.Core.Path.{_≡_}
 use mathlib.Core.List.{List}
 use lib.ListN.{length, getD}
+use Rattle.tree.specs.declared.Block.{Block}
 use Rattle.tree.specs.Shape.{Shape}
-use Rattle.tree.specs.Blocks.{blockAt}
-use Rattle.tree.proofs.NodeParts.{node-block-at}
-use Rattle.steps.specs.Ready.{Begins, Laid, nodePart, nodeBlock}
+use Rattle.tree.specs.Blocks.{blockAt, withBlockAt}
+use Rattle.tree.proofs.NodeParts.{node-block-at, node-write-at}
+use Rattle.steps.specs.Ready.{Begins, Laid, nodePart, nodeBlock, withNodeBlock}
 
 -- a block that was read by the starts
 pub node-read : (s : Shape) (starts t : List ℕ) (v i : ℕ) → Begins s starts v → nodeBlock starts t v i ≡ blockAt s t v i
 unfolding nodeBlock nodePart
 node-read s starts t v i b = node-block-at s v (getD starts v 0) (getD starts (v + 1) 0) (b .start) (b .end) t i
+
+-- a block that was written by the starts
+pub node-written : (s : Shape) (starts t : List ℕ) (v i : ℕ) (b : Block) → Begins s starts v → withNodeBlock starts t v i b ≡ withBlockAt s t v i b
+unfolding withNodeBlock nodePart
+node-written s starts t v i b g = node-write-at s v (getD starts v 0) (getD starts (v + 1) 0) (g .start) (g .end) t i b
 
 -- each node that has a head
 pub begins : (s : Shape) (starts heads : List ℕ) (v : ℕ) → Laid s starts heads → v < length heads → Begins s starts v

@@ -2,7 +2,7 @@
 use Prim.Native.Nat.{ℕ, _+_, _*_}
 use mathlib.Core.Path.{_≡_}
 use mathlib.Core.List.{List}
-use Rattle.tree.specs.Shape.{Shape}
+use Rattle.tree.specs.Shape.{Shape, leafOf}
 use Rattle.steps.specs.declared.Operation.{Operation}
 use Rattle.steps.specs.declared.Operation.the-variants.{Take}
 use Rattle.steps.specs.declared.Process.{Process}
@@ -30,11 +30,24 @@ Placed s starts (C3 w l r) = Begins s starts (w .node) × Begins s starts (2 * w
 Placed s starts (C4 w n) = Begins s starts (w .node)
 Placed s starts Q = Unit {0}
 
--- the operation that a busy process is inside of, and its next step. An idle one has neither; the values here stand for any, and no rule uses them
+-- there is a tree whose parts begin where the starts say, as far as the step looks at them
+pub record Fits (starts : List ℕ) (n : Step) : Type 0 where
+  pub shape : Shape
+  pub placed : Placed shape starts n
+
+-- there is one that has a process with this leaf, whose part begins where the starts say
+pub record FitsLeaf (starts : List ℕ) (leaf : ℕ) : Type 0 where
+  pub shape : Shape
+  pub process : ℕ
+  pub own : leaf ≡ leafOf shape process
+  pub begins : Begins shape starts leaf
+
+-- the operation that a busy process is inside of. An idle one is inside of none: no contract accepts it here
 abbrev pub operationIn : Status → Operation
 operationIn Idle = Take
 operationIn (Busy o n) = o
 
+-- the step that a process is at; an idle one is at none, and the next that it comes to is A
 abbrev pub stepIn : Status → Step
 stepIn Idle = A
 stepIn (Busy o n) = n

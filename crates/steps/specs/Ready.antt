@@ -1,12 +1,12 @@
 -- What a step needs of the memory to be played safely: used by private requires only.
 use Prim.Native.Nat.{ℕ, _+_, _*_, _-_, _/_, _≤_, _<_}
 use mathlib.Core.Path.{_≡_}
-use mathlib.Core.List.{List}
+use mathlib.Core.List.{List, _++_}
 use lib.ListN.{length, getD, take, drop}
 use Rattle.tree.specs.declared.Block.{Block}
 use Rattle.tree.specs.Shape.{Shape, processes}
 use Rattle.tree.specs.Layout.{partStart}
-use Rattle.tree.specs.Blocks.{blockIn}
+use Rattle.tree.specs.Blocks.{blockIn, withBlock}
 use Rattle.steps.specs.declared.Visit.{Visit}
 use Rattle.steps.specs.declared.Step.{Step}
 use Rattle.steps.specs.declared.Step.the-variants.{A, V1, V2, V3, R1, R2, R3, R4, R5, C1, C2, C3, C4, Q}
@@ -39,6 +39,11 @@ nodePart starts table v = take (getD starts (v + 1) 0 - getD starts v 0) (drop (
 
 unfoldable pub nodeBlock : List ℕ → List ℕ → ℕ → ℕ → Block
 nodeBlock starts table v i = blockIn (nodePart starts table v) i
+
+-- the table with block b there: no word outside of that part changes
+unfoldable pub withNodeBlock : List ℕ → List ℕ → ℕ → ℕ → Block → List ℕ
+withNodeBlock starts table v i b =
+    take (getD starts v 0) table ++ withBlock (nodePart starts table v) i b ++ drop (getD starts (v + 1) 0) table
 
 -- ---- what the steps need
 

@@ -22,13 +22,15 @@ use crate::turn::moved;
 use crate::turn::operation_in;
 use crate::turn::step_in;
 use tree::Block;
+ghost use mathlib.Core.Bool.{false};
 ghost use mathlib.Core.Path.{_≡_};
 ghost use Prim.Native.Nat.{ℕ, _+_, _*_, _<_};
 ghost use Rattle.base.specs.Choice.{if_then_else_};
 ghost use Rattle.tree.specs.Shape.{Shape, leafOf};
 ghost use Rattle.tree.specs.Memory.{Memory};
 ghost use Rattle.steps.specs.Rules.{above as aboveOf, resume as resumeOf, advance as advanceOf, sameTotals, step, go};
-ghost use Rattle.steps.specs.Next.{operationIn, stepIn, Moves, NextByTable};
+ghost use Rattle.steps.specs.Machine.{isIdle};
+ghost use Rattle.steps.specs.Next.{operationIn, stepIn, Moves, NextByTable, Fits, FitsLeaf};
 ghost use Rattle.steps.specs.Ready.{Begins, HasPart, HasPlace, Adds, Builds};
 
 // A: the operation's block at the head of its own leaf, where no other process writes.
@@ -39,8 +41,8 @@ pub fn step_a(
     leaf: u32,
     q: Process,
 ) -> Process
-    requires { ⌜ q .steps < 65536 ⌝ }
-    requires { ⌜ Adds (now starts) (now heads) (now table) leaf ⌝ }
+    requires { ⌜ (q .steps < 65536) × (isIdle (q .status) ≡ false) × (stepIn (q .status) ≡ Step.A) ⌝ }
+    requires { ⌜ Adds (now starts) (now heads) (now table) leaf × FitsLeaf (now starts) leaf ⌝ }
     ensures { λ r. ⌜ Moves q r × ((s : Shape) (k : ℕ) → leaf ≡ leafOf s k → Begins s (now (starts .entry)) leaf →
         let m : Memory = record { table = now (table .entry); heads = now (heads .entry) } in
         let o = operationIn (q .status) in
@@ -60,10 +62,11 @@ pub fn step_a(
 
 // V2: v's block gets its superblock, if it has none yet: the parent's head as V1 read it.
 pub fn step_v2(table: &mut [u32], starts: &[usize; 17], q: Process) -> Process
-    requires { ⌜ q .steps < 65536 ⌝ }
+    requires { ⌜ (q .steps < 65536) × Fits (now starts) (stepIn (q .status)) ⌝ }
     requires { ⌜ ((a : After) (w : Visit) (v h x : ℕ) → stepIn (q .status) ≡ Step.V2 a w v h x → HasPlace (now starts) (now table) v h) ⌝ }
-    ensures { λ r. ⌜ ((a : After) (w : Visit) (v h x : ℕ) → stepIn (q .status) ≡ Step.V2 a w v h x →
+    ensures step { λ r. ⌜ ((a : After) (w : Visit) (v h x : ℕ) → stepIn (q .status) ≡ Step.V2 a w v h x →
         NextByTable (now (starts .entry)) (now (table .entry)) (now (table .exit)) q r) ⌝ }
+    ensures other { λ r. ⌜ (((a : After) (w : Visit) (v h x : ℕ) → stepIn (q .status) ≡ Step.V2 a w v h x → ⊥) → ((r ≡ q) × (now (table .exit) ≡ now (table .entry)))) ⌝ }
 {
     let Step::V2 {
         after,
@@ -103,10 +106,11 @@ fn help(missing: bool, w: Visit, a: After, child: u32, c: u32) -> Step
 
 // R3: the left child's block at the head that was read is looked at.
 pub fn step_r3(table: &[u32], starts: &[usize; 17], q: Process) -> Process
-    requires { ⌜ q .steps < 65536 ⌝ }
+    requires { ⌜ (q .steps < 65536) × Fits (now starts) (stepIn (q .status)) ⌝ }
     requires { ⌜ ((w : Visit) (c : ℕ) → stepIn (q .status) ≡ Step.R3 w c → HasPart (now starts) (now table) (2 * w .node)) ⌝ }
-    ensures { λ r. ⌜ ((w : Visit) (c : ℕ) → stepIn (q .status) ≡ Step.R3 w c →
+    ensures step { λ r. ⌜ ((w : Visit) (c : ℕ) → stepIn (q .status) ≡ Step.R3 w c →
         NextByTable (now (starts .entry)) (now (table .entry)) (now (table .entry)) q r) ⌝ }
+    ensures other { λ r. ⌜ (((w : Visit) (c : ℕ) → stepIn (q .status) ≡ Step.R3 w c → ⊥) → r ≡ q) ⌝ }
 {
     let Step::R3 { visit, child } = step_in(q) else {
         return q;
@@ -126,10 +130,11 @@ pub fn step_r3(table: &[u32], starts: &[usize; 17], q: Process) -> Process
 
 // R5: the same of the right child.
 pub fn step_r5(table: &[u32], starts: &[usize; 17], q: Process) -> Process
-    requires { ⌜ q .steps < 65536 ⌝ }
+    requires { ⌜ (q .steps < 65536) × Fits (now starts) (stepIn (q .status)) ⌝ }
     requires { ⌜ ((w : Visit) (c : ℕ) → stepIn (q .status) ≡ Step.R5 w c → HasPart (now starts) (now table) (2 * w .node + 1)) ⌝ }
-    ensures { λ r. ⌜ ((w : Visit) (c : ℕ) → stepIn (q .status) ≡ Step.R5 w c →
+    ensures step { λ r. ⌜ ((w : Visit) (c : ℕ) → stepIn (q .status) ≡ Step.R5 w c →
         NextByTable (now (starts .entry)) (now (table .entry)) (now (table .entry)) q r) ⌝ }
+    ensures other { λ r. ⌜ (((w : Visit) (c : ℕ) → stepIn (q .status) ≡ Step.R5 w c → ⊥) → r ≡ q) ⌝ }
 {
     let Step::R5 { visit, child } = step_in(q) else {
         return q;
@@ -159,10 +164,11 @@ fn settle(w: Visit, n: Built, old: Block) -> Step
 
 // C3: the block is made of the children's blocks at the ends that C1 and C2 found.
 pub fn step_c3(table: &[u32], starts: &[usize; 17], q: Process) -> Process
-    requires { ⌜ q .steps < 65536 ⌝ }
+    requires { ⌜ (q .steps < 65536) × Fits (now starts) (stepIn (q .status)) ⌝ }
     requires { ⌜ ((w : Visit) (l r : ℕ) → stepIn (q .status) ≡ Step.C3 w l r → Builds (now starts) (now table) w l r) ⌝ }
-    ensures { λ z. ⌜ ((w : Visit) (l r : ℕ) → stepIn (q .status) ≡ Step.C3 w l r →
+    ensures step { λ z. ⌜ ((w : Visit) (l r : ℕ) → stepIn (q .status) ≡ Step.C3 w l r →
         NextByTable (now (starts .entry)) (now (table .entry)) (now (table .entry)) q z) ⌝ }
+    ensures other { λ z. ⌜ (((w : Visit) (l r : ℕ) → stepIn (q .status) ≡ Step.C3 w l r → ⊥) → z ≡ q) ⌝ }
 {
     let Step::C3 { visit, left, right } = step_in(q) else {
         return q;
@@ -176,10 +182,11 @@ pub fn step_c3(table: &[u32], starts: &[usize; 17], q: Process) -> Process
 
 // C4: the block is written if its place is still empty. The refresh has then succeeded.
 pub fn step_c4(table: &mut [u32], starts: &[usize; 17], q: Process) -> Process
-    requires { ⌜ q .steps < 65536 ⌝ }
+    requires { ⌜ (q .steps < 65536) × Fits (now starts) (stepIn (q .status)) ⌝ }
     requires { ⌜ ((w : Visit) (b : Built) → stepIn (q .status) ≡ Step.C4 w b → HasPlace (now starts) (now table) (w .node) (w .head)) ⌝ }
-    ensures { λ r. ⌜ ((w : Visit) (b : Built) → stepIn (q .status) ≡ Step.C4 w b →
+    ensures step { λ r. ⌜ ((w : Visit) (b : Built) → stepIn (q .status) ≡ Step.C4 w b →
         NextByTable (now (starts .entry)) (now (table .entry)) (now (table .exit)) q r) ⌝ }
+    ensures other { λ r. ⌜ (((w : Visit) (b : Built) → stepIn (q .status) ≡ Step.C4 w b → ⊥) → ((r ≡ q) × (now (table .exit) ≡ now (table .entry)))) ⌝ }
 {
     let Step::C4 { visit, built } = step_in(q) else {
         return q;

@@ -44,8 +44,9 @@ pub fn raise(heads: &mut [u32], v: u32, h: u32)
 pub fn step_v1(heads: &[u32], q: Process) -> Process
     requires { ⌜ q .steps < 65536 ⌝ }
     requires { ⌜ ((a : After) (w : Visit) (v h : ℕ) → stepIn (q .status) ≡ Step.V1 a w v h → v / 2 < length (now heads)) ⌝ }
-    ensures { λ r. ⌜ ((a : After) (w : Visit) (v h : ℕ) → stepIn (q .status) ≡ Step.V1 a w v h →
+    ensures step { λ r. ⌜ ((a : After) (w : Visit) (v h : ℕ) → stepIn (q .status) ≡ Step.V1 a w v h →
         NextByHeads (now (heads .entry)) (now (heads .entry)) q r) ⌝ }
+    ensures other { λ r. ⌜ (((a : After) (w : Visit) (v h : ℕ) → stepIn (q .status) ≡ Step.V1 a w v h → ⊥) → r ≡ q) ⌝ }
 {
     let Step::V1 {
         after,
@@ -77,8 +78,9 @@ pub fn step_v1(heads: &[u32], q: Process) -> Process
 pub fn step_v3(heads: &mut [u32], q: Process) -> Process
     requires { ⌜ q .steps < 65536 ⌝ }
     requires { ⌜ ((a : After) (w : Visit) (v h : ℕ) → stepIn (q .status) ≡ Step.V3 a w v h → (v < length (now heads)) × (h < 65536)) ⌝ }
-    ensures { λ r. ⌜ ((a : After) (w : Visit) (v h : ℕ) → stepIn (q .status) ≡ Step.V3 a w v h →
+    ensures step { λ r. ⌜ ((a : After) (w : Visit) (v h : ℕ) → stepIn (q .status) ≡ Step.V3 a w v h →
         NextByHeads (now (heads .entry)) (now (heads .exit)) q r) ⌝ }
+    ensures other { λ r. ⌜ (((a : After) (w : Visit) (v h : ℕ) → stepIn (q .status) ≡ Step.V3 a w v h → ⊥) → ((r ≡ q) × (now (heads .exit) ≡ now (heads .entry)))) ⌝ }
 {
     let Step::V3 {
         after,
@@ -97,8 +99,9 @@ pub fn step_v3(heads: &mut [u32], q: Process) -> Process
 pub fn step_r1(heads: &[u32], q: Process) -> Process
     requires { ⌜ q .steps < 65536 ⌝ }
     requires { ⌜ ((b : Bool) (v : ℕ) → stepIn (q .status) ≡ Step.R1 b v → v < length (now heads)) ⌝ }
-    ensures { λ r. ⌜ ((b : Bool) (v : ℕ) → stepIn (q .status) ≡ Step.R1 b v →
+    ensures step { λ r. ⌜ ((b : Bool) (v : ℕ) → stepIn (q .status) ≡ Step.R1 b v →
         NextByHeads (now (heads .entry)) (now (heads .entry)) q r) ⌝ }
+    ensures other { λ r. ⌜ (((b : Bool) (v : ℕ) → stepIn (q .status) ≡ Step.R1 b v → ⊥) → r ≡ q) ⌝ }
 {
     let Step::R1 { second, node } = step_in(q) else {
         return q;
@@ -119,8 +122,9 @@ pub fn step_r1(heads: &[u32], q: Process) -> Process
 pub fn step_r2(heads: &[u32], q: Process) -> Process
     requires { ⌜ q .steps < 65536 ⌝ }
     requires { ⌜ ((w : Visit) → stepIn (q .status) ≡ Step.R2 w → Children (now heads) w) ⌝ }
-    ensures { λ r. ⌜ ((w : Visit) → stepIn (q .status) ≡ Step.R2 w →
+    ensures step { λ r. ⌜ ((w : Visit) → stepIn (q .status) ≡ Step.R2 w →
         NextByHeads (now (heads .entry)) (now (heads .entry)) q r) ⌝ }
+    ensures other { λ r. ⌜ (((w : Visit) → stepIn (q .status) ≡ Step.R2 w → ⊥) → r ≡ q) ⌝ }
 {
     let Step::R2 { visit } = step_in(q) else {
         return q;
@@ -138,8 +142,9 @@ pub fn step_r2(heads: &[u32], q: Process) -> Process
 pub fn step_r4(heads: &[u32], q: Process) -> Process
     requires { ⌜ q .steps < 65536 ⌝ }
     requires { ⌜ ((w : Visit) → stepIn (q .status) ≡ Step.R4 w → Children (now heads) w) ⌝ }
-    ensures { λ r. ⌜ ((w : Visit) → stepIn (q .status) ≡ Step.R4 w →
+    ensures step { λ r. ⌜ ((w : Visit) → stepIn (q .status) ≡ Step.R4 w →
         NextByHeads (now (heads .entry)) (now (heads .entry)) q r) ⌝ }
+    ensures other { λ r. ⌜ (((w : Visit) → stepIn (q .status) ≡ Step.R4 w → ⊥) → r ≡ q) ⌝ }
 {
     let Step::R4 { visit } = step_in(q) else {
         return q;
@@ -157,8 +162,9 @@ pub fn step_r4(heads: &[u32], q: Process) -> Process
 pub fn step_c1(heads: &[u32], q: Process) -> Process
     requires { ⌜ q .steps < 65536 ⌝ }
     requires { ⌜ ((w : Visit) → stepIn (q .status) ≡ Step.C1 w → Children (now heads) w × (1 ≤ getD (now heads) (2 * w .node) 1)) ⌝ }
-    ensures { λ r. ⌜ ((w : Visit) → stepIn (q .status) ≡ Step.C1 w →
+    ensures step { λ r. ⌜ ((w : Visit) → stepIn (q .status) ≡ Step.C1 w →
         NextByHeads (now (heads .entry)) (now (heads .entry)) q r) ⌝ }
+    ensures other { λ r. ⌜ (((w : Visit) → stepIn (q .status) ≡ Step.C1 w → ⊥) → r ≡ q) ⌝ }
 {
     let Step::C1 { visit } = step_in(q) else {
         return q;
@@ -176,8 +182,9 @@ pub fn step_c1(heads: &[u32], q: Process) -> Process
 pub fn step_c2(heads: &[u32], q: Process) -> Process
     requires { ⌜ q .steps < 65536 ⌝ }
     requires { ⌜ ((w : Visit) (l : ℕ) → stepIn (q .status) ≡ Step.C2 w l → Children (now heads) w × (1 ≤ getD (now heads) (2 * w .node + 1) 1)) ⌝ }
-    ensures { λ r. ⌜ ((w : Visit) (l : ℕ) → stepIn (q .status) ≡ Step.C2 w l →
+    ensures step { λ r. ⌜ ((w : Visit) (l : ℕ) → stepIn (q .status) ≡ Step.C2 w l →
         NextByHeads (now (heads .entry)) (now (heads .entry)) q r) ⌝ }
+    ensures other { λ r. ⌜ (((w : Visit) (l : ℕ) → stepIn (q .status) ≡ Step.C2 w l → ⊥) → r ≡ q) ⌝ }
 {
     let Step::C2 { visit, left } = step_in(q) else {
         return q;

@@ -7,10 +7,9 @@ ghost use mathlib.Core.Path.{_≡_};
 ghost use Prim.Native.Nat.{_<_};
 ghost use lib.ListN.{getD};
 ghost use Rattle.base.specs.Choice.{if_then_else_};
-ghost use Rattle.tree.specs.Shape.{Shape};
-ghost use Rattle.tree.specs.Blocks.{wordIn, blockAt, withBlockAt, absent as absentOf};
+ghost use Rattle.tree.specs.Blocks.{wordIn, absent as absentOf};
 ghost use Rattle.tree.specs.Memory.{withSuper};
-ghost use Rattle.steps.specs.Ready.{Begins, HasPart, HasPlace, nodePart, nodeBlock};
+ghost use Rattle.steps.specs.Ready.{HasPart, HasPlace, nodePart, nodeBlock, withNodeBlock};
 
 // Where node v's part begins, which is where that of the node before it ends.
 pub fn start_of(starts: &[usize; 17], v: u32) -> usize
@@ -51,7 +50,7 @@ pub fn absent_at(words: &[u32], starts: &[usize; 17], v: u32, i: u32) -> bool
 // Block b at place i of node v.
 pub fn write_at(words: &mut [u32], starts: &[usize; 17], v: u32, i: u32, b: Block)
     requires { ⌜ HasPlace (now starts) (now words) v i ⌝ }
-    ensures { λ _. ⌜ ((s : Shape) → Begins s (now (starts .entry)) v → now (words .exit) ≡ withBlockAt s (now (words .entry)) v i b) ⌝ }
+    ensures { λ _. ⌜ now (words .exit) ≡ withNodeBlock (now (starts .entry)) (now (words .entry)) v i b ⌝ }
 {
     let from = start_of(starts, v);
     let to = start_of(starts, v + 1);
@@ -61,8 +60,8 @@ pub fn write_at(words: &mut [u32], starts: &[usize; 17], v: u32, i: u32, b: Bloc
 // The superblock of node v's block at place i set to x, if it is 0.
 pub fn set_super_at(words: &mut [u32], starts: &[usize; 17], v: u32, i: u32, x: u32)
     requires { ⌜ HasPlace (now starts) (now words) v i ⌝ }
-    ensures { λ _. ⌜ ((s : Shape) → Begins s (now (starts .entry)) v →
-        now (words .exit) ≡ withBlockAt s (now (words .entry)) v i (withSuper (blockAt s (now (words .entry)) v i) x)) ⌝ }
+    ensures { λ _. ⌜ now (words .exit) ≡
+        withNodeBlock (now (starts .entry)) (now (words .entry)) v i (withSuper (nodeBlock (now (starts .entry)) (now (words .entry)) v i) x) ⌝ }
 {
     let from = start_of(starts, v);
     let to = start_of(starts, v + 1);
@@ -73,8 +72,7 @@ pub fn set_super_at(words: &mut [u32], starts: &[usize; 17], v: u32, i: u32, x: 
 pub fn write_if_absent(words: &mut [u32], starts: &[usize; 17], v: u32, i: u32, b: Block) -> bool
     requires { ⌜ HasPlace (now starts) (now words) v i ⌝ }
     ensures { λ r. ⌜ r ≡ absentOf (nodeBlock (now (starts .entry)) (now (words .entry)) v i) ⌝ }
-    ensures { λ r. ⌜ ((s : Shape) → Begins s (now (starts .entry)) v →
-        now (words .exit) ≡ (if r then withBlockAt s (now (words .entry)) v i b else now (words .entry))) ⌝ }
+    ensures { λ r. ⌜ now (words .exit) ≡ (if r then withNodeBlock (now (starts .entry)) (now (words .entry)) v i b else now (words .entry)) ⌝ }
 {
     let empty = blocks::absent(block_at(words, starts, v, i));
     if empty {

@@ -3,12 +3,15 @@ use crate::Operation;
 use crate::Process;
 use crate::Status;
 use crate::Step;
+ghost use mathlib.Core.Bool.{false};
 ghost use mathlib.Core.Path.{_≡_};
 ghost use Prim.Native.Nat.{_<_};
+ghost use Rattle.steps.specs.Machine.{isIdle};
 ghost use Rattle.steps.specs.Next.{operationIn, stepIn, moved as movedOf};
 
-// The operation that a busy process is inside of. An idle one has none; no caller asks.
+// The operation that a busy process is inside of.
 pub fn operation_in(q: Process) -> Operation
+    requires { ⌜ isIdle (q .status) ≡ false ⌝ }
     ensures { λ r. ⌜ r ≡ operationIn (q .status) ⌝ }
 {
     let status = q.status;
@@ -18,7 +21,7 @@ pub fn operation_in(q: Process) -> Operation
     }
 }
 
-// The next step of a busy process. An idle one has none; no caller asks.
+// The step that a process is at. An idle one is at none: the next that it comes to is A.
 pub fn step_in(q: Process) -> Step
     ensures { λ r. ⌜ r ≡ stepIn (q .status) ⌝ }
 {
@@ -31,7 +34,7 @@ pub fn step_in(q: Process) -> Step
 
 // A busy process q after its step, with step n next.
 pub fn moved(q: Process, n: Step) -> Process
-    requires { ⌜ q .steps < 65536 ⌝ }
+    requires { ⌜ (q .steps < 65536) × (isIdle (q .status) ≡ false) ⌝ }
     ensures { λ r. ⌜ r ≡ movedOf q (operationIn (q .status)) n ⌝ }
 {
     Process {

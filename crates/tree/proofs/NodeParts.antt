@@ -10,7 +10,6 @@ use Rattle.tree.specs.declared.Block.{Block}
 use Rattle.tree.specs.Shape.{Shape, processes, lastPlace}
 use Rattle.tree.specs.Layout.{blockWords, partStart, partWords, wordsNeeded, partOf, withPart}
 use Rattle.tree.specs.Blocks.{blockIn, withBlock, blockAt, withBlockAt}
-use Rattle.tree.specs.Memory.{withSuper}
 use Rattle.tree.proofs.Sizes.{words-of, part-within}
 
 -- a part that code was lent is put back with what stands before it and behind it
@@ -42,9 +41,3 @@ module _ (s : Shape) (v from to : ℕ) (start : from ≡ partStart s v) (end : t
     pub node-write-at : (i : ℕ) (b : Block) → take from t ++ withBlock (take (to - from) (drop from t)) i b ++ drop to t ≡ withBlockAt s t v i b
     unfolding withBlockAt withPart
     node-write-at i b = rw (node-part, node-words, start)
-
-    pub node-set-super-at :
-        (i x : ℕ)
-        → take from t ++ withBlock (take (to - from) (drop from t)) i (withSuper (blockIn (take (to - from) (drop from t)) i) x) ++ drop to t
-        ≡ withBlockAt s t v i (withSuper (blockAt s t v i) x)
-    node-set-super-at i x = rw (node-write-at i, node-block-at i)

@@ -1,26 +1,25 @@
 -- `compare::verdict` meets its contract. Assumes nothing.
-use native.Mathlib.Omega.{arith}
-use mathlib.Core.Path.{ap, sym, _∙_}
 use borrow.Author.Needs.{needs}
+use borrow.Author.Tests.{eq-eqb, ne-eqb}
 use Rattle.record.specs.AnswerRecords.{answerSize}
-use Rattle.rules.specs.declared.Verdict.the-variants.{Differs}
-use Rattle.log.proofs.Compared.{compared-same, compared-differs}
+use Rattle.log.specs.Leading.{verdictOf}
 use Rattle.log.proofs.compare.verdict.Statement.{statement}
 use Rattle.log.proofs.compare.verdict.Tie as tie
 
 returns : tie.Need-returns
-returns c xs log n e l w = ap Differs e ∙ sym (compared-differs xs log w (λ f g. omega arith))
+unfolding verdictOf
+returns c = rw (ne-eqb _ _ (c .if1 .taken))
 
 mul-if2 : tie.Need-mul-if2
 mul-if2 c = search needs
 
 returns-2 : tie.Need-returns-2
-unfolding answerSize
-returns-2 c xs log n e l w = ap Differs e ∙ sym (compared-differs xs log w (λ f g. omega arith))
+unfolding verdictOf answerSize
+returns-2 c = rw (eq-eqb _ _ (c .before .if1 .left), ne-eqb _ _ (c .if2 .taken))
 
 returns-3 : tie.Need-returns-3
-unfolding answerSize
-returns-3 c xs log n e l w = sym (compared-same xs log w (omega arith) (omega arith))
+unfolding verdictOf answerSize
+returns-3 c = rw (eq-eqb _ _ (c .before .if1 .left), eq-eqb _ _ (c .if2 .left))
 
 pub verdict-spec : {M : Type 1} → statement M
 verdict-spec = tie.close (tie.spec returns mul-if2 returns-2 returns-3)

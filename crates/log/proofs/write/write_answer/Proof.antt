@@ -1,30 +1,10 @@
--- `write::write_answer` meets its contract. Where there are bytes, the answer has room; where there are none, it has not, and none are written. Assumes nothing.
-use Prim.Native.Nat.{ℕ, _+_, _*_, _≤_}
-use native.Mathlib.Omega.{arith}
-use mathlib.Core.Logic.{_⊎_, inl, inr}
-use mathlib.Core.Path.{_≡_, ap, sym, _∙_}
-use mathlib.Core.List.{List, [], _∷_, _++_}
-use lib.ListN.{length}
-use lib.Seq.{sets}
+-- `write::write_answer` meets its contract. Assumes nothing.
 use borrow.Author.Needs.{needs}
-use Rattle.record.specs.declared.AnswerRecord.{AnswerRecord}
-use Rattle.record.specs.AnswerRecords.{answerSize, answerBytes}
-use Rattle.log.specs.Leading.{written}
-use Rattle.log.proofs.Written.{written-nowhere, written-length, written-more}
+use borrow.Author.Tests.{le-leb, lt-leb}
+use Rattle.record.specs.AnswerRecords.{answerSize}
+use Rattle.log.specs.Leading.{withAnswer}
 use Rattle.log.proofs.write.write_answer.Statement.{statement}
 use Rattle.log.proofs.write.write_answer.Tie as tie
-
-module _ (out before : List ℕ) (xs : List AnswerRecord) (a : AnswerRecord) (n : ℕ) (counted : n ≡ length xs) (was : out ≡ written before xs) where
-  -- the bytes are as many as before
-  as-many : (length before ≡ 0) ⊎ (16 * n + 16 ≤ length before) → length out ≡ length before
-  unfolding answerSize
-  as-many (inl z) = ap length was ∙ written-length before xs (inl z)
-  as-many (inr h) = ap length was ∙ written-length before xs (inr (omega arith))
-
-  stored : (length before ≡ 0) ⊎ (16 * n + 16 ≤ length before) → 16 * n + 16 ≤ length out
-      → sets out (16 * n) (answerBytes a) ≡ written before (xs ++ (a ∷ []))
-  unfolding answerSize
-  stored g h = rw (was, counted) (written-more before xs a (omega (arith, as-many g)))
 
 mul-at : tie.Need-mul-at
 mul-at c = search needs
@@ -39,16 +19,12 @@ same-length : tie.Need-same-length
 same-length c = search needs
 
 returns : tie.Need-returns
-returns c before xs n g was =
-    let start = c .before .before .before .before .before .before in
-    c .before .before .put-answer .ensures
-    ∙ stored (start .args .out .now) before xs (start .args .a) (start .args .n) n was g (c .before .before .before .before .if1 .taken)
+unfolding withAnswer answerSize
+returns c = rw (le-leb _ _ (c .before .before .before .before .if1 .taken)) (c .before .before .put-answer .ensures)
 
 returns-2 : tie.Need-returns-2
-returns-2 c before xs n (inl z) was = was ∙ written-nowhere before xs z ∙ sym (written-nowhere before (xs ++ (c .before .before .args .a ∷ [])) z)
-returns-2 c before xs n (inr h) was =
-    let start = c .before .before in
-    absurd (omega (arith, as-many (start .args .out .now) before xs (start .args .a) (start .args .n) n was (inr h)))
+unfolding withAnswer answerSize
+returns-2 c = rw (lt-leb _ _ (c .if1 .left))
 
 pub write-answer-spec : {M : Type 1} → statement M
 write-answer-spec =

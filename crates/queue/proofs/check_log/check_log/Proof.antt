@@ -5,8 +5,9 @@ use mathlib.Core.Logic.{inl}
 use borrow.Author.Needs.{needs}
 use borrow.Author.Tests.{not-true, not-false}
 use Rattle.rules.specs.Refusals.{accepted}
+use Rattle.rules.proofs.CallAccepted.{check-call}
 use Rattle.queue.proofs.Accepted.{accepted-narrow, accepted-heads, accepted-callable}
-use Rattle.queue.proofs.CheckLaws.{check-down, check-call, check-whole, check-few, check-refused, check-compared}
+use Rattle.queue.proofs.CheckLaws.{with-judges, check-down, check-few, check-refused, check-compared}
 use Rattle.queue.proofs.check_log.check_log.Statement.{statement}
 use Rattle.queue.proofs.check_log.check_log.Tie as tie
 
@@ -20,7 +21,7 @@ returns : tie.Need-returns
 returns c =
     let a = c .before .before .before .before .before .before .args in
     let n = c .before .before .of-check .ensures in
-    rw n (check-down (a .p) (a .l) (a .records .now) (a .log .now) (a .table .now) (ap accepted (sym n) ∙ sym (c .before .accepted .ensures) ∙ not-true (c .before .accepted .result) (c .if1 .taken)))
+    rw n (with-judges (a .p) (a .l) (a .records .now) (a .log .now) (a .table .now) _ _ (check-down (a .p) (a .l) (a .records .now) (a .log .now) (a .table .now) (ap accepted (sym n) ∙ sym (c .before .accepted .ensures) ∙ not-true (c .before .accepted .result) (c .if1 .taken))))
 
 wide-requires : tie.Need-wide-requires
 wide-requires c κs = search needs
@@ -32,19 +33,19 @@ array-borrow-prefix-heads : tie.Need-array-borrow-prefix-heads
 array-borrow-prefix-heads c =
     let a = c .before .before .before .before .before .before .before .args in
     let ok = ap accepted (sym (c .before .before .before .of-check .ensures)) ∙ sym (c .before .before .accepted .ensures) ∙ not-false (c .before .before .accepted .result) (c .before .if1 .left) in
-    omega (arith, c .wide .ensures, accepted-narrow _ _ _ _ (check-call (a .p) (a .l) (a .records .now) (a .log .now) (a .table .now) ok))
+    omega (arith, c .wide .ensures, accepted-narrow _ _ _ _ (check-call _ _ _ _ _ ok))
 
 slice-aggregate-play-unanswered : tie.Need-slice-aggregate-play-unanswered
 slice-aggregate-play-unanswered c =
     let a = c .before .before .before .before .before .before .before .before .args in
     let ok = ap accepted (sym (c .before .before .before .before .of-check .ensures)) ∙ sym (c .before .before .before .accepted .ensures) ∙ not-false (c .before .before .before .accepted .result) (c .before .before .if1 .left) in
-    sym (accepted-heads _ _ _ _ (check-call (a .p) (a .l) (a .records .now) (a .log .now) (a .table .now) ok) (c .before .wide .result) (c .before .wide .ensures))
+    sym (accepted-heads _ _ _ _ (check-call _ _ _ _ _ ok) (c .before .wide .result) (c .before .wide .ensures))
 
 play-unanswered-requires : tie.Need-play-unanswered-requires
 play-unanswered-requires c κs =
     let a = c .before .before .before .before .before .before .before .before .before .args in
     let ok = ap accepted (sym (c .before .before .before .before .before .of-check .ensures)) ∙ sym (c .before .before .before .before .accepted .ensures) ∙ not-false (c .before .before .before .before .accepted .result) (c .before .before .before .if1 .left) in
-    accepted-callable _ _ _ _ (check-call (a .p) (a .l) (a .records .now) (a .log .now) (a .table .now) ok) _ _ _ (c .before .before .wide .ensures) (inl refl)
+    accepted-callable _ _ _ _ (check-call _ _ _ _ _ ok) _ _ _ (c .before .before .wide .ensures) (inl refl)
 
 accepted-requires-2 : tie.Need-accepted-requires-2
 accepted-requires-2 c κs = search needs
@@ -57,8 +58,9 @@ returns-2 c =
     let a = c .before .before .before .before .before .before .before .before .before .before .before .before .before .before .before .args in
     let o = c .before .before .before .before .before .play-unanswered in
     let ok = ap accepted (sym (c .before .before .before .before .before .before .before .before .before .before .before .of-check .ensures)) ∙ sym (c .before .before .before .before .before .before .before .before .before .before .accepted .ensures) ∙ not-false (c .before .before .before .before .before .before .before .before .before .before .accepted .result) (c .before .before .before .before .before .before .before .before .before .if1 .left) in
-    check-refused (a .p) (a .l) (a .records .now) (a .log .now) (a .table .now) ok (o .result) _ _ _ _ (o .ensures .0) (o .ensures .1)
-    (sym (c .before .accepted2 .ensures) ∙ not-true (c .before .accepted2 .result) (c .if2 .taken))
+    with-judges (a .p) (a .l) (a .records .now) (a .log .now) (a .table .now) _ _
+    (check-refused (a .p) (a .l) (a .records .now) (a .log .now) (a .table .now) ok (o .result) _ _ _ _ (o .ensures .0) (o .ensures .1)
+    (sym (c .before .accepted2 .ensures) ∙ not-true (c .before .accepted2 .result) (c .if2 .taken)))
 
 verdict-requires : tie.Need-verdict-requires
 verdict-requires c κs =
@@ -75,9 +77,10 @@ returns-3 c =
     let a = c .before .before .before .before .before .before .before .before .before .before .before .before .before .before .before .before .args in
     let o = c .before .before .before .before .before .before .play-unanswered in
     let ok = ap accepted (sym (c .before .before .before .before .before .before .before .before .before .before .before .before .of-check .ensures)) ∙ sym (c .before .before .before .before .before .before .before .before .before .before .before .accepted .ensures) ∙ not-false (c .before .before .before .before .before .before .before .before .before .before .before .accepted .result) (c .before .before .before .before .before .before .before .before .before .before .if1 .left) in
-    check-compared (a .p) (a .l) (a .records .now) (a .log .now) (a .table .now) ok (o .result) _ _ _ _ (o .ensures .0) (o .ensures .1) (c .verdict .result)
-    (sym (c .before .before .accepted2 .ensures) ∙ not-false (c .before .before .accepted2 .result) (c .before .if2 .left))
-    (c .verdict .ensures _ (a .log .now) (o .ensures .0 .answered) (o .ensures .0 .equal) refl (check-whole (a .p) (a .l) (a .records .now) (a .log .now) (a .table .now) ok))
+    rw (c .verdict .ensures)
+    (with-judges (a .p) (a .l) (a .records .now) (a .log .now) (a .table .now) _ _
+    (check-compared (a .p) (a .l) (a .records .now) (a .log .now) (a .table .now) ok (o .result) _ _ _ _ (o .ensures .0) (o .ensures .1)
+    (sym (c .before .before .accepted2 .ensures) ∙ not-false (c .before .before .accepted2 .result) (c .before .if2 .left))))
 
 pub check-log-spec : {M : Type 1} → statement M
 check-log-spec =

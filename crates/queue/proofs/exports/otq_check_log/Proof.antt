@@ -1,6 +1,6 @@
 -- `exports::otq_check_log` meets its contract. Assumes nothing.
 use borrow.Author.Needs.{needs}
-use Rattle.queue.proofs.Exporting.{check-export}
+use Rattle.queue.proofs.Exporting.{check-export, check-told}
 use Rattle.queue.proofs.exports.otq_check_log.Statement.{statement}
 use Rattle.queue.proofs.exports.otq_check_log.Tie as tie
 
@@ -16,7 +16,8 @@ same-length c = search needs
 returns : tie.Need-returns
 returns c =
     let r = c .before .before .before .check-log in
-    check-export (r .result) _ _ _ (r .ensures) (c .checked .ensures)
+    let x = check-export _ _ _ _ (r .ensures .0) (c .checked .ensures _) in
+    (x, check-told _ _ _ _ _ _ _ x)
 
 pub otq-check-log-spec : {M : Type 1} → statement M
 otq-check-log-spec = tie.close (tie.spec check-log-requires checked-requires same-length returns)

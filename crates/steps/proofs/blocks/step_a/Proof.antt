@@ -2,7 +2,7 @@
 use mathlib.Core.Path.{refl}
 use Rattle.tree.specs.Memory.{headOf, block, write}
 use Rattle.steps.specs.Rules.{step, go}
-use Rattle.steps.proofs.NodeReads.{node-read}
+use Rattle.steps.proofs.NodeReads.{node-read, node-written}
 use borrow.Author.Needs.{needs}
 use Rattle.steps.proofs.blocks.step_a.Statement.{statement}
 use Rattle.steps.proofs.blocks.step_a.Tie as tie
@@ -21,7 +21,7 @@ operation-in-requires c κs = search needs
 
 plus-operation-requires : tie.Need-plus-operation-requires
 plus-operation-requires c κs =
-    let p = c .before .before .before .before .before .before .pre .1 in
+    let p = c .before .before .before .before .before .before .pre .1 .0 in
     rw (c .before .block-at .ensures, c .before .before .before .head-of .ensures) (p .puts, p .takes)
 
 write-at-requires : tie.Need-write-at-requires
@@ -46,7 +46,8 @@ returns c =
           rw (
             ← e,
             c .before .advance .ensures,
-            c .before .before .before .before .write-at .ensures s n,
+            c .before .before .before .before .write-at .ensures,
+            node-written s (a .starts .now) (a .table .now) (a .leaf) _ _ n,
             c .before .before .before .before .before .before .plus-operation .ensures,
             c .before .before .before .before .before .before .before .operation-in .ensures,
             c .before .before .before .before .before .before .before .before .block-at .ensures,

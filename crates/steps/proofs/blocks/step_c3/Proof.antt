@@ -5,7 +5,7 @@ use Rattle.tree.specs.Memory.{block}
 use Rattle.steps.specs.Rules.{built, step, go}
 use Rattle.steps.specs.Next.{Placed}
 use Rattle.steps.proofs.NodeReads.{node-read}
-use Rattle.steps.proofs.Told.{other}
+use Rattle.steps.proofs.Told.{other, busy}
 use borrow.Author.Needs.{needs}
 use Rattle.steps.proofs.blocks.step_c3.Statement.{statement}
 use Rattle.steps.proofs.blocks.step_c3.Tie as tie
@@ -17,7 +17,7 @@ enum-known-visit : tie.Need-enum-known-visit
 enum-known-visit c = search needs
 
 returns : tie.Need-returns
-returns c = λ _ _ _ e. absurd (other (c .match .keys2) (c .before .step-in .ensures ∙ e) tt)
+returns c = (λ _ _ _ e. absurd (other (c .match .keys2) (c .before .step-in .ensures ∙ e) tt), λ _. refl)
 
 sub-block-at : tie.Need-sub-block-at
 sub-block-at c =
@@ -63,28 +63,30 @@ settle-requires : tie.Need-settle-requires
 settle-requires c κs = search needs
 
 moved-requires : tie.Need-moved-requires
-moved-requires c κs = c .before .before .before .before .before .before .before .before .before .before .before .pre .0
+moved-requires c κs = (c .before .before .before .before .before .before .before .before .before .before .before .pre .0 .0, busy _ (sym (c .before .before .before .before .before .before .before .before .before .step-in .ensures) ∙ c .before .before .before .before .before .before .before .visit .given .1) tt)
 
 returns-2 : tie.Need-returns-2
 unfolding step go built block leftOf rightOf
-returns-2 c = λ _ _ _ _.
+returns-2 c =
     let told = sym (c .before .before .before .before .before .before .before .before .before .before .step-in .ensures) ∙ c .before .before .before .before .before .before .before .before .visit .given .1 in
-    let a = c .before .before .before .before .before .before .before .before .before .before .before .before .args in
-    rw (c .moved .ensures) (
-      refl,
-      λ s k o heads i.
-          let g = subst (Placed s (a .starts .now)) told i in
-          rw (
-            told,
-            c .before .settle .ensures,
-            c .before .before .joined .ensures,
-            c .before .before .before .block-at3 .ensures,
-            c .before .before .before .before .block-at2 .ensures,
-            c .before .before .before .before .before .block-at .ensures,
-            node-read s (a .starts .now) (a .table .now) _ _ (g .0),
-            node-read s (a .starts .now) (a .table .now) _ _ (g .1),
-            node-read s (a .starts .now) (a .table .now) _ _ (g .2),
-          ),
+    let a = c .before .before .before .before .before .before .before .before .before .before .before .before .args in (
+      λ _ _ _ _. rw (c .moved .ensures) (
+        refl,
+        λ s k o heads i.
+            let g = subst (Placed s (a .starts .now)) told i in
+            rw (
+              told,
+              c .before .settle .ensures,
+              c .before .before .joined .ensures,
+              c .before .before .before .block-at3 .ensures,
+              c .before .before .before .before .block-at2 .ensures,
+              c .before .before .before .before .before .block-at .ensures,
+              node-read s (a .starts .now) (a .table .now) _ _ (g .0),
+              node-read s (a .starts .now) (a .table .now) _ _ (g .1),
+              node-read s (a .starts .now) (a .table .now) _ _ (g .2),
+            ),
+      ),
+      λ no. absurd (no _ _ _ told),
     )
 
 pub step-c3-spec : {M : Type 1} → statement M

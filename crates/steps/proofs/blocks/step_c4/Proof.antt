@@ -3,8 +3,8 @@ use mathlib.Core.Path.{refl, sym, _∙_, subst}
 use Rattle.tree.specs.Memory.{block, writeIfAbsent}
 use Rattle.steps.specs.Rules.{step, go}
 use Rattle.steps.specs.Next.{Placed}
-use Rattle.steps.proofs.NodeReads.{node-read}
-use Rattle.steps.proofs.Told.{other}
+use Rattle.steps.proofs.NodeReads.{node-read, node-written}
+use Rattle.steps.proofs.Told.{other, busy}
 use borrow.Author.Needs.{needs}
 use Rattle.steps.proofs.blocks.step_c4.Statement.{statement}
 use Rattle.steps.proofs.blocks.step_c4.Tie as tie
@@ -16,7 +16,7 @@ enum-known-visit : tie.Need-enum-known-visit
 enum-known-visit c = search needs
 
 returns : tie.Need-returns
-returns c = λ _ _ e. absurd (other (c .match .keys2) (c .before .step-in .ensures ∙ e) tt)
+returns c = (λ _ _ e. absurd (other (c .match .keys2) (c .before .step-in .ensures ∙ e) tt), λ _. (refl, refl))
 
 block-of-requires : tie.Need-block-of-requires
 block-of-requires c κs = search needs
@@ -33,30 +33,33 @@ advance-requires : tie.Need-advance-requires
 advance-requires c κs = search needs
 
 moved-requires : tie.Need-moved-requires
-moved-requires c κs = search needs
+moved-requires c κs = (search needs, busy _ (sym (c .before .before .before .before .before .before .before .before .before .before .step-in .ensures) ∙ c .before .before .before .before .before .before .before .before .visit .given .1) tt)
 
 same-length : tie.Need-same-length
 same-length c = search needs
 
 returns-2 : tie.Need-returns-2
 unfolding step go writeIfAbsent block
-returns-2 c = λ _ _ _.
+returns-2 c =
     let told = sym (c .before .before .before .before .before .before .before .before .before .before .before .step-in .ensures) ∙ c .before .before .before .before .before .before .before .before .before .visit .given .1 in
     let a = c .before .before .before .before .before .before .before .before .before .before .before .before .before .args in
-    let p = c .before .before .before .before .before .write-if-absent .ensures in
-    rw (c .moved .ensures) (
-      refl,
-      λ s k o heads i.
-          let g = subst (Placed s (a .starts .now)) told i in
-          rw (
-            told,
-            c .before .advance .ensures,
-            c .before .before .after-refresh .ensures,
-            p .1 s g,
-            c .before .before .before .before .before .before .block-of .ensures,
-            p .0,
-            node-read s (a .starts .now) (a .table .now) _ _ g,
-          ),
+    let p = c .before .before .before .before .before .write-if-absent .ensures in (
+      λ _ _ _. rw (c .moved .ensures) (
+        refl,
+        λ s k o heads i.
+            let g = subst (Placed s (a .starts .now)) told i in
+            rw (
+              told,
+              c .before .advance .ensures,
+              c .before .before .after-refresh .ensures,
+              p .1,
+              node-written s (a .starts .now) (a .table .now) _ _ _ g,
+              c .before .before .before .before .before .before .block-of .ensures,
+              p .0,
+              node-read s (a .starts .now) (a .table .now) _ _ g,
+            ),
+      ),
+      λ no. absurd (no _ _ told),
     )
 
 pub step-c4-spec : {M : Type 1} → statement M

@@ -5,7 +5,7 @@ use Rattle.tree.specs.Memory.{block}
 use Rattle.steps.specs.Rules.{help, step, go}
 use Rattle.steps.specs.Next.{Placed}
 use Rattle.steps.proofs.NodeReads.{node-read}
-use Rattle.steps.proofs.Told.{other}
+use Rattle.steps.proofs.Told.{other, busy}
 use borrow.Author.Needs.{needs}
 use Rattle.steps.proofs.blocks.step_r5.Statement.{statement}
 use Rattle.steps.proofs.blocks.step_r5.Tie as tie
@@ -17,7 +17,7 @@ enum-known-visit : tie.Need-enum-known-visit
 enum-known-visit c = search needs
 
 returns : tie.Need-returns
-returns c = λ _ _ e. absurd (other (c .match .keys2) (c .before .step-in .ensures ∙ e) tt)
+returns c = (λ _ _ e. absurd (other (c .match .keys2) (c .before .step-in .ensures ∙ e) tt), λ _. refl)
 
 mul-v : tie.Need-mul-v
 mul-v c =
@@ -38,23 +38,25 @@ help-requires : tie.Need-help-requires
 help-requires c κs = search needs
 
 moved-requires : tie.Need-moved-requires
-moved-requires c κs = search needs
+moved-requires c κs = (search needs, busy _ (sym (c .before .before .before .before .before .before .step-in .ensures) ∙ c .before .before .before .before .visit .given .1) tt)
 
 returns-2 : tie.Need-returns-2
 unfolding step go help block rightOf
-returns-2 c = λ _ _ _.
+returns-2 c =
     let told = sym (c .before .before .before .before .before .before .before .step-in .ensures) ∙ c .before .before .before .before .before .visit .given .1 in
-    let a = c .before .before .before .before .before .before .before .before .before .args in
-    rw (c .moved .ensures) (
-      refl,
-      λ s k o heads i.
-          let g = subst (Placed s (a .starts .now)) told i in
-          rw (
-            told,
-            c .before .help .ensures,
-            c .before .before .absent-at .ensures,
-            node-read s (a .starts .now) (a .table .now) _ _ g,
-          ),
+    let a = c .before .before .before .before .before .before .before .before .before .args in (
+      λ _ _ _. rw (c .moved .ensures) (
+        refl,
+        λ s k o heads i.
+            let g = subst (Placed s (a .starts .now)) told i in
+            rw (
+              told,
+              c .before .help .ensures,
+              c .before .before .absent-at .ensures,
+              node-read s (a .starts .now) (a .table .now) _ _ g,
+            ),
+      ),
+      λ no. absurd (no _ _ told),
     )
 
 pub step-r5-spec : {M : Type 1} → statement M

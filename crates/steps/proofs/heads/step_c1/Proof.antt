@@ -3,7 +3,7 @@ use mathlib.Core.Path.{refl, sym, _∙_}
 use Rattle.tree.specs.Shape.{leftOf}
 use Rattle.tree.specs.Memory.{headOf}
 use Rattle.steps.specs.Rules.{step, go}
-use Rattle.steps.proofs.Told.{other}
+use Rattle.steps.proofs.Told.{other, busy}
 use borrow.Author.Needs.{needs}
 use Rattle.steps.proofs.heads.step_c1.Statement.{statement}
 use Rattle.steps.proofs.heads.step_c1.Tie as tie
@@ -15,7 +15,7 @@ enum-known-visit : tie.Need-enum-known-visit
 enum-known-visit c = search needs
 
 returns : tie.Need-returns
-returns c = λ _ e. absurd (other (c .match .keys2) (c .before .step-in .ensures ∙ e) tt)
+returns c = (λ _ e. absurd (other (c .match .keys2) (c .before .step-in .ensures ∙ e) tt), λ _. refl)
 
 mul-head-of : tie.Need-mul-head-of
 mul-head-of c =
@@ -33,13 +33,13 @@ sub-t7 c =
     search needs
 
 moved-requires : tie.Need-moved-requires
-moved-requires c κs = search needs
+moved-requires c κs = (search needs, busy _ (sym (c .before .before .before .before .before .step-in .ensures) ∙ c .before .before .before .visit .given .1) tt)
 
 returns-2 : tie.Need-returns-2
 unfolding step go headOf leftOf
-returns-2 c = λ _ _.
+returns-2 c =
     let told = sym (c .before .before .before .before .before .before .step-in .ensures) ∙ c .before .before .before .before .visit .given .1 in
-    rw (c .moved .ensures) (refl, λ s k o t. rw (told, c .before .head-of .ensures))
+    (λ _ _. rw (c .moved .ensures) (refl, λ s k o t. rw (told, c .before .head-of .ensures)), λ no. absurd (no _ told))
 
 pub step-c1-spec : {M : Type 1} → statement M
 step-c1-spec =

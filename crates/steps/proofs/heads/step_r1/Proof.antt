@@ -2,7 +2,7 @@
 use mathlib.Core.Path.{refl, sym, _∙_}
 use Rattle.tree.specs.Memory.{headOf}
 use Rattle.steps.specs.Rules.{step, go}
-use Rattle.steps.proofs.Told.{other}
+use Rattle.steps.proofs.Told.{other, busy}
 use borrow.Author.Needs.{needs}
 use Rattle.steps.proofs.heads.step_r1.Statement.{statement}
 use Rattle.steps.proofs.heads.step_r1.Tie as tie
@@ -14,7 +14,7 @@ enum-known-second : tie.Need-enum-known-second
 enum-known-second c = search needs
 
 returns : tie.Need-returns
-returns c = λ _ _ e. absurd (other (c .match .keys2) (c .before .step-in .ensures ∙ e) tt)
+returns c = (λ _ _ e. absurd (other (c .match .keys2) (c .before .step-in .ensures ∙ e) tt), λ _. refl)
 
 head-of-requires : tie.Need-head-of-requires
 head-of-requires c κs =
@@ -22,13 +22,13 @@ head-of-requires c κs =
     search needs
 
 moved-requires : tie.Need-moved-requires
-moved-requires c κs = search needs
+moved-requires c κs = (search needs, busy _ (sym (c .before .before .before .before .step-in .ensures) ∙ c .before .before .second .given .1) tt)
 
 returns-2 : tie.Need-returns-2
 unfolding step go headOf
-returns-2 c = λ _ _ _.
+returns-2 c =
     let told = sym (c .before .before .before .before .before .step-in .ensures) ∙ c .before .before .before .second .given .1 in
-    rw (c .moved .ensures) (refl, λ s k o t. rw (told, c .before .head-of .ensures))
+    (λ _ _ _. rw (c .moved .ensures) (refl, λ s k o t. rw (told, c .before .head-of .ensures)), λ no. absurd (no _ _ told))
 
 pub step-r1-spec : {M : Type 1} → statement M
 step-r1-spec =

@@ -1,6 +1,5 @@
 -- `nodes::write_at` meets its contract. Assumes nothing.
-use mathlib.Core.Path.{_∙_}
-use Rattle.tree.proofs.NodeParts.{node-write-at}
+use Rattle.steps.specs.Ready.{nodePart, withNodeBlock}
 use borrow.Author.Needs.{needs}
 use Rattle.steps.proofs.nodes.write_at.Statement.{statement}
 use Rattle.steps.proofs.nodes.write_at.Tie as tie
@@ -24,7 +23,10 @@ same-length : tie.Need-same-length
 same-length c = search needs
 
 returns : tie.Need-returns
-returns c = λ s n. rw (c .before .before .before .wide .ensures) at (c .before .before .node-write .ensures) ∙ node-write-at s (c .before .before .before .before .before .before .before .before .args .v) _ _ (c .before .before .before .before .before .before .start-of .ensures ∙ n .start) (c .before .before .before .before .before .start-of2 .ensures ∙ n .end) (c .before .before .before .before .before .before .before .before .args .words .now) (c .before .before .before .before .before .before .before .before .args .i) (c .before .before .before .before .before .before .before .before .args .b)
+unfolding withNodeBlock nodePart
+returns c =
+    let b = c .before .before .before in
+    rw (← b .before .before .before .start-of .ensures, ← b .before .before .start-of2 .ensures, ← b .wide .ensures) (c .before .before .node-write .ensures)
 
 pub write-at-spec : {M : Type 1} → statement M
 write-at-spec =

@@ -16,13 +16,13 @@ same-length : tie.Need-same-length
 same-length c = search needs
 
 returns : tie.Need-returns
-returns c = (rw (← c .before .before .before .before .before .before .block-at .ensures) (c .before .before .before .before .before .absent .ensures), λ s n. rw (c .before .before .before .before .if1 .taken) (c .before .before .write-at .ensures s n))
+returns c = (rw (← c .before .before .before .before .before .before .block-at .ensures) (c .before .before .before .before .before .absent .ensures), rw (c .before .before .before .before .if1 .taken) (c .before .before .write-at .ensures))
 
 same-length-2 : tie.Need-same-length-2
 same-length-2 c = search needs
 
 returns-2 : tie.Need-returns-2
-returns-2 c = (rw (← c .before .before .block-at .ensures) (c .before .absent .ensures), λ s n. rw (c .if1 .left))
+returns-2 c = (rw (← c .before .before .block-at .ensures) (c .before .absent .ensures), rw (c .if1 .left))
 
 pub write-if-absent-spec : {M : Type 1} → statement M
 write-if-absent-spec =

@@ -1,17 +1,19 @@
 -- The arms of `play`'s loop, one a named step: what the step needs, and that the loop's invariant holds after it. Used by its proof alone.
 use mathlib.Core.Path.{refl, sym}
 use Rattle.steps.specs.Process.{idle}
-use Rattle.steps.specs.Machine.{isQ}
-use Rattle.player.proofs.StepLoop.{step-named, step-leaf, step-begins, step-ready, step-moves}
+use Rattle.steps.specs.Machine.{isIdle, isQ}
+use Rattle.player.proofs.StepLoop.{step-named, step-leaf, step-begins, step-ready, step-fits, step-fits-leaf, step-moves}
 use Rattle.player.proofs.play.play.Proof.Places.{Inv-loop, μ-loop, found, few-steps}
 use Rattle.player.proofs.play.play.Tie as tie
 
 pub ready-a : tie.Need-step-a-requires Inv-loop μ-loop
-unfolding idle isQ
+unfolding idle isQ isIdle
 ready-a c κs =
     let b = c .before .before .before .before .before in
     let busy = b .before .status .given .1 in
-    (few-steps b, step-ready (found b) busy (sym (step-named (found b) busy (c .before .before .before .enum-told2 .given .1))) refl)
+    let at = sym (step-named (found b) busy (c .before .before .before .enum-told2 .given .1)) in
+    let ready = step-ready (found b) busy at refl in
+    ((few-steps b, rw busy refl, at), (ready, step-fits-leaf (found b) (ready .node)))
 
 pub again-a : tie.Need-loop-again Inv-loop μ-loop
 unfolding idle isQ
@@ -31,11 +33,14 @@ again-v1 c =
     let b = c .before .before .before .before .before in
     let f = found b in
     step-moves f (b .before .status .given .1) (c .before .before .before .enum-told3 .given .1) refl _ _ _ refl refl
-    (λ is _ _. let e = c .step-v1 .ensures _ _ _ _ is in (e .0, e .1 _ _ _ _))
+    (λ is _ _. let e = c .step-v1 .ensures .0 _ _ _ _ is in (e .0, e .1 _ _ _ _))
 
 pub ready-v2 : tie.Need-step-v2-requires Inv-loop μ-loop
 unfolding idle isQ
-ready-v2 c κs = let b = c .before .before .before .before in (few-steps b, λ _ _ _ _ _ e. (step-ready (found b) (b .before .status .given .1) e refl) .1)
+ready-v2 c κs =
+    let b = c .before .before .before .before in
+    let busy = b .before .status .given .1 in
+    ((few-steps b, step-fits (found b) busy (c .before .before .enum-told4 .given .1) refl), λ _ _ _ _ _ e. (step-ready (found b) (b .before .status .given .1) e refl) .1)
 
 pub again-v2 : tie.Need-loop-again-3 Inv-loop μ-loop
 unfolding idle isQ
@@ -43,7 +48,7 @@ again-v2 c =
     let b = c .before .before .before .before .before .before .before in
     let f = found b in
     step-moves f (b .before .status .given .1) (c .before .before .before .before .before .enum-told4 .given .1) refl _ _ _ refl (c .before .before .step-v2 .kept .0)
-    (λ is _ placed. let e = c .before .before .step-v2 .ensures _ _ _ _ _ is in (e .0, e .1 _ _ _ _ placed))
+    (λ is _ placed. let e = c .before .before .step-v2 .ensures .0 _ _ _ _ _ is in (e .0, e .1 _ _ _ _ placed))
 
 pub ready-v3 : tie.Need-step-v3-requires Inv-loop μ-loop
 unfolding idle isQ
@@ -55,7 +60,7 @@ again-v3 c =
     let b = c .before .before .before .before .before .before .before in
     let f = found b in
     step-moves f (b .before .status .given .1) (c .before .before .before .before .before .enum-told5 .given .1) refl _ _ _ (c .before .before .step-v3 .kept .0) refl
-    (λ is _ _. let e = c .before .before .step-v3 .ensures _ _ _ _ is in (e .0, e .1 _ _ _ _))
+    (λ is _ _. let e = c .before .before .step-v3 .ensures .0 _ _ _ _ is in (e .0, e .1 _ _ _ _))
 
 pub ready-r1 : tie.Need-step-r1-requires Inv-loop μ-loop
 unfolding idle isQ
@@ -67,7 +72,7 @@ again-r1 c =
     let b = c .before .before .before .before .before in
     let f = found b in
     step-moves f (b .before .status .given .1) (c .before .before .before .enum-told6 .given .1) refl _ _ _ refl refl
-    (λ is _ _. let e = c .step-r1 .ensures _ _ is in (e .0, e .1 _ _ _ _))
+    (λ is _ _. let e = c .step-r1 .ensures .0 _ _ is in (e .0, e .1 _ _ _ _))
 
 pub ready-r2 : tie.Need-step-r2-requires Inv-loop μ-loop
 unfolding idle isQ
@@ -79,11 +84,14 @@ again-r2 c =
     let b = c .before .before .before .before .before in
     let f = found b in
     step-moves f (b .before .status .given .1) (c .before .before .before .enum-told7 .given .1) refl _ _ _ refl refl
-    (λ is _ _. let e = c .step-r2 .ensures _ is in (e .0, e .1 _ _ _ _))
+    (λ is _ _. let e = c .step-r2 .ensures .0 _ is in (e .0, e .1 _ _ _ _))
 
 pub ready-r3 : tie.Need-step-r3-requires Inv-loop μ-loop
 unfolding idle isQ
-ready-r3 c κs = let b = c .before .before .before .before in (few-steps b, λ _ _ e. (step-ready (found b) (b .before .status .given .1) e refl) .1)
+ready-r3 c κs =
+    let b = c .before .before .before .before in
+    let busy = b .before .status .given .1 in
+    ((few-steps b, step-fits (found b) busy (c .before .before .enum-told8 .given .1) refl), λ _ _ e. (step-ready (found b) (b .before .status .given .1) e refl) .1)
 
 pub again-r3 : tie.Need-loop-again-7 Inv-loop μ-loop
 unfolding idle isQ
@@ -91,7 +99,7 @@ again-r3 c =
     let b = c .before .before .before .before .before in
     let f = found b in
     step-moves f (b .before .status .given .1) (c .before .before .before .enum-told8 .given .1) refl _ _ _ refl refl
-    (λ is _ placed. let e = c .step-r3 .ensures _ _ is in (e .0, e .1 _ _ _ _ placed))
+    (λ is _ placed. let e = c .step-r3 .ensures .0 _ _ is in (e .0, e .1 _ _ _ _ placed))
 
 pub ready-r4 : tie.Need-step-r4-requires Inv-loop μ-loop
 unfolding idle isQ
@@ -103,11 +111,14 @@ again-r4 c =
     let b = c .before .before .before .before .before in
     let f = found b in
     step-moves f (b .before .status .given .1) (c .before .before .before .enum-told9 .given .1) refl _ _ _ refl refl
-    (λ is _ _. let e = c .step-r4 .ensures _ is in (e .0, e .1 _ _ _ _))
+    (λ is _ _. let e = c .step-r4 .ensures .0 _ is in (e .0, e .1 _ _ _ _))
 
 pub ready-r5 : tie.Need-step-r5-requires Inv-loop μ-loop
 unfolding idle isQ
-ready-r5 c κs = let b = c .before .before .before .before in (few-steps b, λ _ _ e. (step-ready (found b) (b .before .status .given .1) e refl) .1)
+ready-r5 c κs =
+    let b = c .before .before .before .before in
+    let busy = b .before .status .given .1 in
+    ((few-steps b, step-fits (found b) busy (c .before .before .enum-told10 .given .1) refl), λ _ _ e. (step-ready (found b) (b .before .status .given .1) e refl) .1)
 
 pub again-r5 : tie.Need-loop-again-9 Inv-loop μ-loop
 unfolding idle isQ
@@ -115,7 +126,7 @@ again-r5 c =
     let b = c .before .before .before .before .before in
     let f = found b in
     step-moves f (b .before .status .given .1) (c .before .before .before .enum-told10 .given .1) refl _ _ _ refl refl
-    (λ is _ placed. let e = c .step-r5 .ensures _ _ is in (e .0, e .1 _ _ _ _ placed))
+    (λ is _ placed. let e = c .step-r5 .ensures .0 _ _ is in (e .0, e .1 _ _ _ _ placed))
 
 pub ready-c1 : tie.Need-step-c1-requires Inv-loop μ-loop
 unfolding idle isQ
@@ -127,7 +138,7 @@ again-c1 c =
     let b = c .before .before .before .before .before in
     let f = found b in
     step-moves f (b .before .status .given .1) (c .before .before .before .enum-told11 .given .1) refl _ _ _ refl refl
-    (λ is _ _. let e = c .step-c1 .ensures _ is in (e .0, e .1 _ _ _ _))
+    (λ is _ _. let e = c .step-c1 .ensures .0 _ is in (e .0, e .1 _ _ _ _))
 
 pub ready-c2 : tie.Need-step-c2-requires Inv-loop μ-loop
 unfolding idle isQ
@@ -139,11 +150,14 @@ again-c2 c =
     let b = c .before .before .before .before .before in
     let f = found b in
     step-moves f (b .before .status .given .1) (c .before .before .before .enum-told12 .given .1) refl _ _ _ refl refl
-    (λ is _ _. let e = c .step-c2 .ensures _ _ is in (e .0, e .1 _ _ _ _))
+    (λ is _ _. let e = c .step-c2 .ensures .0 _ _ is in (e .0, e .1 _ _ _ _))
 
 pub ready-c3 : tie.Need-step-c3-requires Inv-loop μ-loop
 unfolding idle isQ
-ready-c3 c κs = let b = c .before .before .before .before in (few-steps b, λ _ _ _ e. (step-ready (found b) (b .before .status .given .1) e refl) .1)
+ready-c3 c κs =
+    let b = c .before .before .before .before in
+    let busy = b .before .status .given .1 in
+    ((few-steps b, step-fits (found b) busy (c .before .before .enum-told13 .given .1) refl), λ _ _ _ e. (step-ready (found b) (b .before .status .given .1) e refl) .1)
 
 pub again-c3 : tie.Need-loop-again-12 Inv-loop μ-loop
 unfolding idle isQ
@@ -151,11 +165,14 @@ again-c3 c =
     let b = c .before .before .before .before .before in
     let f = found b in
     step-moves f (b .before .status .given .1) (c .before .before .before .enum-told13 .given .1) refl _ _ _ refl refl
-    (λ is _ placed. let e = c .step-c3 .ensures _ _ _ is in (e .0, e .1 _ _ _ _ placed))
+    (λ is _ placed. let e = c .step-c3 .ensures .0 _ _ _ is in (e .0, e .1 _ _ _ _ placed))
 
 pub ready-c4 : tie.Need-step-c4-requires Inv-loop μ-loop
 unfolding idle isQ
-ready-c4 c κs = let b = c .before .before .before .before in (few-steps b, λ _ _ e. (step-ready (found b) (b .before .status .given .1) e refl) .1)
+ready-c4 c κs =
+    let b = c .before .before .before .before in
+    let busy = b .before .status .given .1 in
+    ((few-steps b, step-fits (found b) busy (c .before .before .enum-told14 .given .1) refl), λ _ _ e. (step-ready (found b) (b .before .status .given .1) e refl) .1)
 
 pub again-c4 : tie.Need-loop-again-13 Inv-loop μ-loop
 unfolding idle isQ
@@ -163,4 +180,4 @@ again-c4 c =
     let b = c .before .before .before .before .before .before .before in
     let f = found b in
     step-moves f (b .before .status .given .1) (c .before .before .before .before .before .enum-told14 .given .1) refl _ _ _ refl (c .before .before .step-c4 .kept .0)
-    (λ is _ placed. let e = c .before .before .step-c4 .ensures _ _ is in (e .0, e .1 _ _ _ _ placed))
+    (λ is _ placed. let e = c .before .before .step-c4 .ensures .0 _ _ is in (e .0, e .1 _ _ _ _ placed))
