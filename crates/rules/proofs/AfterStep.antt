@@ -218,7 +218,7 @@ module _ {s : Shape} {m : Machine} {c : ℕ → ℕ} {h : List Event} {log : Lis
         record { process = f .process; first = f .first; last = omega (arith, f .last, reached-grows s (m .memory) mem' (inv .sound) (inv' .sound) later (x .process) (f .process)) }
 
     -- at Q the operation is below the root's head, so it stands in the root
-    rooted : isQ n ≡ true → Found s (m .memory) y
+    pub rooted : isQ n ≡ true → Found s (m .memory) y
     unfolding root
     rooted e =
         let w : holding m k ≡ answering = at ∙ ap stage (is-q n e) in

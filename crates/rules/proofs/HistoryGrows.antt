@@ -47,10 +47,10 @@ module _ (s : Shape) (tall : 1 ≤ s .height) where
     took-all : take (play s room rs .taken) rs ≡ rs
     took-all = ap (λ (i : ℕ). take i rs) (played-all s room rs ok) ∙ take-length rs
 
-    whole-machine : play s room rs .machine ≡ machineAfter s rs
+    pub whole-machine : play s room rs .machine ≡ machineAfter s rs
     whole-machine = played-machine s room rs ∙ ap (machineAfter s) took-all
 
-    whole-legal : Legal s rs
+    pub whole-legal : Legal s rs
     whole-legal = subst (Legal s) took-all (played-legal s room rs)
 
   -- over runs without refusal, each with a room of its own

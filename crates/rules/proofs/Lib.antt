@@ -19,6 +19,7 @@ pub mod Theorem
 pub mod CallAccepted
 pub mod Unrefused
 pub mod HistoryGrows
+pub mod StableReads
 pub mod Linearized
 pub mod WaitFree
 pub mod Corollaries

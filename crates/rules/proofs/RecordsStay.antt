@@ -50,28 +50,28 @@ module _ {s : Shape} {m : Machine} {c : ℕ → ℕ} {h : List Event} {log : Lis
       let f : Found s (m .memory) x = ag .finished x e in stands-once s (m .memory) sound x tall (f .process) (f .first) (f .last)
 
   -- a later memory n, and more events
-  module _ (n : Memory) (sn : Sound s n) (later : Later s (m .memory) n) (more : List Event) (still : (x : OpId) → isFinished x h ≡ true → ownSteps x (h ++ more) ≡ ownSteps x h) where
-    answer-kept : (x : OpId) → isFinished x h ≡ true
+  module _ (n : Memory) (sn : Sound s n) (later : Later s (m .memory) n) (more : List Event) where
+    pub answer-kept : (x : OpId) → 1 ≤ times x (rootOperations s (m .memory .table))
         → queueAnswer (h ++ more) x [] (rootOperations s (n .table)) ≡ queueAnswer h x [] (rootOperations s (m .memory .table))
     unfolding rootOperations
-    answer-kept x e =
-        let l : 1 ≤ times x (rootOperations s (m .memory .table)) = omega (arith, finished-stands x e) in
+    answer-kept x l =
         ap (queueAnswer (h ++ more) x []) (ap opsOf (order-grows s (m .memory) n sound sn later) ∙ ops-append (rootOrder s (m .memory .table)) _)
         ∙ answer-in (h ++ more) x [] (opsOf (rootOrder s (m .memory .table))) _ l
         ∙ answer-same (h ++ more) h x [] (opsOf (rootOrder s (m .memory .table))) (all-times (opsOf (rootOrder s (m .memory .table))) (λ y q. does-kept y h more (standing-opened y q)))
 
-    record-kept : (x : OpId) → isFinished x h ≡ true → queueRecord s (n .table) (h ++ more) x ≡ queueRecord s (m .memory .table) h x
-    unfolding queueRecord
-    record-kept x e =
-        λ i.
-        record {
-          process = x .process;
-          reply = answer-kept x e i;
-          steps = still x e i;
-          serial = x .serial;
-          block = root-block-grows s (m .memory) n sound sn later x (omega (arith, finished-stands x e)) i;
-        }
+    module _ (still : (x : OpId) → isFinished x h ≡ true → ownSteps x (h ++ more) ≡ ownSteps x h) where
+      record-kept : (x : OpId) → isFinished x h ≡ true → queueRecord s (n .table) (h ++ more) x ≡ queueRecord s (m .memory .table) h x
+      unfolding queueRecord
+      record-kept x e =
+          λ i.
+          record {
+            process = x .process;
+            reply = answer-kept x (omega (arith, finished-stands x e)) i;
+            steps = still x e i;
+            serial = x .serial;
+            block = root-block-grows s (m .memory) n sound sn later x (omega (arith, finished-stands x e)) i;
+          }
 
-    pub records-kept : map (queueRecord s (n .table) (h ++ more)) (finishing h) ≡ map (queueRecord s (m .memory .table) h) (finishing h)
-    records-kept =
-        map-same (queueRecord s (n .table) (h ++ more)) (queueRecord s (m .memory .table) h) (finishing h) (all-map (finishing h) record-kept (finishing-all h))
+      pub records-kept : map (queueRecord s (n .table) (h ++ more)) (finishing h) ≡ map (queueRecord s (m .memory .table) h) (finishing h)
+      records-kept =
+          map-same (queueRecord s (n .table) (h ++ more)) (queueRecord s (m .memory .table) h) (finishing h) (all-map (finishing h) record-kept (finishing-all h))

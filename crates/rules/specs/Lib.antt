@@ -9,5 +9,8 @@ pub mod History
 pub mod Demand3
 pub mod Linearizable
 pub mod Continuation
+pub mod StableReads
 pub mod All
 pub mod KnownRuns
+pub mod NotKept
+pub mod NotLinearizable
