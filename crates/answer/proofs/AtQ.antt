@@ -19,7 +19,7 @@ use Rattle.steps.specs.declared.Status.{Status}
 use Rattle.steps.specs.declared.Status.the-variants.{Busy}
 use Rattle.steps.specs.declared.Step.the-variants.{Q}
 use Rattle.steps.specs.declared.Process.{Process}
-use Rattle.steps.specs.Settled.{Settles}
+use Rattle.steps.specs.Contracts.Settled.{Settles}
 use Rattle.steps.proofs.Stages.{stageOf}
 use Rattle.steps.proofs.Progress.{Rooted, Way}
 use Rattle.steps.proofs.Invariant.{holding}
@@ -27,9 +27,9 @@ use Rattle.steps.proofs.Places.{processes-most}
 use Rattle.rules.specs.Refusals.{heightFor}
 use Rattle.rules.specs.Answer.{takeReply, replyOf, answerOf}
 use Rattle.search.specs.declared.Standing.{Standing}
-use Rattle.search.specs.Stands.{StandsAs, InBlock, OfKind, StandsAt}
-use Rattle.answer.specs.Playing.{machineOf, Plays}
-use Rattle.answer.specs.Answering.{recordOf, TakenAs}
+use Rattle.search.specs.Contracts.Stands.{StandsAs, InBlock, OfKind, StandsAt}
+use Rattle.answer.specs.Contracts.Playing.{machineOf, Plays}
+use Rattle.answer.specs.Contracts.Answering.{recordOf, TakenAs}
 use Rattle.answer.proofs.PlaysLaws.{steps-small}
 
 -- the height of the tree for so many processes

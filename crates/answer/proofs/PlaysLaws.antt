@@ -10,10 +10,10 @@ use Rattle.steps.specs.declared.Step.{Step}
 use Rattle.steps.specs.declared.Status.the-variants.{Busy}
 use Rattle.steps.specs.declared.Process.{Process}
 use Rattle.steps.specs.Machine.{isQ}
-use Rattle.steps.specs.Ready.{Ready}
+use Rattle.steps.specs.Contracts.Ready.{Ready}
 use Rattle.steps.proofs.Costs.{rest-first}
 use Rattle.steps.proofs.Readiness.{ready}
-use Rattle.answer.specs.Playing.{machineOf, Plays}
+use Rattle.answer.specs.Contracts.Playing.{machineOf, Plays}
 
 module _ (s : Shape) (ps : List Process) (starts heads table : List ℕ) (k : ℕ) (q : Process) (plays : Plays s ps starts heads table k q) where
   -- its own steps and the operations that it has begun are few

@@ -19,13 +19,13 @@ use Rattle.tree.specs.Memory.{Memory, block}
 use Rattle.tree.specs.Order.{total, lastRoot}
 use Rattle.tree.proofs.Sound.{totals-rise}
 use Rattle.tree.proofs.LastRoot.{node-root, root-sound, root-written}
-use Rattle.steps.specs.Ready.{HasPlace, nodeBlock}
+use Rattle.steps.specs.Contracts.Ready.{HasPlace, nodeBlock}
 use Rattle.steps.proofs.Places.{places-most}
 use Rattle.rules.specs.Answer.{margin, putNumber, valueOf, takeReply}
 use Rattle.rules.proofs.RootQueue.{size-within}
-use Rattle.search.specs.Numbered.{NumberedAs, ValueAt}
+use Rattle.search.specs.Contracts.Numbered.{NumberedAs, ValueAt}
 use Rattle.search.proofs.Words.{node-reads, written-place}
-use Rattle.answer.specs.Answering.{TakenAs}
+use Rattle.answer.specs.Contracts.Answering.{TakenAs}
 use Rattle.answer.proofs.Margins.{margin-below, by-below, by-rest}
 
 module _ {s : Shape} {heads starts table : List ℕ} {height b i : ℕ} (h : TakenAs s heads starts table height b i) where

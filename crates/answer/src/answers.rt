@@ -15,8 +15,8 @@ ghost use Rattle.steps.specs.declared.Process.{Process as Proc};
 ghost use Rattle.steps.specs.declared.Status.the-variants.{Busy};
 ghost use Rattle.steps.specs.declared.Step.the-variants.{Q};
 ghost use Rattle.rules.specs.Answer.{answerOf};
-ghost use Rattle.answer.specs.Playing.{machineOf, Plays, Playing};
-ghost use Rattle.answer.specs.Answering.{recordOf};
+ghost use Rattle.answer.specs.Contracts.Playing.{machineOf, Plays, Playing};
+ghost use Rattle.answer.specs.Contracts.Answering.{recordOf};
 
 // The answer record of process k, which is q, with a reply and a root block. Q is one more own step.
 fn answer(k: u32, q: Process, reply: Reply, block: u32) -> AnswerRecord

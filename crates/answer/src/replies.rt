@@ -8,7 +8,7 @@ ghost use mathlib.Core.List.{List};
 ghost use Prim.Native.Nat.{ℕ};
 ghost use Rattle.tree.specs.Shape.{Shape};
 ghost use Rattle.rules.specs.Answer.{takeReply};
-ghost use Rattle.answer.specs.Answering.{TakenAs, Taken};
+ghost use Rattle.answer.specs.Contracts.Answering.{TakenAs, Taken};
 
 // The reply of the i-th take of root block b. The root is node 1. Where the margin is not below 0, the put with that number is in the root blocks up to b.
 pub fn take_reply(table: &[u32], starts: &[usize; 17], height: usize, b: u32, i: u32) -> Reply

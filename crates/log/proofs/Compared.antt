@@ -16,7 +16,7 @@ use Rattle.rules.specs.declared.Verdict.{Verdict}
 use Rattle.rules.specs.declared.Verdict.the-variants.{Same, Differs}
 use Rattle.rules.specs.Refusals.{torn}
 use Rattle.rules.specs.CheckLog.{sameBytes, compared}
-use Rattle.log.specs.Leading.{leading, leadingOf, verdictOf}
+use Rattle.log.specs.Contracts.Leading.{leading, leadingOf, verdictOf}
 use Rattle.log.proofs.Cuts.{recordsOf, records-length}
 use Rattle.log.proofs.Counted.{counts}
 

@@ -14,7 +14,7 @@ use Rattle.base.proofs.Cases.{both}
 use Rattle.record.specs.declared.AnswerRecord.{AnswerRecord}
 use Rattle.record.specs.AnswerRecords.{answerSize, answerBytes}
 use Rattle.rules.specs.CheckLog.{sameBytes}
-use Rattle.log.specs.Leading.{leading, leadingOf, countAfter}
+use Rattle.log.specs.Contracts.Leading.{leading, leadingOf, countAfter}
 use Rattle.record.proofs.Cuts.{cut-at}
 use Rattle.log.proofs.Cuts.{recordsOf, records-length, no-record}
 

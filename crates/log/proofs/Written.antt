@@ -10,7 +10,7 @@ use borrow.Author.Tests.{le-leb, lt-leb}
 use Rattle.record.specs.declared.AnswerRecord.{AnswerRecord}
 use Rattle.record.specs.AnswerRecords.{answerSize, answerBytes, logBytes}
 use Rattle.record.proofs.Lengths.{answer-length, log-length}
-use Rattle.log.specs.Leading.{written, withAnswer}
+use Rattle.log.specs.Contracts.Leading.{written, withAnswer}
 
 -- with no answers the bytes are as they were
 pub written-none : (out : List ℕ) → written out [] ≡ out

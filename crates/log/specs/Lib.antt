@@ -1,1 +1,1 @@
-pub mod Leading
+pub mod Contracts

@@ -4,7 +4,7 @@ ghost use mathlib.Core.Path.{_≡_};
 ghost use Prim.Native.Nat.{_+_, _*_, _≤_, _<_};
 ghost use lib.ListN.{length, take, drop};
 ghost use Rattle.rules.specs.CheckLog.{sameBytes};
-ghost use Rattle.log.specs.Leading.{countAfter, verdictOf};
+ghost use Rattle.log.specs.Contracts.Leading.{countAfter, verdictOf};
 
 // Whether sixteen bytes are those from an index on.
 fn same_sixteen(bytes: &[u8], log: &[u8], at: usize) -> bool

@@ -2,7 +2,7 @@
 use record::AnswerRecord;
 ghost use mathlib.Core.Path.{_≡_};
 ghost use Prim.Native.Nat.{_+_, _*_, _<_};
-ghost use Rattle.log.specs.Leading.{withAnswer};
+ghost use Rattle.log.specs.Contracts.Leading.{withAnswer};
 
 // An answer written after n others. Where there are no answer bytes nothing is written: a call that only compares or lists has none.
 pub fn write_answer(out: &mut [u8], n: usize, a: AnswerRecord)

@@ -16,8 +16,8 @@ use Rattle.tree.specs.Order.{lastRoot}
 use Rattle.tree.proofs.Nodes.{Node, root-node}
 use Rattle.tree.proofs.Presence.{count, Present, Written, absent-count, present-count}
 use Rattle.tree.proofs.LastRoot.{root-sound, last-written, last-most, last-head, head-last}
-use Rattle.steps.specs.Ready.{HasPart, HasPlace, nodeBlock}
-use Rattle.steps.specs.Settled.{Settles}
+use Rattle.steps.specs.Contracts.Ready.{HasPart, HasPlace, nodeBlock}
+use Rattle.steps.specs.Contracts.Settled.{Settles}
 use Rattle.rules.specs.ListOrder.{orderList}
 use Rattle.order.proofs.Reading.{memory, node-head, node-part, node-reads, node-small, written-place}
 use Rattle.order.proofs.RootRecords.{list-count}

@@ -15,8 +15,8 @@ use Rattle.tree.proofs.Levels.{level-leaf}
 use Rattle.rules.specs.ListOrder.{kindNumber, orderRecord}
 use Rattle.order.specs.declared.Listing.{Listing}
 use Rattle.order.specs.declared.Subtree.{Subtree}
-use Rattle.order.specs.Opens.{leafAt, addsTo, BlockOf}
-use Rattle.order.specs.Listed.{Room, Lists, blockRecords}
+use Rattle.order.specs.Contracts.Opens.{leafAt, addsTo, BlockOf}
+use Rattle.order.specs.Contracts.Listed.{Room, Lists, blockRecords}
 use Rattle.order.proofs.Subblocks.{stands-low, stands-reads}
 
 -- a kind fits in a byte

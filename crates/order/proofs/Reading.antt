@@ -9,8 +9,8 @@ use Rattle.tree.specs.Memory.{Memory, block}
 use Rattle.tree.proofs.Nodes.{Node}
 use Rattle.tree.proofs.Presence.{count, Written}
 use Rattle.tree.proofs.Sound.{place-count}
-use Rattle.steps.specs.Ready.{HasPart, HasPlace, nodeBlock}
-use Rattle.steps.specs.Settled.{Settles}
+use Rattle.steps.specs.Contracts.Ready.{HasPart, HasPlace, nodeBlock}
+use Rattle.steps.specs.Contracts.Settled.{Settles}
 use Rattle.steps.proofs.Places.{processes-most, places-most, headed, has-part, has-place, reads, small}
 
 abbrev pub memory : List ℕ → List ℕ → Memory

@@ -20,8 +20,8 @@ use Rattle.tree.proofs.LastRoot.{root-sound, root-present, root-length}
 use Rattle.rules.specs.ListOrder.{orderRecord, orderList}
 use Rattle.order.specs.declared.Listing.{Listing}
 use Rattle.order.specs.declared.Subtree.{Subtree}
-use Rattle.order.specs.Opens.{BlockOf, RootOf}
-use Rattle.order.specs.Listed.{blockRecords, rootRecords, gathered}
+use Rattle.order.specs.Contracts.Opens.{BlockOf, RootOf}
+use Rattle.order.specs.Contracts.Listed.{blockRecords, rootRecords, gathered}
 use Rattle.order.proofs.Storing.{Parts}
 
 -- the list, root block by root block

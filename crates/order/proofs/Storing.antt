@@ -9,7 +9,7 @@ use lib.Seq.{sets, length-sets}
 use Rattle.base.proofs.Gather.{gather-none, gather-last, gather-split}
 use Rattle.record.proofs.Stores.{runs}
 use Rattle.tree.specs.Shape.{Shape}
-use Rattle.order.specs.Listed.{gathered, Room, Stored, Lists}
+use Rattle.order.specs.Contracts.Listed.{gathered, Room, Stored, Lists}
 
 -- ---- some bytes
 pub stored-none : (l : List ℕ) (at : ℕ) → Stored l at [] l at

@@ -17,12 +17,12 @@ use Rattle.tree.proofs.Nodes.{Node, Inner}
 use Rattle.tree.proofs.Presence.{Present}
 use Rattle.tree.proofs.Levels.{Level, level-child, level-inner}
 use Rattle.tree.proofs.Opening.{openedOn, opened-inner, subblocks-rise, subblock-present}
-use Rattle.steps.specs.Ready.{HasPlace, nodeBlock}
+use Rattle.steps.specs.Contracts.Ready.{HasPlace, nodeBlock}
 use Rattle.rules.specs.ListOrder.{orderRecord}
 use Rattle.order.specs.declared.Listing.{Listing}
 use Rattle.order.specs.declared.Subtree.{Subtree}
-use Rattle.order.specs.Opens.{Stands, BlockOf, RangeOf}
-use Rattle.order.specs.Listed.{blockRecords, gathered}
+use Rattle.order.specs.Contracts.Opens.{Stands, BlockOf, RangeOf}
+use Rattle.order.specs.Contracts.Listed.{blockRecords, gathered}
 use Rattle.order.proofs.Storing.{Parts}
 use Rattle.order.proofs.Reading.{memory, node-low, node-reads, written-small, written-place}
 

@@ -10,9 +10,9 @@ use lib.Seq.{sets, sets-eq}
 use Rattle.tree.specs.Shape.{Shape}
 use Rattle.tree.proofs.LastRoot.{root-present}
 use Rattle.rules.specs.ListOrder.{orderList}
-use Rattle.order.specs.Settled.{Listable}
-use Rattle.order.specs.Opens.{RootOf, TreeOf}
-use Rattle.order.specs.Listed.{rootRecords, gathered, Room, Lists}
+use Rattle.order.specs.Contracts.Settled.{Listable}
+use Rattle.order.specs.Contracts.Opens.{RootOf, TreeOf}
+use Rattle.order.specs.Contracts.Listed.{rootRecords, gathered, Room, Lists}
 use Rattle.order.proofs.RootRecords.{list-blocks}
 use Rattle.order.proofs.LastBlock.{last-counts}
 

@@ -1,3 +1,1 @@
-pub mod Settled
-pub mod Opens
-pub mod Listed
+pub mod Contracts

@@ -13,12 +13,12 @@ ghost use Prim.Native.Nat.{ℕ, _-_, _≤_};
 ghost use lib.ListN.{length, drop};
 ghost use Rattle.tree.specs.Shape.{Shape};
 ghost use Rattle.tree.specs.Order.{lastRoot};
-ghost use Rattle.steps.specs.Ready.{HasPlace};
-ghost use Rattle.steps.specs.Settled.{Settles};
+ghost use Rattle.steps.specs.Contracts.Ready.{HasPlace};
+ghost use Rattle.steps.specs.Contracts.Settled.{Settles};
 ghost use Rattle.rules.specs.ListOrder.{kindNumber, orderList};
-ghost use Rattle.order.specs.Settled.{Listable};
-ghost use Rattle.order.specs.Opens.{leafAt, addsTo, BlockOf, RangeOf, RootOf};
-ghost use Rattle.order.specs.Listed.{Room, Lists, blockRecords, rootRecords, gathered};
+ghost use Rattle.order.specs.Contracts.Settled.{Listable};
+ghost use Rattle.order.specs.Contracts.Opens.{leafAt, addsTo, BlockOf, RangeOf, RootOf};
+ghost use Rattle.order.specs.Contracts.Listed.{Room, Lists, blockRecords, rootRecords, gathered};
 
 // The number of a kind in an order record.
 fn kind_number(kind: Kind) -> u32

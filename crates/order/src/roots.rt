@@ -7,9 +7,9 @@ ghost use Prim.Native.Nat.{ℕ, _≤_};
 ghost use lib.ListN.{length};
 ghost use Rattle.tree.specs.Shape.{Shape};
 ghost use Rattle.tree.specs.Order.{lastRoot};
-ghost use Rattle.steps.specs.Settled.{Settles};
+ghost use Rattle.steps.specs.Contracts.Settled.{Settles};
 ghost use Rattle.rules.specs.ListOrder.{orderList};
-ghost use Rattle.order.specs.Settled.{Settled, Rooted};
+ghost use Rattle.order.specs.Contracts.Settled.{Settled, Rooted};
 
 // The last present root block, 0 if there is none. It stands at the root's head, where no process has raised the head past it yet, or else just before.
 pub fn last_root(heads: &[u32], table: &[u32], starts: &[usize; 17]) -> u32

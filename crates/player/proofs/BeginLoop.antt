@@ -17,9 +17,9 @@ use Rattle.rules.specs.declared.Refusal.the-variants.{IllFormed, BeginWhileBusy
 use Rattle.rules.specs.Refusals.{shapeFor}
 use Rattle.rules.specs.Run.{play}
 use Rattle.answer.proofs.PlaysLaws.{begun-small}
-use Rattle.answer.specs.Playing.{machineOf, Plays}
-use Rattle.player.specs.Turns.{Refused, Moved, opened, TurnOf}
-use Rattle.player.specs.Playing.{Leaves}
+use Rattle.answer.specs.Contracts.Playing.{machineOf, Plays}
+use Rattle.player.specs.Contracts.Turns.{Refused, Moved, opened, TurnOf}
+use Rattle.player.specs.Contracts.Playing.{Leaves}
 use Rattle.player.proofs.StepWords.{formed, step-words}
 use Rattle.player.proofs.TurnLaws.{refused-ill, refused-busy, refused-begun, turn-begins}
 use Rattle.player.proofs.Loop.{Loop, loop-narrow, loop-plays, loop-fits, loop-record, loop-refused, loop-moves}

@@ -16,7 +16,7 @@ use Rattle.steps.specs.declared.Step.{Step}
 use Rattle.steps.specs.declared.Status.the-variants.{Busy}
 use Rattle.steps.specs.declared.Process.{Process}
 use Rattle.steps.specs.Process.{idle}
-use Rattle.steps.specs.Ready.{Laid}
+use Rattle.steps.specs.Contracts.Ready.{Laid}
 use Rattle.steps.specs.Machine.{Machine, start, processOf, withProcess}
 use Rattle.steps.proofs.Invariant.{Invariant}
 use Rattle.rules.specs.declared.Refusal.{Refusal}
@@ -27,11 +27,11 @@ use Rattle.rules.specs.Run.{Played, atStart, refusing, play}
 use Rattle.rules.specs.History.{Event, operation, begins, does, history}
 use Rattle.rules.proofs.Agrees.{Doing}
 use Rattle.rules.proofs.Leaves.{IsBlockOf, LeavesAre}
-use Rattle.log.specs.Leading.{leadingOf, written}
-use Rattle.answer.specs.Playing.{machineOf, Plays}
+use Rattle.log.specs.Contracts.Leading.{leadingOf, written}
+use Rattle.answer.specs.Contracts.Playing.{machineOf, Plays}
 use Rattle.player.specs.declared.Outcome.{Outcome}
-use Rattle.player.specs.Turns.{Turn, Refused, Moved, Finished, rested, TurnOf}
-use Rattle.player.specs.Playing.{Leaves}
+use Rattle.player.specs.Contracts.Turns.{Turn, Refused, Moved, Finished, rested, TurnOf}
+use Rattle.player.specs.Contracts.Playing.{Leaves}
 use Rattle.player.proofs.PlayLaws.{PlayedAs, played-agrees, play-refused, play-moved, play-finished, play-over}
 
 -- after the first i records none is refused, and memory, processes, answer bytes and counts are what the run so far left

@@ -15,7 +15,7 @@ use Rattle.tree.specs.Layout.{wordsNeeded}
 use Rattle.steps.specs.declared.Operation.{Operation}
 use Rattle.steps.specs.declared.Process.{Process}
 use Rattle.steps.specs.Process.{idle}
-use Rattle.steps.specs.Ready.{Laid}
+use Rattle.steps.specs.Contracts.Ready.{Laid}
 use Rattle.steps.proofs.Places.{processes-most}
 use Rattle.steps.specs.Machine.{Machine, start}
 use Rattle.rules.specs.declared.Refusal.{Refusal}
@@ -23,12 +23,12 @@ use Rattle.rules.specs.declared.Refusal.the-variants.{None}
 use Rattle.rules.specs.Answer.{answerOf}
 use Rattle.rules.specs.Refusals.{shapeFor}
 use Rattle.rules.specs.Run.{atStart, play}
-use Rattle.log.specs.Leading.{leadingOf, written}
+use Rattle.log.specs.Contracts.Leading.{leadingOf, written}
 use Rattle.log.proofs.Counted.{leading-none}
 use Rattle.log.proofs.Written.{written-none}
-use Rattle.answer.specs.Playing.{machineOf, Plays}
-use Rattle.player.specs.Turns.{Refused, Moved, Finished, rested, TurnOf}
-use Rattle.player.specs.Playing.{Starts, Leaves}
+use Rattle.answer.specs.Contracts.Playing.{machineOf, Plays}
+use Rattle.player.specs.Contracts.Turns.{Refused, Moved, Finished, rested, TurnOf}
+use Rattle.player.specs.Contracts.Playing.{Starts, Leaves}
 use Rattle.player.proofs.Going.{Going, going-plays, going-ends, going-refused, going-moves, going-finishes}
 
 -- at record i of n: the run so far, in memory and answer bytes of the same lengths as at the start

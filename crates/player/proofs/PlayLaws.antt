@@ -24,7 +24,7 @@ use Rattle.rules.proofs.Agrees.{Agrees}
 use Rattle.rules.proofs.Legal.{answersAlong}
 use Rattle.rules.proofs.Played.{played-machine, played-legal, over-stays, play-append}
 use Rattle.rules.proofs.Runs.{runs}
-use Rattle.player.specs.Turns.{Refused, Moved, Finished, rested, TurnOf}
+use Rattle.player.specs.Contracts.Turns.{Refused, Moved, Finished, rested, TurnOf}
 
 -- what the records that a run took did agrees with the machine that it left
 abbrev pub PlayedAs : Shape → List StepRecord → Machine → Type 0

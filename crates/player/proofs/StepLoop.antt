@@ -18,21 +18,21 @@ use Rattle.steps.specs.declared.Status.the-variants.{Idle, Busy}
 use Rattle.steps.specs.declared.Process.{Process}
 use Rattle.steps.specs.Process.{idle}
 use Rattle.steps.specs.Rules.{step, go}
-use Rattle.steps.specs.Ready.{Begins, Ready}
-use Rattle.steps.specs.Next.{Placed, Fits, FitsLeaf, operationIn, stepIn, moved, Moves}
+use Rattle.steps.specs.Contracts.Ready.{Begins, Ready}
+use Rattle.steps.specs.Contracts.Next.{Placed, Fits, FitsLeaf, operationIn, stepIn, moved, Moves}
 use Rattle.steps.proofs.NodeReads.{begins}
 use Rattle.steps.specs.Machine.{isIdle, isQ}
 use Rattle.rules.specs.declared.Refusal.the-variants.{StepWhileIdle, AnswersFull}
 use Rattle.rules.specs.Answer.{answerOf}
 use Rattle.rules.specs.Refusals.{shapeFor}
 use Rattle.rules.specs.Run.{play}
-use Rattle.log.specs.Leading.{withAnswer, countAfter}
+use Rattle.log.specs.Contracts.Leading.{withAnswer, countAfter}
 use Rattle.log.proofs.Counted.{count-after}
 use Rattle.log.proofs.Written.{written-after}
 use Rattle.answer.proofs.PlaysLaws.{plays-ready}
-use Rattle.answer.specs.Playing.{machineOf, Plays, Playing}
-use Rattle.player.specs.Turns.{rested}
-use Rattle.player.specs.Playing.{Leaves}
+use Rattle.answer.specs.Contracts.Playing.{machineOf, Plays, Playing}
+use Rattle.player.specs.Contracts.Turns.{rested}
+use Rattle.player.specs.Contracts.Playing.{Leaves}
 use Rattle.player.proofs.StepWords.{stepOf, step-formed, words-step}
 use Rattle.player.proofs.StepTurns.{idle-turn, full-turn, last-turn, next-turn}
 use Rattle.player.proofs.Loop.{Loop, loop-narrow, loop-laid, loop-spare, loop-plays, loop-fits, loop-record, loop-refused, loop-moves, loop-finishes}

@@ -14,9 +14,9 @@ use Rattle.steps.specs.declared.Process.{Process}
 use Rattle.steps.specs.Rules.{step, go}
 use Rattle.steps.specs.Machine.{Machine, processOf, isIdle, isQ}
 use Rattle.rules.specs.declared.Refusal.the-variants.{StepWhileIdle, AnswersFull}
-use Rattle.answer.specs.Playing.{machineOf, Plays}
-use Rattle.player.specs.Turns.{Refused, Moved, Finished, TurnOf}
-use Rattle.steps.specs.Next.{moved}
+use Rattle.answer.specs.Contracts.Playing.{machineOf, Plays}
+use Rattle.player.specs.Contracts.Turns.{Refused, Moved, Finished, TurnOf}
+use Rattle.steps.specs.Contracts.Next.{moved}
 use Rattle.player.proofs.TurnLaws.{refused-idle, refused-full, turn-finishes, turn-moves}
 
 module _ (s : Shape) (room : ℕ) (ps : List Process) (starts heads table : List ℕ) (r : StepRecord) (q : Process) (plays : Plays s ps starts heads table (r .process) q)

@@ -23,8 +23,8 @@ use Rattle.rules.specs.Refusals.{refusalNumber, accepted, beginsWhileBusy, step
 use Rattle.rules.specs.Run.{takeRecord, recordAnswers}
 use Rattle.rules.proofs.Legal.{not-step, not-begin}
 use Rattle.steps.proofs.Inside.{is-q}
-use Rattle.player.specs.Turns.{Refused, Moved, Finished, opened, rested, TurnOf}
-use Rattle.steps.specs.Next.{moved}
+use Rattle.player.specs.Contracts.Turns.{Refused, Moved, Finished, opened, rested, TurnOf}
+use Rattle.steps.specs.Contracts.Next.{moved}
 
 -- an ill-formed record is refused before its process is looked at
 pub refused-ill : (s : Shape) (room : ℕ) (m : Machine) (r : StepRecord) → illFormed (processes s) r ≡ true → TurnOf s room m r (m .memory) (Refused IllFormed)

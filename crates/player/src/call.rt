@@ -14,7 +14,7 @@ ghost use Rattle.record.specs.StepRecords.{stepRecords};
 ghost use Rattle.tree.specs.Layout.{wordsNeeded};
 ghost use Rattle.rules.specs.Refusals.{shapeFor};
 ghost use Rattle.rules.specs.Run.{play as played};
-ghost use Rattle.player.specs.Playing.{Callable, Leaves};
+ghost use Rattle.player.specs.Contracts.Playing.{Callable, Leaves};
 
 // Plays the records of a call with p and l, which are allowed, and a table that is long enough. Table words past those needed stay.
 pub fn play_call(

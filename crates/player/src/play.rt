@@ -32,7 +32,7 @@ ghost use Rattle.record.specs.StepRecords.{stepRecords};
 ghost use Rattle.tree.specs.Shape.{processes};
 ghost use Rattle.rules.specs.Refusals.{shapeFor};
 ghost use Rattle.rules.specs.Run.{play as played};
-ghost use Rattle.player.specs.Playing.{Starts, Leaves};
+ghost use Rattle.player.specs.Contracts.Playing.{Starts, Leaves};
 
 // What the loop comes to.
 fn ended(refusal: Refusal, taken: usize, answers: usize, equal: usize) -> Outcome

@@ -9,7 +9,7 @@ ghost use mathlib.Core.Path.{_≡_};
 ghost use Prim.Native.Nat.{_<_};
 ghost use Rattle.steps.specs.Machine.{isIdle};
 ghost use Rattle.rules.specs.Run.{operationOf};
-ghost use Rattle.player.specs.Turns.{opened as openedOf, rested as restedOf};
+ghost use Rattle.player.specs.Contracts.Turns.{opened as openedOf, rested as restedOf};
 
 // The operation that a begin record opens.
 fn operation_of(r: StepRecord) -> Operation

@@ -4,7 +4,7 @@ use crate::line::put_line;
 use crate::read::answer_record;
 ghost use Prim.Native.Nat.{_+_, _*_, _≤_};
 ghost use lib.ListN.{length};
-ghost use Rattle.order.specs.Listed.{Stored};
+ghost use Rattle.order.specs.Contracts.Listed.{Stored};
 ghost use Rattle.print.specs.Printed.{answerLines, printed};
 
 // One line an answer. A line has at most 48 bytes.

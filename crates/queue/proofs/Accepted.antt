@@ -11,7 +11,7 @@ use Rattle.steps.proofs.Places.{processes-most}
 use Rattle.rules.specs.Refusals.{accepted, shapeFor, callRefusal}
 use Rattle.rules.proofs.CallAccepted.{accepted-processes, accepted-operations, accepted-enough}
 use Rattle.refusals.proofs.Limits.{allowed-most, allowed-width, short-for}
-use Rattle.player.specs.Playing.{Callable}
+use Rattle.player.specs.Contracts.Playing.{Callable}
 
 module _ (p l words bytes : ℕ) (ok : accepted (callRefusal p l words bytes) ≡ true) where
   pub accepted-narrow : p ≤ 8

@@ -20,10 +20,10 @@ use Rattle.rules.specs.LogVerdict.{Judges}
 use Rattle.rules.proofs.LogVerdict.{check-judges}
 use Rattle.rules.proofs.Played.{played-room}
 use Rattle.rules.proofs.CallAccepted.{accepted-whole, check-call, check-whole}
-use Rattle.log.specs.Leading.{verdictOf}
+use Rattle.log.specs.Contracts.Leading.{verdictOf}
 use Rattle.log.proofs.Compared.{verdict-compared}
 use Rattle.player.specs.declared.Outcome.{Outcome}
-use Rattle.player.specs.Playing.{Leaves}
+use Rattle.player.specs.Contracts.Playing.{Leaves}
 use Rattle.queue.specs.Left.{checkLeft}
 use Rattle.queue.proofs.PlayAll.{plays-all, table-left}
 

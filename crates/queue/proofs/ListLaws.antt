@@ -11,7 +11,7 @@ use Rattle.tree.specs.Layout.{partStart, wordsNeeded}
 use Rattle.tree.specs.Memory.{Memory}
 use Rattle.tree.proofs.Writes.{Sized}
 use Rattle.tree.proofs.Sound.{Sound}
-use Rattle.steps.specs.Settled.{Settles}
+use Rattle.steps.specs.Contracts.Settled.{Settles}
 use Rattle.steps.proofs.Invariant.{Invariant}
 use Rattle.rules.specs.declared.Refusal.{Refusal}
 use Rattle.rules.specs.declared.Refusal.the-variants.{None, OutputShort}
@@ -22,12 +22,12 @@ use Rattle.rules.proofs.CallAccepted.{accepted-whole, accepted-processes, accep
 use Rattle.rules.proofs.Theorem.{tall-for}
 use Rattle.refusals.proofs.Limits.{allowed-most, short-for}
 use Rattle.player.specs.declared.Outcome.{Outcome}
-use Rattle.player.specs.Playing.{Leaves}
+use Rattle.player.specs.Contracts.Playing.{Leaves}
 use Rattle.player.proofs.PlayLaws.{played-agrees}
 use Rattle.player.proofs.Calls.{laid-for}
 use Rattle.queue.specs.declared.Listed.{Listed}
 use Rattle.queue.specs.Left.{listLeft}
-use Rattle.queue.specs.Listing.{Listing, listFrom}
+use Rattle.queue.specs.Contracts.Listing.{Listing, listFrom}
 use Rattle.queue.proofs.PlayAll.{plays-all, table-left}
 
 -- ---- the list of a played table

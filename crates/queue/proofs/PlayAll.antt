@@ -14,7 +14,7 @@ use Rattle.rules.specs.Run.{Played, play}
 use Rattle.rules.specs.ListOrder.{playAll}
 use Rattle.rules.proofs.CallAccepted.{whole-records}
 use Rattle.player.specs.declared.Outcome.{Outcome}
-use Rattle.player.specs.Playing.{Leaves}
+use Rattle.player.specs.Contracts.Playing.{Leaves}
 
 module _ (s : Shape) (records : List ℕ) (whole : torn stepSize (length records) ≡ false) where
   -- 16 bytes for each 8

@@ -17,7 +17,7 @@ use Rattle.superblocks.specs.Supers.{SupersNear, RunSupers}
 use Rattle.superblocks.proofs.RunSupers.{supers-run}
 use Rattle.log.proofs.Written.{written-fits}
 use Rattle.player.specs.declared.Outcome.{Outcome}
-use Rattle.player.specs.Playing.{Leaves}
+use Rattle.player.specs.Contracts.Playing.{Leaves}
 use Rattle.queue.specs.Left.{runLeft}
 use Rattle.queue.proofs.PlayAll.{table-left}
 

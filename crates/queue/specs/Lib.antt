@@ -1,3 +1,3 @@
 pub mod Left
-pub mod Listing
+pub mod Contracts
 pub mod Exported

@@ -17,7 +17,7 @@ ghost use Prim.Native.Nat.{ℕ};
 ghost use Rattle.rules.specs.Refusals.{shapeFor};
 ghost use Rattle.rules.specs.ListOrder.{listOrder};
 ghost use Rattle.queue.specs.Left.{listLeft};
-ghost use Rattle.queue.specs.Listing.{Listing, listFrom};
+ghost use Rattle.queue.specs.Contracts.Listing.{Listing, listFrom};
 
 // The list of the root order that a played table has, written to the output if it is not longer than that.
 fn write_list(p: u32, l: u32, heads: &[u32], table: &[u32], output: &mut [u8]) -> Listed

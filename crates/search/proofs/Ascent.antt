@@ -17,10 +17,10 @@ use Rattle.tree.proofs.Ancestors.{ancestor, sideAt, child-at, ancestor-node, an
 use Rattle.tree.proofs.OpenedBetween.{ancestor-level}
 use Rattle.tree.proofs.Climb.{endTowards, climb-step}
 use Rattle.tree.proofs.Rank.{times-step}
-use Rattle.steps.specs.Ready.{HasPlace, nodePart}
-use Rattle.steps.specs.Settled.{Settles}
-use Rattle.search.specs.Searched.{Reaches, First}
-use Rattle.search.specs.Climbing.{Ascends, FirstAbove, Beside, besideOf}
+use Rattle.steps.specs.Contracts.Ready.{HasPlace, nodePart}
+use Rattle.steps.specs.Contracts.Settled.{Settles}
+use Rattle.search.specs.Contracts.Searched.{Reaches, First}
+use Rattle.search.specs.Contracts.Climbing.{Ascends, FirstAbove, Beside, besideOf}
 use Rattle.search.proofs.Holding.{CountsAs, HoldsAs}
 use Rattle.search.proofs.Words.{wordOf, side-cases, side-word, part-fits, node-part, node-headed, written-place, end-word}
 use Rattle.search.proofs.ChildReads.{end-place, end-total}

@@ -11,8 +11,8 @@ use Rattle.tree.proofs.Nodes.{Inner, inner-node, child-node}
 use Rattle.tree.proofs.Presence.{Written}
 use Rattle.tree.proofs.Sound.{below-head, end-below}
 use Rattle.tree.proofs.SideTotals.{endTotal}
-use Rattle.steps.specs.Ready.{HasPlace, nodeBlock}
-use Rattle.steps.specs.Settled.{Settles}
+use Rattle.steps.specs.Contracts.Ready.{HasPlace, nodeBlock}
+use Rattle.steps.specs.Contracts.Settled.{Settles}
 use Rattle.search.proofs.Words.{node-reads, written-place}
 
 module _ (s : Shape) (starts heads table : List ℕ) (sets : Settles s starts heads table) (v : ℕ) (inner : Inner s v) (d : Side) (a : ℕ) where

@@ -11,10 +11,10 @@ use Rattle.tree.specs.Memory.{block}
 use Rattle.tree.specs.Order.{total}
 use Rattle.tree.proofs.Presence.{count}
 use Rattle.tree.proofs.Ancestors.{ancestor, ancestor-node, root-height, not-root}
-use Rattle.steps.specs.Ready.{HasPlace, nodeBlock}
+use Rattle.steps.specs.Contracts.Ready.{HasPlace, nodeBlock}
 use Rattle.steps.proofs.Places.{places-most}
-use Rattle.search.specs.Stands.{InBlock, StandsAt}
-use Rattle.search.specs.Climbing.{Ascends, FirstAbove, Beside, besideOf}
+use Rattle.search.specs.Contracts.Stands.{InBlock, StandsAt}
+use Rattle.search.specs.Contracts.Climbing.{Ascends, FirstAbove, Beside, besideOf}
 use Rattle.search.proofs.Holding.{CountsAs, HoldsAs, Reached, Counted, OfEach}
 use Rattle.search.proofs.Ascent.{Above, ascends, above}
 use Rattle.search.proofs.RootStands.{root-place, root-block, root-low, root-stands}

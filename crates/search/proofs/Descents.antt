@@ -22,12 +22,12 @@ use Rattle.tree.proofs.Levels.{Level, level-child, level-inner}
 use Rattle.tree.proofs.Opening.{openedOn}
 use Rattle.tree.proofs.SideTotals.{childTotal, endTotal}
 use Rattle.tree.proofs.Find.{find-left, find-right, find-on}
-use Rattle.steps.specs.Ready.{HasPart, nodePart, nodeBlock}
-use Rattle.steps.specs.Settled.{Settles}
+use Rattle.steps.specs.Contracts.Ready.{HasPart, nodePart, nodeBlock}
+use Rattle.steps.specs.Contracts.Settled.{Settles}
 use Rattle.steps.proofs.Places.{processes-most, small}
 use Rattle.search.specs.declared.find.Descent.{Descent}
-use Rattle.search.specs.Searched.{Reaches, First}
-use Rattle.search.specs.Descending.{FindsAs, FoundIn, Descends, descentOf}
+use Rattle.search.specs.Contracts.Searched.{Reaches, First}
+use Rattle.search.specs.Contracts.Descending.{FindsAs, FoundIn, Descends, descentOf}
 use Rattle.search.proofs.Words.{node-reads, written-place}
 use Rattle.search.proofs.ChildReads.{end-written, end-place, end-total}
 use Rattle.search.proofs.NumbersUp.{besideTotal, child-rises, ends-total, sum-before, sum-here}

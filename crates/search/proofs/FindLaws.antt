@@ -16,11 +16,11 @@ use Rattle.tree.proofs.Levels.{level-root, level-leaf}
 use Rattle.tree.proofs.Opening.{at-most-one}
 use Rattle.tree.proofs.LastRoot.{root-written}
 use Rattle.tree.proofs.Find.{find-leaf, find-root}
-use Rattle.steps.specs.Ready.{HasPart, HasPlace, nodePart, nodeBlock}
+use Rattle.steps.specs.Contracts.Ready.{HasPart, HasPlace, nodePart, nodeBlock}
 use Rattle.search.specs.declared.find.Descent.{Descent}
-use Rattle.search.specs.Searched.{Reaches, First}
-use Rattle.search.specs.Numbered.{NumberedAs, ValueAt}
-use Rattle.search.specs.Descending.{FindsAs, FoundIn, Descends, descentOf}
+use Rattle.search.specs.Contracts.Searched.{Reaches, First}
+use Rattle.search.specs.Contracts.Numbered.{NumberedAs, ValueAt}
+use Rattle.search.specs.Contracts.Descending.{FindsAs, FoundIn, Descends, descentOf}
 use Rattle.search.proofs.Words.{node-reads, written-place}
 use Rattle.search.proofs.PutSearch.{level-node, search-ready, search-finds}
 use Rattle.search.proofs.Descents.{descends, lower, lower-ready, lower-finds, lower-found}

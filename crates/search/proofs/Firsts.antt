@@ -5,7 +5,7 @@ use native.Mathlib.Decide.{ℕ-discrete}
 use mathlib.Core.Path.{_≡_}
 use mathlib.Core.List.{List}
 use Rattle.tree.specs.Blocks.{wordIn}
-use Rattle.search.specs.Searched.{Reaches, First}
+use Rattle.search.specs.Contracts.Searched.{Reaches, First}
 
 module _ (part : List ℕ) (word last x : ℕ) (h : Reaches part word last x) where
   -- place 0 does not reach x, and the last does

@@ -10,7 +10,7 @@ use Rattle.tree.specs.Order.{total, opened}
 use Rattle.tree.specs.Standing.{times, rankIn}
 use Rattle.tree.proofs.Ancestors.{ancestor}
 use Rattle.tree.proofs.Reach.{reach}
-use Rattle.search.specs.Stands.{StandsAs, Stands, OfKind}
+use Rattle.search.specs.Contracts.Stands.{StandsAs, Stands, OfKind}
 
 -- Of the operations of kind κ in a node's blocks from place 1 on, `number` says how many stand up to operation i of process k, which is in block `place` of the node of height
 -- j above k's leaf. If the operation is of another kind, the number is within the block's all the same.

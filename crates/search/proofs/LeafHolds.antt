@@ -17,9 +17,9 @@ use Rattle.tree.proofs.LastRoot.{root-sound}
 use Rattle.tree.proofs.Reached.{reached-low}
 use Rattle.tree.proofs.Climb.{climb-leaf}
 use Rattle.tree.proofs.Rank.{rank-leaf, times-leaf}
-use Rattle.steps.specs.Ready.{HasPlace, nodeBlock}
-use Rattle.steps.specs.Settled.{Settles}
-use Rattle.search.specs.Stands.{StandsAs}
+use Rattle.steps.specs.Contracts.Ready.{HasPlace, nodeBlock}
+use Rattle.steps.specs.Contracts.Settled.{Settles}
+use Rattle.search.specs.Contracts.Stands.{StandsAs}
 use Rattle.search.proofs.Holding.{CountsAs, Reached, Counted}
 use Rattle.search.proofs.Words.{node-reads, written-place}
 

@@ -12,10 +12,10 @@ use Rattle.tree.proofs.Nodes.{Node, inner-node, leaf-node}
 use Rattle.tree.proofs.Presence.{Written}
 use Rattle.tree.proofs.Sound.{written-low, below-head, first-zeros, zero-total, totals-rise}
 use Rattle.tree.proofs.Levels.{Level, level-inner, level-leaf}
-use Rattle.steps.specs.Ready.{HasPart, nodePart}
-use Rattle.steps.specs.Settled.{Settles}
-use Rattle.search.specs.Searched.{Reaches, First}
-use Rattle.search.specs.Descending.{FindsAs}
+use Rattle.steps.specs.Contracts.Ready.{HasPart, nodePart}
+use Rattle.steps.specs.Contracts.Settled.{Settles}
+use Rattle.search.specs.Contracts.Searched.{Reaches, First}
+use Rattle.search.specs.Contracts.Descending.{FindsAs}
 use Rattle.search.proofs.Words.{part-fits, node-part, written-place, puts-word}
 
 pub level-node : (s : Shape) (h v : ℕ) → Level s h v → Node s v

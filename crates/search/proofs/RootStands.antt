@@ -15,9 +15,9 @@ use Rattle.tree.proofs.Ancestors.{ancestor}
 use Rattle.tree.proofs.LastRoot.{node-root, root-sound, last-most}
 use Rattle.tree.proofs.Reached.{ancestor-top}
 use Rattle.tree.proofs.Climb.{climb-root}
-use Rattle.steps.specs.Ready.{HasPlace, nodeBlock}
-use Rattle.steps.specs.Settled.{Settles}
-use Rattle.search.specs.Stands.{InBlock, StandsAt}
+use Rattle.steps.specs.Contracts.Ready.{HasPlace, nodeBlock}
+use Rattle.steps.specs.Contracts.Settled.{Settles}
+use Rattle.search.specs.Contracts.Stands.{InBlock, StandsAt}
 use Rattle.search.proofs.Holding.{CountsAs, HoldsAs}
 use Rattle.search.proofs.Words.{node-reads, written-place}
 

@@ -15,8 +15,8 @@ use Rattle.tree.specs.Sides.{Side, onLeft, onRight, endOf}
 use Rattle.tree.proofs.Nodes.{Node, sideOf}
 use Rattle.tree.proofs.Presence.{Written}
 use Rattle.tree.proofs.Sound.{place-count}
-use Rattle.steps.specs.Ready.{HasPart, HasPlace, nodePart, nodeBlock}
-use Rattle.steps.specs.Settled.{Settles}
+use Rattle.steps.specs.Contracts.Ready.{HasPart, HasPlace, nodePart, nodeBlock}
+use Rattle.steps.specs.Contracts.Settled.{Settles}
 use Rattle.steps.proofs.Places.{headed, has-part, has-place, reads}
 
 -- the word of a block that has its end on a side

@@ -1,5 +1,1 @@
-pub mod Searched
-pub mod Stands
-pub mod Climbing
-pub mod Numbered
-pub mod Descending
+pub mod Contracts

@@ -8,8 +8,8 @@ ghost use mathlib.Core.Path.{_≡_};
 ghost use Prim.Native.Nat.{ℕ};
 ghost use Rattle.tree.specs.declared.Kind.the-variants.{Takes};
 ghost use Rattle.tree.specs.Shape.{Shape};
-ghost use Rattle.search.specs.Stands.{StandsAs, Stands, InBlock, StandsAt};
-ghost use Rattle.search.specs.Climbing.{Ascends, FirstAbove, Beside, besideOf};
+ghost use Rattle.search.specs.Contracts.Stands.{StandsAs, Stands, InBlock, StandsAt};
+ghost use Rattle.search.specs.Contracts.Climbing.{Ascends, FirstAbove, Beside, besideOf};
 
 // The block of v's parent that holds v's block `place`: the first whose end towards v reaches it. The superblock word of v's block is a guess only: the parent's head may
 // have been raised after it was read.

@@ -5,8 +5,8 @@ ghost use mathlib.Core.Path.{_≡_};
 ghost use mathlib.Core.List.{List};
 ghost use Prim.Native.Nat.{ℕ};
 ghost use Rattle.tree.specs.Shape.{Shape};
-ghost use Rattle.search.specs.Numbered.{NumberedAs, Numbered, ValueAt};
-ghost use Rattle.search.specs.Descending.{FindsAs, Finds, FoundIn, Descends, descentOf};
+ghost use Rattle.search.specs.Contracts.Numbered.{NumberedAs, Numbered, ValueAt};
+ghost use Rattle.search.specs.Contracts.Descending.{FindsAs, Finds, FoundIn, Descends, descentOf};
 
 // A put in a child: the child, the last place there that can have it, and its number there.
 struct Descent {

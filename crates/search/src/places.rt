@@ -6,8 +6,8 @@ ghost use mathlib.Core.Path.{_≡_};
 ghost use mathlib.Core.Bool.{true};
 ghost use Prim.Native.Nat.{_+_, _*_, _≤_, _<_};
 ghost use lib.ListN.{length};
-ghost use Rattle.steps.specs.Ready.{HasPart, nodePart};
-ghost use Rattle.search.specs.Searched.{Reaches, First};
+ghost use Rattle.steps.specs.Contracts.Ready.{HasPart, nodePart};
+ghost use Rattle.search.specs.Contracts.Searched.{Reaches, First};
 
 // Whether place i is the first that reaches x: the one before it does not. Only these two places are looked at.
 fn is_first(part: &[u32], word: usize, last: usize, x: u32, i: usize) -> bool

@@ -8,7 +8,7 @@ use Rattle.tree.specs.declared.Block.{Block}
 use Rattle.tree.specs.Shape.{Shape}
 use Rattle.tree.specs.Blocks.{blockAt, withBlockAt}
 use Rattle.tree.proofs.NodeParts.{node-block-at, node-write-at}
-use Rattle.steps.specs.Ready.{Begins, Laid, nodePart, nodeBlock, withNodeBlock}
+use Rattle.steps.specs.Contracts.Ready.{Begins, Laid, nodePart, nodeBlock, withNodeBlock}
 
 -- a block that was read by the starts
 pub node-read : (s : Shape) (starts t : List ℕ) (v i : ℕ) → Begins s starts v → nodeBlock starts t v i ≡ blockAt s t v i

@@ -15,7 +15,7 @@ use Rattle.tree.proofs.Heights.{height-most}
 use Rattle.tree.proofs.LayoutSums.{product-most}
 use Rattle.tree.proofs.NodeParts.{node-within, place-within}
 use Rattle.tree.proofs.Sound.{Sound, below-head, place-count}
-use Rattle.steps.specs.Ready.{Begins, Laid, HasPart, HasPlace, nodeBlock}
+use Rattle.steps.specs.Contracts.Ready.{Begins, Laid, HasPart, HasPlace, nodeBlock}
 use Rattle.steps.proofs.NodeReads.{node-read, begins}
 
 module _ (s : Shape) (tall : s .height ≤ 3) (few : s .most ≤ 500) where

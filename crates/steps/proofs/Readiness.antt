@@ -29,7 +29,7 @@ use Rattle.steps.specs.declared.Status.{Status}
 use Rattle.steps.specs.declared.Status.the-variants.{Busy}
 use Rattle.steps.specs.Rules.{blockOf}
 use Rattle.steps.specs.Machine.{Machine, processOf, isQ}
-use Rattle.steps.specs.Ready.{Laid, HasPart, HasPlace, nodeBlock, Children, Adds, Builds, Ready}
+use Rattle.steps.specs.Contracts.Ready.{Laid, HasPart, HasPlace, nodeBlock, Children, Adds, Builds, Ready}
 use Rattle.steps.proofs.Places.{processes-most, places-most, headed as node-headed, has-part as node-part, has-place as node-place, reads as node-reads, small as node-small, below as place-below, present as place-present}
 use Rattle.steps.proofs.Stages.{Stage, stage, stageOf, made}
 use Rattle.steps.proofs.Progress.{LeafOpen, EndOk, HandOk, OwnLeaf, Way}

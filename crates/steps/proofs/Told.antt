@@ -12,7 +12,7 @@ use Rattle.steps.specs.declared.Step.{Step}
 use Rattle.steps.specs.declared.Status.{Status}
 use Rattle.steps.specs.declared.Status.the-variants.{Idle, Busy}
 use Rattle.steps.specs.Machine.{isIdle}
-use Rattle.steps.specs.Next.{stepIn}
+use Rattle.steps.specs.Contracts.Next.{stepIn}
 use Rattle.steps.proofs.Step as steps
 
 -- the number of a step's name, in the order of the declaration

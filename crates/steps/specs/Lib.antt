@@ -2,6 +2,4 @@ pub mod Process
 pub mod Rules
 pub mod Machine
 pub mod All
-pub mod Ready
-pub mod Next
-pub mod Settled
+pub mod Contracts

@@ -30,8 +30,8 @@ ghost use Rattle.tree.specs.Shape.{Shape, leafOf};
 ghost use Rattle.tree.specs.Memory.{Memory};
 ghost use Rattle.steps.specs.Rules.{above as aboveOf, resume as resumeOf, advance as advanceOf, sameTotals, step, go};
 ghost use Rattle.steps.specs.Machine.{isIdle};
-ghost use Rattle.steps.specs.Next.{operationIn, stepIn, Moves, NextByTable, Fits, FitsLeaf};
-ghost use Rattle.steps.specs.Ready.{Begins, HasPart, HasPlace, Adds, Builds};
+ghost use Rattle.steps.specs.Contracts.Next.{operationIn, stepIn, Moves, NextByTable, Fits, FitsLeaf};
+ghost use Rattle.steps.specs.Contracts.Ready.{Begins, HasPart, HasPlace, Adds, Builds};
 
 // A: the operation's block at the head of its own leaf, where no other process writes.
 pub fn step_a(

@@ -12,8 +12,8 @@ ghost use mathlib.Core.List.{[]};
 ghost use Prim.Native.Nat.{ℕ, _+_, _*_, _/_, _≤_, _<_};
 ghost use lib.ListN.{length, getD};
 ghost use Rattle.tree.specs.Memory.{raise as raiseOf};
-ghost use Rattle.steps.specs.Next.{stepIn, NextByHeads};
-ghost use Rattle.steps.specs.Ready.{Children};
+ghost use Rattle.steps.specs.Contracts.Next.{stepIn, NextByHeads};
+ghost use Rattle.steps.specs.Contracts.Ready.{Children};
 
 // A register as an index. Every index goes through here, so that no other place has a cast to prove.
 pub fn wide(x: u32) -> usize

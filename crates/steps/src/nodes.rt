@@ -9,7 +9,7 @@ ghost use lib.ListN.{getD};
 ghost use Rattle.base.specs.Choice.{if_then_else_};
 ghost use Rattle.tree.specs.Blocks.{wordIn, absent as absentOf};
 ghost use Rattle.tree.specs.Memory.{withSuper};
-ghost use Rattle.steps.specs.Ready.{HasPart, HasPlace, nodePart, nodeBlock, withNodeBlock};
+ghost use Rattle.steps.specs.Contracts.Ready.{HasPart, HasPlace, nodePart, nodeBlock, withNodeBlock};
 
 // Where node v's part begins, which is where that of the node before it ends.
 pub fn start_of(starts: &[usize; 17], v: u32) -> usize

@@ -7,7 +7,7 @@ ghost use mathlib.Core.Bool.{false};
 ghost use mathlib.Core.Path.{_≡_};
 ghost use Prim.Native.Nat.{_<_};
 ghost use Rattle.steps.specs.Machine.{isIdle};
-ghost use Rattle.steps.specs.Next.{operationIn, stepIn, moved as movedOf};
+ghost use Rattle.steps.specs.Contracts.Next.{operationIn, stepIn, moved as movedOf};
 
 // The operation that a busy process is inside of.
 pub fn operation_in(q: Process) -> Operation

@@ -12,7 +12,7 @@ use Rattle.record.specs.declared.AnswerRecord.{AnswerRecord}
 use Rattle.record.specs.AnswerRecords.{answerSize, answerBytes}
 use Rattle.record.proofs.Lengths.{answer-length}
 use Rattle.rules.specs.CheckLog.{sameBytes}
-use Rattle.log.specs.Leading.{countAfter}
+use Rattle.log.specs.Contracts.Leading.{countAfter}
 use Rattle.log.proofs.Cuts.{no-record}
 use Rattle.log.proofs.compare.equal_after.Statement.{statement}
 use Rattle.log.proofs.compare.equal_after.Tie as tie

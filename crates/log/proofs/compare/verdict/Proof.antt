@@ -2,7 +2,7 @@
 use borrow.Author.Needs.{needs}
 use borrow.Author.Tests.{eq-eqb, ne-eqb}
 use Rattle.record.specs.AnswerRecords.{answerSize}
-use Rattle.log.specs.Leading.{verdictOf}
+use Rattle.log.specs.Contracts.Leading.{verdictOf}
 use Rattle.log.proofs.compare.verdict.Statement.{statement}
 use Rattle.log.proofs.compare.verdict.Tie as tie
 

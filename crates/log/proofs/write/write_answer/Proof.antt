@@ -2,7 +2,7 @@
 use borrow.Author.Needs.{needs}
 use borrow.Author.Tests.{le-leb, lt-leb}
 use Rattle.record.specs.AnswerRecords.{answerSize}
-use Rattle.log.specs.Leading.{withAnswer}
+use Rattle.log.specs.Contracts.Leading.{withAnswer}
 use Rattle.log.proofs.write.write_answer.Statement.{statement}
 use Rattle.log.proofs.write.write_answer.Tie as tie
 

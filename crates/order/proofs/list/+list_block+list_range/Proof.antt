@@ -9,8 +9,8 @@ use borrow.Fn.Kinds.{In}
 use borrow.Fn.PlainCycle.{Measures, is, falls, and}
 use Rattle.tree.specs.Shape.{leftOf, rightOf}
 use Rattle.order.specs.declared.Subtree.{Subtree}
-use Rattle.order.specs.Opens.{RangeOf}
-use Rattle.order.specs.Listed.{Lists, blockRecords, gathered}
+use Rattle.order.specs.Contracts.Opens.{RangeOf}
+use Rattle.order.specs.Contracts.Listed.{Lists, blockRecords, gathered}
 use Rattle.order.proofs.Storing.{stored-none, room-first, room-second, lists-both, gathered-none, gathered-room, gathered-more}
 use Rattle.order.proofs.Subblocks.{stands-low, block-first, block-place, range-block, block-parts}
 use Rattle.order.proofs.LeafRecords.{leaf-room, leaf-lists}

@@ -4,8 +4,8 @@ use native.Mathlib.Omega.{arith}
 use mathlib.Core.Path.{_≡_, refl}
 use lib.ListN.{length}
 use borrow.Author.Needs.{needs}
-use Rattle.order.specs.Opens.{TreeOf}
-use Rattle.order.specs.Listed.{rootRecords, gathered, Lists}
+use Rattle.order.specs.Contracts.Opens.{TreeOf}
+use Rattle.order.specs.Contracts.Listed.{rootRecords, gathered, Lists}
 use Rattle.order.proofs.Storing.{stored-none, gathered-none, gathered-room, gathered-more}
 use Rattle.order.proofs.WholeList.{tree-root, tree-room, tree-stored}
 use Rattle.order.proofs.list.write_order.Statement.{statement}

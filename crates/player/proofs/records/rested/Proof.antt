@@ -1,6 +1,6 @@
 -- `records::rested` meets its contract. Assumes nothing.
 use mathlib.Core.Path.{refl}
-use Rattle.player.specs.Turns.{rested}
+use Rattle.player.specs.Contracts.Turns.{rested}
 use borrow.Author.Needs.{needs}
 use Rattle.player.proofs.records.rested.Statement.{statement}
 use Rattle.player.proofs.records.rested.Tie as tie

@@ -1,7 +1,7 @@
 -- `climb::beside` meets its contract. Assumes nothing.
 use borrow.Author.Tests.{eq-eqb, ne-eqb}
 use Rattle.tree.specs.Order.{total}
-use Rattle.search.specs.Climbing.{besideOf}
+use Rattle.search.specs.Contracts.Climbing.{besideOf}
 use borrow.Author.Needs.{needs}
 use Rattle.search.proofs.climb.beside.Statement.{statement}
 use Rattle.search.proofs.climb.beside.Tie as tie

@@ -1,7 +1,7 @@
 -- `find::descend` meets its contract. Assumes nothing.
 use native.Mathlib.Omega.{arith}
 use borrow.Author.Tests.{le-leb, lt-leb}
-use Rattle.search.specs.Descending.{descentOf}
+use Rattle.search.specs.Contracts.Descending.{descentOf}
 use borrow.Author.Needs.{needs}
 use Rattle.search.proofs.find.descend.Statement.{statement}
 use Rattle.search.proofs.find.descend.Tie as tie

@@ -3,7 +3,7 @@ use mathlib.Core.Path.{refl, sym, _∙_, subst}
 use Rattle.tree.specs.Shape.{leftOf, rightOf}
 use Rattle.tree.specs.Memory.{block}
 use Rattle.steps.specs.Rules.{built, step, go}
-use Rattle.steps.specs.Next.{Placed}
+use Rattle.steps.specs.Contracts.Next.{Placed}
 use Rattle.steps.proofs.NodeReads.{node-read}
 use Rattle.steps.proofs.Told.{other, busy}
 use borrow.Author.Needs.{needs}

@@ -1,7 +1,7 @@
 -- `nodes::absent_at` meets its contract. Assumes nothing.
 use borrow.Author.Tests.{eq-eqb, ne-eqb}
 use Rattle.tree.specs.Blocks.{blockIn, absent}
-use Rattle.steps.specs.Ready.{nodeBlock}
+use Rattle.steps.specs.Contracts.Ready.{nodeBlock}
 use borrow.Author.Needs.{needs}
 use Rattle.steps.proofs.nodes.absent_at.Statement.{statement}
 use Rattle.steps.proofs.nodes.absent_at.Tie as tie

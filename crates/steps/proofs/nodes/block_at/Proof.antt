@@ -1,5 +1,5 @@
 -- `nodes::block_at` meets its contract. Assumes nothing.
-use Rattle.steps.specs.Ready.{nodePart, nodeBlock}
+use Rattle.steps.specs.Contracts.Ready.{nodePart, nodeBlock}
 use borrow.Author.Needs.{needs}
 use Rattle.steps.proofs.nodes.block_at.Statement.{statement}
 use Rattle.steps.proofs.nodes.block_at.Tie as tie

@@ -1,5 +1,5 @@
 -- `nodes::set_super_at` meets its contract. Assumes nothing.
-use Rattle.steps.specs.Ready.{nodePart, nodeBlock, withNodeBlock}
+use Rattle.steps.specs.Contracts.Ready.{nodePart, nodeBlock, withNodeBlock}
 use borrow.Author.Needs.{needs}
 use Rattle.steps.proofs.nodes.set_super_at.Statement.{statement}
 use Rattle.steps.proofs.nodes.set_super_at.Tie as tie

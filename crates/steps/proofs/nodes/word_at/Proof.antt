@@ -1,7 +1,7 @@
 -- `nodes::word_at` meets its contract. Assumes nothing.
 use Rattle.tree.specs.Layout.{blockWords}
 use Rattle.tree.specs.Blocks.{wordIn}
-use Rattle.steps.specs.Ready.{nodePart}
+use Rattle.steps.specs.Contracts.Ready.{nodePart}
 use borrow.Author.Needs.{needs}
 use Rattle.steps.proofs.nodes.word_at.Statement.{statement}
 use Rattle.steps.proofs.nodes.word_at.Tie as tie

@@ -1,5 +1,5 @@
 -- `nodes::write_at` meets its contract. Assumes nothing.
-use Rattle.steps.specs.Ready.{nodePart, withNodeBlock}
+use Rattle.steps.specs.Contracts.Ready.{nodePart, withNodeBlock}
 use borrow.Author.Needs.{needs}
 use Rattle.steps.proofs.nodes.write_at.Statement.{statement}
 use Rattle.steps.proofs.nodes.write_at.Tie as tie

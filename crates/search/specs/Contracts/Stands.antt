@@ -9,7 +9,7 @@ use Rattle.tree.specs.Memory.{Memory, headOf}
 use Rattle.tree.specs.Order.{total, inRoot, lastRoot}
 use Rattle.tree.specs.Standing.{rootBlockOf, rankIn}
 use Rattle.tree.proofs.Reach.{reach}
-use Rattle.steps.specs.Settled.{Settles}
+use Rattle.steps.specs.Contracts.Settled.{Settles}
 use Rattle.search.specs.declared.Standing.{Standing}
 
 -- in a tree of shape s, the root blocks below the root's head hold operation `serial` of process k, whose leaf is `leaf`

@@ -6,7 +6,7 @@ use lib.ListN.{getD}
 use Rattle.tree.specs.Shape.{Shape, root, leafOf}
 use Rattle.tree.specs.Blocks.{blockAt}
 use Rattle.tree.specs.Order.{OpId, lastRoot, rootPuts}
-use Rattle.steps.specs.Settled.{Settles}
+use Rattle.steps.specs.Contracts.Settled.{Settles}
 
 -- in a tree of shape s and the height given, put number n, from 1 in root order, is in the root blocks up to `last`, which is present
 pub record NumberedAs (s : Shape) (heads starts table : List ℕ) (height last n : ℕ) : Type 0 where

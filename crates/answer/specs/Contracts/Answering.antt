@@ -7,7 +7,7 @@ use Rattle.record.specs.declared.AnswerRecord.{AnswerRecord}
 use Rattle.tree.specs.Shape.{Shape}
 use Rattle.tree.specs.Order.{lastRoot}
 use Rattle.steps.specs.declared.Process.{Process}
-use Rattle.steps.specs.Settled.{Settles}
+use Rattle.steps.specs.Contracts.Settled.{Settles}
 
 -- the answer record of process k, which is q before its step Q
 abbrev pub recordOf : ℕ → Process → Reply → ℕ → AnswerRecord

@@ -7,11 +7,11 @@ use mathlib.Core.List.{List}
 use lib.ListN.{length, replicate}
 use Rattle.tree.specs.Shape.{Shape, processes}
 use Rattle.tree.specs.Layout.{wordsNeeded}
-use Rattle.steps.specs.Ready.{Laid}
+use Rattle.steps.specs.Contracts.Ready.{Laid}
 use Rattle.steps.specs.Process.{processesAllowed, operationsAllowed}
 use Rattle.rules.specs.Refusals.{shapeFor}
 use Rattle.rules.specs.Run.{Played}
-use Rattle.log.specs.Leading.{leadingOf, written}
+use Rattle.log.specs.Contracts.Leading.{leadingOf, written}
 use Rattle.player.specs.declared.Outcome.{Outcome}
 
 -- the memory is that of the start, of a tree of shape s whose parts begin at the starts, and there are `room` answer bytes or none

@@ -10,7 +10,7 @@ use Rattle.steps.specs.declared.Step.{Step}
 use Rattle.steps.specs.declared.Status.the-variants.{Busy}
 use Rattle.steps.specs.declared.Process.{Process}
 use Rattle.steps.specs.Machine.{Machine, processOf}
-use Rattle.steps.specs.Ready.{Laid}
+use Rattle.steps.specs.Contracts.Ready.{Laid}
 use Rattle.steps.proofs.Invariant.{Invariant}
 use Rattle.rules.proofs.Leaves.{IsBlockOf}
 

@@ -4,7 +4,7 @@ use mathlib.Core.List.{List}
 use Rattle.tree.specs.Shape.{Shape}
 use Rattle.tree.proofs.Writes.{Sized}
 use Rattle.tree.proofs.Sound.{Sound}
-use Rattle.steps.specs.Ready.{Laid}
+use Rattle.steps.specs.Contracts.Ready.{Laid}
 
 -- a table and heads are a sound memory of a tree of shape s, with at most 8 processes and at most 500 operations of each, whose parts begin at the starts
 pub record Settles (s : Shape) (starts heads table : List ℕ) : Type 0 where

@@ -9,8 +9,8 @@ use Rattle.tree.specs.Shape.{Shape, processes, root}
 use Rattle.tree.specs.Order.{total, lastRoot}
 use Rattle.tree.proofs.Presence.{Present}
 use Rattle.tree.proofs.Levels.{Level}
-use Rattle.steps.specs.Ready.{nodeBlock}
-use Rattle.steps.specs.Settled.{Settles}
+use Rattle.steps.specs.Contracts.Ready.{nodeBlock}
+use Rattle.steps.specs.Contracts.Settled.{Settles}
 use Rattle.order.specs.declared.Listing.{Listing}
 use Rattle.order.specs.declared.Subtree.{Subtree}
 

@@ -9,10 +9,10 @@ use Rattle.tree.specs.Shape.{Shape}
 use Rattle.tree.specs.Blocks.{blockAt}
 use Rattle.tree.specs.Order.{OpId, opened}
 use Rattle.tree.proofs.Levels.{Level}
-use Rattle.steps.specs.Ready.{HasPlace, nodeBlock}
-use Rattle.steps.specs.Settled.{Settles}
+use Rattle.steps.specs.Contracts.Ready.{HasPlace, nodeBlock}
+use Rattle.steps.specs.Contracts.Settled.{Settles}
 use Rattle.search.specs.declared.find.Descent.{Descent}
-use Rattle.search.specs.Numbered.{HasValue}
+use Rattle.search.specs.Contracts.Numbered.{HasValue}
 
 -- put number n of node v, counted from 1 over the node's blocks from place 1 on, is in block b of v, a node of height h
 pub record FindsAs (s : Shape) (heads starts table : List ℕ) (h v b n : ℕ) : Type 0 where

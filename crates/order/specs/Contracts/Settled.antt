@@ -5,7 +5,7 @@ use mathlib.Core.List.{List}
 use lib.ListN.{length}
 use Rattle.tree.specs.Shape.{Shape}
 use Rattle.tree.specs.Order.{lastRoot}
-use Rattle.steps.specs.Settled.{Settles}
+use Rattle.steps.specs.Contracts.Settled.{Settles}
 use Rattle.rules.specs.ListOrder.{orderList}
 
 -- a table and heads are a sound memory of some shape

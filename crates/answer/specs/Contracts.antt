@@ -1,0 +1,3 @@
+-- Definitions that only contracts between the crates cite: no exported promise rests on them.
+pub mod Playing
+pub mod Answering

@@ -1,0 +1,2 @@
+-- Definitions that only contracts between the crates cite: no exported promise rests on them.
+pub mod Leading
