@@ -1,4 +1,4 @@
--- A run of some records and one more, by what that one does. Used by proofs; no promise cites it.
+-- A run of some records and one more, by what that one does. Used by proofs; no exported promise rests on it.
 use Prim.Native.Nat.{ℕ, suc, _+_, _*_, _-_, _≤_, _<_}
 use native.Mathlib.Omega.{arith}
 use mathlib.Core.Path.{_≡_, refl, ap, sym, _∙_, subst}

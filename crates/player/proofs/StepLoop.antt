@@ -1,4 +1,4 @@
--- A step record in the loop of `play`: what each step needs and leaves. Used by proofs; no promise cites it.
+-- A step record in the loop of `play`: what each step needs and leaves. Used by proofs; no exported promise rests on it.
 use Prim.Native.Nat.{ℕ, _+_, _*_, _-_, _≤_, _<_}
 use native.Mathlib.Omega.{arith}
 use mathlib.Core.Path.{_≡_, refl, ap, sym, _∙_, subst}

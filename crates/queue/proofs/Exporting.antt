@@ -1,4 +1,4 @@
--- What the exported calls return, from what the calls return. Used by proofs; no promise cites it.
+-- What the exported calls return, from what the calls return. Used by proofs; no exported promise rests on it.
 use Prim.Native.Nat.{ℕ}
 use mathlib.Core.Path.{_≡_, ap, _∙_, subst}
 use mathlib.Core.List.{List}

@@ -12,7 +12,8 @@ ghost use Rattle.search.specs.Contracts.Searched.{Reaches, First};
 // Whether place i is the first that reaches x: the one before it does not. Only these two places are looked at.
 fn is_first(part: &[u32], word: usize, last: usize, x: u32, i: usize) -> bool
     requires { ⌜ (word < 6) × (6 * last + 6 ≤ length (now part)) ⌝ }
-    ensures { λ r. ⌜ (r ≡ true → First (now (part .entry)) word last x i) ⌝ }
+    ensures is { λ r. ⌜ (r ≡ true → First (now (part .entry)) word last x i) ⌝ }
+    ensures only { λ r. ⌜ (First (now (part .entry)) word last x i → r ≡ true) ⌝ }
 {
     if i == 0 {
         return false;

@@ -1,4 +1,4 @@
--- What an answer record is made of, and what the reply of a take needs. Used by private contracts only.
+-- What an answer record is made of, and what the reply of a take needs.
 use Prim.Native.Nat.{ℕ, _+_, _≤_}
 use mathlib.Core.Path.{_≡_}
 use mathlib.Core.List.{List}

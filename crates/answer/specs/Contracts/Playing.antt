@@ -1,4 +1,4 @@
--- A process of a machine that is being played: what its next step needs. Used by private requires only.
+-- A process of a machine that is being played: what its next step needs.
 use Prim.Native.Nat.{ℕ, _-_, _≤_, _<_}
 use mathlib.Core.Path.{_≡_}
 use mathlib.Core.List.{List}

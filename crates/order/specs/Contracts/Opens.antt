@@ -1,4 +1,4 @@
--- What opening a block, some blocks of a node, or a root block needs: that they are present in a sound memory. Used by contracts of private functions only.
+-- What opening a block, some blocks of a node, or a root block needs: that they are present in a sound memory.
 use Prim.Native.Nat.{ℕ, suc, _-_, _≤_, _<_}
 use mathlib.Core.Path.{_≡_}
 use mathlib.Core.List.{List}

@@ -1,4 +1,4 @@
--- What reading the root order off a table needs: that it is the table of a sound memory. Used by private requires only.
+-- What reading the root order off a table needs: that it is the table of a sound memory.
 use Prim.Native.Nat.{ℕ, _≤_}
 use mathlib.Core.Path.{_≡_}
 use mathlib.Core.List.{List}

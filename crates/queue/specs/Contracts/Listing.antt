@@ -1,4 +1,4 @@
--- Listing the root order of a table that was played: what it needs, and what it leaves. Used by private contracts only.
+-- Listing the root order of a table that was played: what it needs, and what it leaves.
 use Prim.Native.Nat.{ℕ}
 use mathlib.Core.Path.{_≡_}
 use mathlib.Core.Bool.{true}

@@ -1,4 +1,4 @@
--- What one level of the climb from a leaf to the root needs: used by private requires only.
+-- What one level of the climb from a leaf to the root needs.
 use Prim.Native.Nat.{ℕ, _+_, _-_, _/_, _%_, _≤_, _<_}
 use mathlib.Core.Path.{_≡_}
 use mathlib.Core.List.{List}

@@ -1,4 +1,4 @@
--- What finding a put by its number needs on the way from the root to its leaf: used by private requires only.
+-- What finding a put by its number needs on the way from the root to its leaf.
 use Prim.Native.Nat.{ℕ, _+_, _*_, _-_, _≤_, _<_}
 use mathlib.Core.List.{List}
 use lib.ListN.{getD}

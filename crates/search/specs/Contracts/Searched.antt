@@ -1,4 +1,4 @@
--- Search of a part for the first place whose word reaches a number: used by private requires only.
+-- Search of a part for the first place whose word reaches a number.
 use Prim.Native.Nat.{ℕ, _+_, _*_, _-_, _≤_, _<_}
 use mathlib.Core.List.{List}
 use lib.ListN.{length}

@@ -1,4 +1,4 @@
--- What a step needs of the memory to be played safely: used by private requires only.
+-- What a step needs of the memory to be played safely.
 use Prim.Native.Nat.{ℕ, _+_, _*_, _-_, _/_, _≤_, _<_}
 use mathlib.Core.Path.{_≡_}
 use mathlib.Core.List.{List, _++_}

@@ -1,4 +1,4 @@
--- What reading a memory needs: that it is sound, and that its parts begin at the starts. Used by private requires only.
+-- What reading a memory needs: that it is sound, and that its parts begin at the starts.
 use Prim.Native.Nat.{ℕ, _≤_}
 use mathlib.Core.List.{List}
 use Rattle.tree.specs.Shape.{Shape}

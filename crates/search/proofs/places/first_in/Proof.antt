@@ -11,7 +11,7 @@ is-first-requires : tie.Need-is-first-requires
 is-first-requires c κs = search needs
 
 returns : tie.Need-returns
-returns c = c .before .is-first .ensures (c .if1 .taken)
+returns c = c .before .is-first .ensures .0 (c .if1 .taken)
 
 add-is-first : tie.Need-add-is-first
 add-is-first c = search needs
@@ -23,7 +23,7 @@ add-result : tie.Need-add-result
 add-result c = search needs
 
 returns-2 : tie.Need-returns-2
-returns-2 c = c .before .is-first2 .ensures (c .if2 .taken)
+returns-2 c = c .before .is-first2 .ensures .0 (c .if2 .taken)
 
 first-reaching-requires : tie.Need-first-reaching-requires
 first-reaching-requires c κs =

@@ -1,7 +1,7 @@
 -- `places::is_first` meets its contract. Assumes nothing.
 use native.Mathlib.Omega.{arith}
 use mathlib.Core.Bool.{false≢true}
-use borrow.Author.Tests.{ltb-true}
+use borrow.Author.Tests.{ltb-true, lt-ltb}
 use Rattle.tree.specs.Layout.{blockWords}
 use Rattle.tree.specs.Blocks.{wordIn}
 use borrow.Author.Needs.{needs}
@@ -9,10 +9,10 @@ use Rattle.search.proofs.places.is_first.Statement.{statement}
 use Rattle.search.proofs.places.is_first.Tie as tie
 
 returns : tie.Need-returns
-returns c = λ e. absurd (false≢true e)
+returns c = (λ e. absurd (false≢true e), λ f. absurd (omega (arith, f .some)))
 
 returns-2 : tie.Need-returns-2
-returns-2 c = λ e. absurd (false≢true e)
+returns-2 c = (λ e. absurd (false≢true e), λ f. absurd (omega (arith, f .most)))
 
 mul-if3 : tie.Need-mul-if3
 mul-if3 c = search needs
@@ -27,7 +27,8 @@ shared-slice-read-if3 : tie.Need-shared-slice-read-if3
 shared-slice-read-if3 c = search needs
 
 returns-3 : tie.Need-returns-3
-returns-3 c = λ e. absurd (false≢true e)
+unfolding wordIn blockWords
+returns-3 c = (λ e. absurd (false≢true e), λ f. absurd (omega (arith, f .upto)))
 
 sub-result : tie.Need-sub-result
 sub-result c = search needs
@@ -46,7 +47,7 @@ shared-slice-read-result c = search needs
 
 returns-4 : tie.Need-returns-4
 unfolding wordIn blockWords
-returns-4 c = λ e. record { some = omega arith; most = omega arith; past = ltb-true _ _ e; upto = c .before .if3 .left }
+returns-4 c = (λ e. record { some = omega arith; most = omega arith; past = ltb-true _ _ e; upto = c .before .if3 .left }, λ f. lt-ltb _ _ (f .past))
 
 pub is-first-spec : {M : Type 1} → statement M
 is-first-spec =
