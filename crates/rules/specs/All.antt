@@ -7,11 +7,12 @@ use Rattle.rules.specs.Refusals.{refusalNumber, accepted, heightFor, sha
 use Rattle.rules.specs.Run.{operationOf, takeRecord, recordAnswers, atStart, taking, refusing, playRecord, play, runTurnedDown, runPlayed, run}
 use Rattle.rules.specs.ListOrder.{kindNumber, orderRecord, orderList, playAll, listRefusal, listed, listPlayed, listOrder}
 use Rattle.rules.specs.CheckLog.{sameBytes, compared, checkRefusal, verdictNumber, verdictIndex, verdictRefusal, checked, verdictOn, checkPlayed, checkLog}
+use Rattle.rules.specs.LogVerdict.{logOfRules, recordAt}
 use Rattle.rules.specs.PlainQueue.{fed, answers}
 use Rattle.rules.specs.History.{machineAfter, doesQ, begins, operation, event, eventsAfter, history, isOpening, isOwnStep, isFinish, isOpened, isFinished, finishedBefore, ownSteps, does}
 use Rattle.rules.specs.Demand3.{queueAfter, queueAnswer, queueRecord, finishing, stepLimit}
 use Rattle.rules.specs.Linearizable.{response, precedes}
 
 unfoldable pub rules : Unit {0}
-unfolding records trees stepRules margin putNumber valueOf byMargin takeReply replyOf answerOf answersFrom answersOf refusalNumber accepted heightFor shapeFor torn callRefusal beginsWhileBusy stepsWhileIdle beginsAfterAll finishesWithoutRoom recordRefusal operationOf takeRecord recordAnswers atStart taking refusing playRecord play runTurnedDown runPlayed run kindNumber orderRecord orderList playAll listRefusal listed listPlayed listOrder sameBytes compared checkRefusal verdictNumber verdictIndex verdictRefusal checked verdictOn checkPlayed checkLog fed answers machineAfter doesQ begins operation event eventsAfter history isOpening isOwnStep isFinish isOpened isFinished finishedBefore ownSteps does queueAfter queueAnswer queueRecord finishing stepLimit response precedes
+unfolding records trees stepRules margin putNumber valueOf byMargin takeReply replyOf answerOf answersFrom answersOf refusalNumber accepted heightFor shapeFor torn callRefusal beginsWhileBusy stepsWhileIdle beginsAfterAll finishesWithoutRoom recordRefusal operationOf takeRecord recordAnswers atStart taking refusing playRecord play runTurnedDown runPlayed run kindNumber orderRecord orderList playAll listRefusal listed listPlayed listOrder sameBytes compared checkRefusal verdictNumber verdictIndex verdictRefusal checked verdictOn checkPlayed checkLog logOfRules recordAt fed answers machineAfter doesQ begins operation event eventsAfter history isOpening isOwnStep isFinish isOpened isFinished finishedBefore ownSteps does queueAfter queueAnswer queueRecord finishing stepLimit response precedes
 rules = tt

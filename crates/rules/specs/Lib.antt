@@ -12,5 +12,6 @@ pub mod Continuation
 pub mod StableReads
 pub mod All
 pub mod KnownRuns
+pub mod NotJudged
 pub mod NotKept
 pub mod NotLinearizable
