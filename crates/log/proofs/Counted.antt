@@ -1,5 +1,5 @@
 -- The equal records at the beginning of two logs, when one of them gets more records: what `countAfter` says of one more.
-use Prim.Native.Nat.{ℕ, suc, _+_, _*_, _/_, _≤_, _<_, zero-le}
+use Prim.Native.Nat.{ℕ, suc, _+_, _*_, _/_, _≤_, _<_}
 use native.Mathlib.Nat.{suc-add}
 use native.Mathlib.Omega.{arith}
 use mathlib.Core.Bool.{Bool, true, false, _&&_}
@@ -10,7 +10,6 @@ use lib.Seq.{drop-cons}
 use lib.Dec.{leb, eqb}
 use borrow.Author.Tests.{leb-true, leb-false, eqb-true, eqb-false}
 use Rattle.base.specs.Choice.{if_then_else_}
-use Rattle.base.proofs.Cases.{both}
 use Rattle.record.specs.declared.AnswerRecord.{AnswerRecord}
 use Rattle.record.specs.AnswerRecords.{answerSize, answerBytes}
 use Rattle.rules.specs.CheckLog.{sameBytes}

@@ -1,7 +1,7 @@
 -- A call that is not turned down plays its records from the start. Used by proofs; no exported promise rests on it.
 use Prim.Native.Nat.{ℕ, _+_, _*_, _≤_}
 use native.Mathlib.Omega.{arith}
-use mathlib.Core.Path.{_≡_, refl, ap, sym, _∙_, subst}
+use mathlib.Core.Path.{_≡_, ap, sym, _∙_, subst}
 use mathlib.Core.List.{List, _++_}
 use lib.ListN.{length, take, drop, getD, replicate, length-replicate}
 use lib.Seq.{take-at, drop-at}
@@ -9,11 +9,9 @@ use Rattle.tree.specs.Shape.{Shape, processes}
 use Rattle.tree.specs.Layout.{partStart, wordsNeeded}
 use Rattle.steps.specs.Contracts.Ready.{Laid}
 use Rattle.rules.specs.Refusals.{heightFor, shapeFor}
-use Rattle.rules.specs.Run.{Played}
 use Rattle.rules.proofs.Theorem.{tall-for}
 use Rattle.refusals.proofs.Limits.{allowed-most, allowed-width, shape-is, needed-for, short-for}
-use Rattle.player.specs.declared.Outcome.{Outcome}
-use Rattle.player.specs.Contracts.Playing.{Callable, Starts, Leaves}
+use Rattle.player.specs.Contracts.Playing.{Callable, Starts}
 
 -- the starts that are worked out are those of the tree for p processes of at most l operations
 pub laid-for : (p l h w : ℕ) → h ≡ heightFor p → w ≡ l → (firsts heads : List ℕ)

@@ -2,9 +2,8 @@
 use Prim.Native.Nat.{ℕ, zero, suc, _+_, _*_, _-_, _≤_, _<_}
 use native.Mathlib.Omega.{arith}
 use mathlib.Core.Path.{_≡_, refl, ap, sym, _∙_, subst}
-use mathlib.Core.Bool.{true, false}
 use mathlib.Core.List.{List, [], _∷_, _++_}
-use lib.ListN.{length, take, drop, getD, set, replicate, length-set, length-append}
+use lib.ListN.{length, take, getD, set, length-set, length-append}
 use lib.Seq.{take-suc, take-set-lt, getD-take, take-length}
 use Rattle.record.specs.declared.StepRecord.{StepRecord}
 use Rattle.record.specs.declared.AnswerRecord.{AnswerRecord}
@@ -17,19 +16,17 @@ use Rattle.steps.specs.declared.Status.the-variants.{Busy}
 use Rattle.steps.specs.declared.Process.{Process}
 use Rattle.steps.specs.Process.{idle}
 use Rattle.steps.specs.Contracts.Ready.{Laid}
-use Rattle.steps.specs.Machine.{Machine, start, processOf, withProcess}
-use Rattle.steps.proofs.Invariant.{Invariant}
+use Rattle.steps.specs.Machine.{Machine, processOf, withProcess}
 use Rattle.rules.specs.declared.Refusal.{Refusal}
 use Rattle.rules.specs.declared.Refusal.the-variants.{None}
 use Rattle.rules.specs.Answer.{answerOf}
-use Rattle.rules.specs.Refusals.{refusalNumber, accepted}
-use Rattle.rules.specs.Run.{Played, atStart, refusing, play}
+use Rattle.rules.specs.Refusals.{accepted}
+use Rattle.rules.specs.Run.{Played, refusing, play}
 use Rattle.rules.specs.History.{Event, operation, begins, does, history}
 use Rattle.rules.proofs.Agrees.{Doing}
 use Rattle.rules.proofs.Leaves.{IsBlockOf, LeavesAre}
 use Rattle.log.specs.Contracts.Leading.{leadingOf, written}
 use Rattle.answer.specs.Contracts.Playing.{machineOf, Plays}
-use Rattle.player.specs.declared.Outcome.{Outcome}
 use Rattle.player.specs.Contracts.Turns.{Turn, Refused, Moved, Finished, rested, TurnOf}
 use Rattle.player.specs.Contracts.Playing.{Leaves}
 use Rattle.player.proofs.PlayLaws.{PlayedAs, played-agrees, play-refused, play-moved, play-finished, play-over}

@@ -1,8 +1,8 @@
 -- What one record does, by the status of the process that it names. Used by proofs; no exported promise rests on it.
-use Prim.Native.Nat.{ℕ, _+_, _≤_, _<_}
+use Prim.Native.Nat.{ℕ, _≤_, _<_}
 use mathlib.Core.Path.{_≡_, refl, ap, _∙_}
 use mathlib.Core.Bool.{true, false, not, _&&_}
-use mathlib.Core.List.{[], _∷_}
+use mathlib.Core.List.{[]}
 use lib.Dec.{ltb}
 use borrow.Author.Tests.{lt-ltb, le-ltb, le-leb, lt-leb}
 use Rattle.base.specs.Choice.{if_then_else_}

@@ -11,8 +11,6 @@ use Rattle.rules.specs.LogVerdict.{Judges}
 use Rattle.rules.proofs.LogVerdict.{check-judges}
 use Rattle.queue.specs.declared.Ran.{Ran}
 use Rattle.queue.specs.declared.Listed.{Listed}
-use Rattle.queue.specs.declared.OtqRun.{OtqRun}
-use Rattle.queue.specs.declared.OtqList.{OtqList}
 use Rattle.queue.specs.declared.OtqCheck.{OtqCheck}
 use Rattle.queue.specs.Left.{runLeft, listLeft}
 use Rattle.queue.specs.Exported.{RunExport, ListExport, CheckExport}

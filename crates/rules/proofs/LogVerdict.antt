@@ -1,15 +1,15 @@
 -- The verdict of check a log tells exactly whether a log is that of the rules, and if not, at which record they first differ.
 use Prim.Native.Nat.{ℕ, zero, suc, _+_, _*_, _/_, _%_, _≤_, _<_}
 use native.Mathlib.Omega.{arith}
-use native.Mathlib.Nat.{add-zero, zero-add, mul-zero}
-use mathlib.Core.Bool.{Bool, true, false}
+use native.Mathlib.Nat.{add-zero, zero-add}
+use mathlib.Core.Bool.{true, false}
 use mathlib.Core.Logic.{_⊎_, inl, inr}
 use mathlib.Core.Path.{_≡_, refl, ap, sym, _∙_, subst}
 use mathlib.Core.List.{List, [], _∷_, _++_, map, flatMap}
 use lib.ListN.{length, take, drop, take-append-drop, length-append, length-drop}
 use lib.Seq.{take-at, take-append-add, drop-append-add, length-take-le}
 use lib.Dec.{eqb}
-use borrow.Author.Tests.{eqb-true, eq-eqb, not-false}
+use borrow.Author.Tests.{eqb-true, not-false}
 use Rattle.base.specs.Choice.{if_then_else_}
 use Rattle.base.proofs.Cases.{cases, contradiction}
 use Rattle.record.specs.declared.AnswerRecord.{AnswerRecord}
@@ -21,7 +21,7 @@ use Rattle.record.proofs.Numbers.{inner-part}
 use Rattle.rules.specs.declared.Refusal.{Refusal}
 use Rattle.rules.specs.declared.Verdict.{Verdict}
 use Rattle.rules.specs.declared.Verdict.the-variants.{Same, Differs, Refused}
-use Rattle.rules.specs.Refusals.{refusalNumber, accepted, shapeFor, torn}
+use Rattle.rules.specs.Refusals.{accepted, shapeFor, torn}
 use Rattle.rules.specs.Run.{Played}
 use Rattle.rules.specs.ListOrder.{playAll}
 use Rattle.rules.specs.CheckLog.{CheckLeaves, sameBytes, compared, verdictNumber, verdictIndex, checkRefusal, checked, verdictOn, checkPlayed, checkLog}

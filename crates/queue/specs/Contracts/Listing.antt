@@ -4,8 +4,7 @@ use mathlib.Core.Path.{_≡_}
 use mathlib.Core.Bool.{true}
 use mathlib.Core.List.{List}
 use lib.ListN.{length}
-use Rattle.tree.specs.Shape.{Shape, processes}
-use Rattle.tree.specs.Memory.{Memory}
+use Rattle.tree.specs.Shape.{Shape}
 use Rattle.tree.proofs.Writes.{Sized}
 use Rattle.tree.proofs.Sound.{Sound}
 use Rattle.steps.specs.Process.{processesAllowed, operationsAllowed}

@@ -1,7 +1,7 @@
 -- `list_order::list_order` meets its contract. Assumes nothing.
 use Prim.Native.Nat.{_*_}
 use native.Mathlib.Omega.{arith}
-use mathlib.Core.Path.{_≡_, refl, ap, sym, _∙_}
+use mathlib.Core.Path.{refl, ap, sym, _∙_}
 use mathlib.Core.Logic.{inl}
 use lib.ListN.{length-append}
 use lib.Seq.{length-take-le, take-at}

@@ -1,6 +1,5 @@
 -- `list_order::write_list` meets its contract. Assumes nothing.
 use native.Mathlib.Omega.{arith}
-use mathlib.Core.Path.{_≡_, refl, sym, _∙_}
 use borrow.Author.Needs.{needs}
 use Rattle.refusals.proofs.Limits.{allowed-most}
 use Rattle.queue.proofs.ListLaws.{listing-settles, listing-height, list-short, list-written}

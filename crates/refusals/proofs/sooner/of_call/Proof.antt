@@ -1,6 +1,6 @@
 -- `sooner::of_call` meets its contract. Assumes nothing.
 use native.Mathlib.Omega.{arith}
-use mathlib.Core.Path.{_≡_, sym, _∙_}
+use mathlib.Core.Path.{sym, _∙_}
 use borrow.Author.Tests.{lt-ltb, le-ltb, eq-eqb, ne-eqb, not-false}
 use Rattle.record.specs.StepRecords.{stepSize}
 use Rattle.rules.specs.Refusals.{torn, callRefusal}
