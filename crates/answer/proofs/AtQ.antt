@@ -1,4 +1,4 @@
--- A process whose next step is Q: its operation stands in the root, and where it stands gives its answer. Used by proofs; no exported promise rests on it.
+-- A process whose next step is Q: its operation stands in the root, and where it stands gives its answer. Used by proofs; no exported promise names it.
 use Prim.Native.Nat.{ℕ, zero, suc, _+_, _-_, _^_, _≤_, _<_}
 use native.Mathlib.Omega.{arith}
 use mathlib.Core.Path.{_≡_, refl, subst, _∙_}
@@ -90,7 +90,7 @@ module _ {s : Shape} {ps : List Process} {starts heads table : List ℕ} {k : �
 
     module _ (e : o ≡ Take) where
       -- the leaf of a take has its block
-      of-takes : OfKind s table Takes k (q .begun)
+      pub of-takes : OfKind s table Takes k (q .begun)
       unfolding total block
       of-takes =
           let n = root-sound s m (settles .sound) in
@@ -105,9 +105,9 @@ module _ {s : Shape} {ps : List Process} {starts heads table : List ℕ} {k : �
               tall = tall ∙ height-is;
               some = stands .block .first;
               most = stands .block .last;
-              first = stands .some of-takes;
+              first = stands .some;
             }
 
         pub take-answer : {r : Reply} → r ≡ takeReply s table (at .block) (at .rank) → recordOf k q r (at .block) ≡ answerOf s (machineOf table heads ps) k o
         unfolding replyOf
-        take-answer f = answer-is (stands .block) (rw (e, ← stands .block .own, ← stands .rank of-takes) f)
+        take-answer f = answer-is (stands .block) (rw (e, ← stands .block .own, ← stands .rank) f)

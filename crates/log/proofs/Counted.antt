@@ -13,6 +13,7 @@ use Rattle.base.specs.Choice.{if_then_else_}
 use Rattle.record.specs.declared.AnswerRecord.{AnswerRecord}
 use Rattle.record.specs.AnswerRecords.{answerSize, answerBytes}
 use Rattle.rules.specs.CheckLog.{sameBytes}
+use Rattle.rules.specs.LogVerdict.{recordAt}
 use Rattle.log.specs.Contracts.Leading.{leading, leadingOf, countAfter}
 use Rattle.record.proofs.Cuts.{cut-at}
 use Rattle.log.proofs.Cuts.{recordsOf, records-length, no-record}
@@ -52,7 +53,7 @@ leading-none log = refl
 module _ (xs : List AnswerRecord) (a : AnswerRecord) (log : List ℕ) where
   -- the log's record behind as many as there are answers
   abbrev next : List ℕ
-  next = take answerSize (drop (answerSize * length xs) log)
+  next = recordAt (length xs) log
 
   -- after a difference one more answer counts no more
   leading-stays : (leadingOf xs log ≡ length xs → ⊥) → leadingOf (xs ++ (a ∷ [])) log ≡ leadingOf xs log
@@ -77,7 +78,7 @@ module _ (xs : List AnswerRecord) (a : AnswerRecord) (log : List ℕ) where
     -- where it has one, that record decides
     leading-next : answerSize * length xs + answerSize ≤ length log
         → leadingOf (xs ++ (a ∷ [])) log ≡ length xs + (if sameBytes (answerBytes a) next then 1 else 0)
-    unfolding answerSize leading
+    unfolding answerSize leading recordAt
     leading-next h =
         let within : length xs < length log / answerSize = omega arith in
         let there : length xs < length (recordsOf log) = omega (arith, records-length log) in

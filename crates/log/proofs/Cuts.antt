@@ -12,6 +12,7 @@ use Rattle.record.specs.AnswerRecords.{answerSize, answerBytes}
 use Rattle.record.proofs.Cuts.{cut-length}
 use Rattle.record.proofs.Lengths.{answer-length}
 use Rattle.rules.specs.CheckLog.{sameBytes}
+use Rattle.rules.specs.LogVerdict.{recordAt}
 use Rattle.rules.proofs.SameBytes.{unequal-not-same}
 
 abbrev pub recordsOf : List ℕ → List (List ℕ)
@@ -22,8 +23,8 @@ records-length log = cut-length answerSize (length log / answerSize) log
 
 -- past its last record a log has no answer's bytes
 pub no-record : (log : List ℕ) (n : ℕ) (a : AnswerRecord) → length log < answerSize * n + answerSize
-    → sameBytes (answerBytes a) (take answerSize (drop (answerSize * n) log)) ≡ false
-unfolding answerSize
+    → sameBytes (answerBytes a) (recordAt n log) ≡ false
+unfolding answerSize recordAt
 no-record log n a h =
     let rest : List ℕ = drop (answerSize * n) log in
     let l : length (take answerSize rest) ≡ length log - answerSize * n =

@@ -1,2 +1,2 @@
--- Definitions that only contracts between the crates cite: no exported promise rests on them.
+-- What contracts of functions say in their own terms. Proofs use it; no exported promise names it.
 pub mod Leading

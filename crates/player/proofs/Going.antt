@@ -1,4 +1,4 @@
--- A run that goes on: what the loop keeps from record to record. Used by proofs; no exported promise rests on it.
+-- A run that goes on: what the loop keeps from record to record. Used by proofs; no exported promise names it.
 use Prim.Native.Nat.{ℕ, zero, suc, _+_, _*_, _-_, _≤_, _<_}
 use native.Mathlib.Omega.{arith}
 use mathlib.Core.Path.{_≡_, refl, ap, sym, _∙_, subst}

@@ -1,4 +1,4 @@
--- What the loop of `play` keeps, and what each of its turns needs and leaves. Used by proofs; no exported promise rests on it.
+-- What the loop of `play` keeps, and what each of its turns needs and leaves. Used by proofs; no exported promise names it.
 use Prim.Native.Nat.{ℕ, suc, _+_, _*_, _-_, _/_, _≤_, _<_}
 use native.Mathlib.Omega.{arith}
 use mathlib.Core.Path.{_≡_, refl, sym, _∙_, subst}

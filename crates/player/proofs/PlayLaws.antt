@@ -1,4 +1,4 @@
--- A run of some records and one more, by what that one does. Used by proofs; no exported promise rests on it.
+-- A run of some records and one more, by what that one does. Used by proofs; no exported promise names it.
 use Prim.Native.Nat.{ℕ, _+_, _*_, _-_, _≤_}
 use mathlib.Core.Path.{_≡_, ap, sym, _∙_, subst}
 use mathlib.Core.Bool.{true, false}

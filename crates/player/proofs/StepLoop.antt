@@ -1,4 +1,4 @@
--- A step record in the loop of `play`: what each step needs and leaves. Used by proofs; no exported promise rests on it.
+-- A step record in the loop of `play`: what each step needs and leaves. Used by proofs; no exported promise names it.
 use Prim.Native.Nat.{ℕ, _+_, _*_, _-_, _≤_, _<_}
 use native.Mathlib.Omega.{arith}
 use mathlib.Core.Path.{_≡_, refl, ap, sym, _∙_, subst}
@@ -69,7 +69,7 @@ module _ {p l : ℕ} {starts records heads₀ table₀ : List ℕ} {room : ℕ} 
     step-leaf = ap (λ (x : ℕ). x + first) (sym (w .inv .width))
 
     pub step-fits-leaf : p + first < length heads → FitsLeaf starts (p + first)
-    step-fits-leaf h = record { shape = s; process = first; own = step-leaf; begins = step-begins (p + first) h }
+    step-fits-leaf h = record { shape = s; process = first; low = omega (arith, w .low, w .inv .width); own = step-leaf; begins = step-begins (p + first) h }
 
     abbrev q : Process
     q = getD procs j idle
@@ -126,10 +126,8 @@ module _ {p l : ℕ} {starts records heads₀ table₀ : List ℕ} {room : ℕ} 
           subst (λ (v : ℕ). Ready starts heads table v y) (ap (λ (x : ℕ). x + first) (w .inv .width))
           (plays-ready s (take (processes s) procs) starts heads table first q step-plays (operationIn (q .status)) y (step-busy refl (sym is)) goes)
 
-      pub step-fits : {y : Step} → x ≡ y → isQ y ≡ false → Fits starts (stepIn (q .status))
-      step-fits {y} is goes =
-          let told : stepIn (q .status) ≡ y = ap stepIn busy ∙ is in
-          record { shape = s; placed = subst (Placed s starts) (sym told) (placed y (step-ready told goes)) }
+      pub step-fits : {y : Step} → stepIn (q .status) ≡ y → isQ y ≡ false → Fits starts y
+      step-fits {y} is goes = record { shape = s; placed = placed y (step-ready is goes) }
 
       pub step-moves : {y : Step} → x ≡ y → isQ y ≡ false → (table' heads' : List ℕ) (r : Process) → length heads' ≡ length heads → length table' ≡ length table
           → (stepIn (q .status) ≡ y → Ready starts heads table (p + first) y → Placed s starts (stepIn (q .status))

@@ -30,7 +30,7 @@ fn print_input(records: &[u8], next: &[u8], out: &mut [u8; 4644]) -> usize
 // Reads the byte after the record buffer, where that is full: one byte more is enough to know that the input is longer.
 fn read_next(got: usize, next: &mut [u8]) -> usize
     ensures { λ r. ⌜ Counts r (now (next .exit)) ⌝ }
-    ensures { λ r. ⌜ (got < 65536 → r ≡ 0) ⌝ }
+    ensures { λ r. ⌜ (got < 65536 → (r ≡ 0) × (now (next .exit) ≡ now (next .entry))) ⌝ }
 {
     if got < 65536 {
         return 0;

@@ -1,18 +1,19 @@
--- What the exported calls return, from what the calls return. Used by proofs; no exported promise rests on it.
+-- What the exported calls return, from what the calls return. Used by proofs; no exported promise names it.
 use Prim.Native.Nat.{ℕ}
 use mathlib.Core.Path.{_≡_, ap, _∙_, subst}
 use mathlib.Core.List.{List}
 use lib.ListN.{length}
+use Rattle.rules.specs.declared.Verdict.{Verdict}
 use Rattle.rules.specs.Refusals.{refusalNumber}
 use Rattle.rules.specs.Run.{RunLeaves}
 use Rattle.rules.specs.ListOrder.{ListLeaves}
-use Rattle.rules.specs.CheckLog.{CheckLeaves, checkLog}
+use Rattle.rules.specs.CheckLog.{CheckLeaves, checked, checkLog}
 use Rattle.rules.specs.LogVerdict.{Judges}
 use Rattle.rules.proofs.LogVerdict.{check-judges}
 use Rattle.queue.specs.declared.Ran.{Ran}
 use Rattle.queue.specs.declared.Listed.{Listed}
 use Rattle.queue.specs.declared.OtqCheck.{OtqCheck}
-use Rattle.queue.specs.Left.{runLeft, listLeft}
+use Rattle.queue.specs.Left.{runLeft, listLeft, checkLeft}
 use Rattle.queue.specs.Exported.{RunExport, ListExport, CheckExport}
 
 pub run-export : (r : Ran) (n : ℕ) (table answers : List ℕ) (e : RunLeaves) → runLeft r table answers ≡ e → n ≡ refusalNumber (r .refusal)
@@ -38,8 +39,9 @@ list-export r n table output e h f =
       bytes = ap (λ (x : ListLeaves). x .output) h;
     }
 
-pub check-export : (r : OtqCheck) (table : List ℕ) (e f : CheckLeaves) → f ≡ e → CheckExport f r table → CheckExport e r table
-check-export r table e f h x = subst (λ (z : CheckLeaves). CheckExport z r table) h x
+pub check-export : (v : Verdict) (r : OtqCheck) (table : List ℕ) (e : CheckLeaves) → checkLeft v table ≡ e → CheckExport (checked v table) r table → CheckExport e r table
+unfolding checkLeft
+check-export v r table e h x = subst (λ (z : CheckLeaves). CheckExport z r table) h x
 
 -- the numbers that check a log returned are those of the definition
 pub check-told : (p l : ℕ) (records log table table' : List ℕ) (r : OtqCheck) → CheckExport (checkLog p l records log table) r table'

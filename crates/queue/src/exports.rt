@@ -18,11 +18,10 @@ ghost use Rattle.tree.specs.Layout.{wordsNeeded};
 ghost use Rattle.rules.specs.Refusals.{accepted, shapeFor, callRefusal};
 ghost use Rattle.rules.specs.Run.{run as runOf};
 ghost use Rattle.rules.specs.ListOrder.{listOrder};
-ghost use Rattle.rules.specs.CheckLog.{checkLog};
+ghost use Rattle.rules.specs.CheckLog.{checked as checkedAs, checkLog};
 ghost use Rattle.rules.specs.LogVerdict.{Judges};
 ghost use Rattle.rules.specs.Demand3.{Demand3};
 ghost use Rattle.superblocks.specs.Supers.{SupersNear};
-ghost use Rattle.queue.specs.Left.{checkLeft};
 ghost use Rattle.queue.specs.Exported.{RunExport, ListExport, CheckExport};
 
 // Run.
@@ -70,7 +69,7 @@ pub extern "C" fn otq_list_order(
 
 // A verdict as three numbers.
 fn checked(v: Verdict) -> OtqCheck
-    ensures { λ r. ⌜ ((table : List ℕ) → CheckExport (checkLeft v table) r table) ⌝ }
+    ensures { λ r. ⌜ ((table : List ℕ) → CheckExport (checkedAs v table) r table) ⌝ }
 {
     match v {
         Verdict::Same => OtqCheck {

@@ -1,4 +1,4 @@
--- What is known of a call that is not turned down. Used by proofs; no exported promise rests on it.
+-- What is known of a call that is not turned down. Used by proofs; no exported promise names it.
 use Prim.Native.Nat.{ℕ, _%_, _≤_}
 use mathlib.Core.Path.{_≡_, refl, sym, _∙_}
 use mathlib.Core.Bool.{Bool, true, false, not, _&&_, false≢true}

@@ -1,21 +1,26 @@
 -- What C3 and Q read can no longer change, save super: of every run without refusal and of every continuation without refusal, for general H.
-use Prim.Native.Nat.{ℕ, _+_, _*_, _-_, _≤_, _<_}
+use Prim.Native.Nat.{ℕ, suc, _-_, _≤_, _<_}
 use native.Mathlib.Omega.{arith}
 use native.Mathlib.Nat.{le-refl}
+use native.Mathlib.Decide.{decLt}
 use mathlib.Core.Path.{_≡_, refl, ap, sym, _∙_, subst}
 use mathlib.Core.Bool.{true}
 use mathlib.Core.List.{List, _++_}
 use Rattle.record.specs.declared.StepRecord.{StepRecord}
 use Rattle.tree.specs.declared.Block.{Block}
-use Rattle.tree.specs.Shape.{Shape, processes, leftOf, rightOf}
+use Rattle.tree.specs.Shape.{Shape, processes, root, leftOf, rightOf}
 use Rattle.tree.specs.Memory.{Memory, headOf, block}
-use Rattle.tree.specs.Order.{OpId, rootOperations}
+use Rattle.tree.specs.Order.{OpId, lastRoot, rootOperations}
+use Rattle.tree.specs.Sides.{Side, childOf, endOf}
 use Rattle.tree.specs.Standing.{times, rootBlockOf}
 use Rattle.tree.proofs.Nodes.{Node, Inner, inner-node}
-use Rattle.tree.proofs.Sound.{Sound, below-head}
+use Rattle.tree.proofs.Sound.{Sound, below-head, end-below}
+use Rattle.tree.proofs.LastRoot.{root-written}
+use Rattle.tree.proofs.Reached.{reached, reached-rises}
+use Rattle.tree.proofs.RootBlock.{root-block}
 use Rattle.tree.proofs.Growth.{Same}
 use Rattle.tree.proofs.Later.{Later}
-use Rattle.tree.proofs.Once.{Found, stands-once}
+use Rattle.tree.proofs.Once.{Found, stands-once, in-block}
 use Rattle.tree.proofs.OrderGrows.{root-block-grows, reached-grows}
 use Rattle.steps.specs.declared.Operation.{Operation}
 use Rattle.steps.specs.declared.Visit.{Visit}
@@ -24,8 +29,8 @@ use Rattle.steps.specs.declared.Status.the-variants.{Busy}
 use Rattle.steps.specs.declared.Step.the-variants.{C3, Q}
 use Rattle.steps.specs.Machine.{Machine, processOf, isQ}
 use Rattle.steps.proofs.Stages.{stageOf, two}
-use Rattle.steps.proofs.Progress.{Building, Way}
-use Rattle.steps.proofs.Invariant.{holding, step-nodes}
+use Rattle.steps.proofs.Progress.{Building, Rooted, Way}
+use Rattle.steps.proofs.Invariant.{holding}
 use Rattle.rules.specs.Answer.{replyOf}
 use Rattle.rules.specs.Refusals.{accepted}
 use Rattle.rules.specs.Run.{play}
@@ -61,27 +66,26 @@ module _ (s : Shape) (tall : 1 ≤ s .height) (rs ts : List StepRecord) (legal :
   later : Later s (m .memory) (n .memory)
   later = later-run s tall rs ts legal
 
+  abbrev sound : Sound s (m .memory)
+  sound = now .invariant .sound
+
   -- ---- a block below a head
-  below : (v i : ℕ) → Node s v → i < headOf (m .memory) v → EqualSaveSuper (block s (n .memory) v i) (block s (m .memory) v i)
-  below v i nv h = equal-save-super (later .stays v i nv (below-head (now .invariant .sound .node v nv) i h))
+  stays : (v i : ℕ) → Node s v → i < headOf (m .memory) v → EqualSaveSuper (block s (n .memory) v i) (block s (m .memory) v i)
+  stays v i nv h = equal-save-super (later .stays v i nv (below-head (sound .node v nv) i h))
 
-  module _ (o : Operation) (w : Visit) (l r : ℕ) (at : processOf m k .status ≡ Busy o (C3 w l r)) where
-    way : Building s (m .memory) (holding m) k (processOf m k .begun) w (two l r)
-    way = subst (λ (x : Status). Way s (m .memory) (holding m) k (processOf m k .begun) (stageOf x)) at (now .invariant .process k kp .way)
+  -- its ends are below heads
+  ends : (v i : ℕ) → Inner s v → i < headOf (m .memory) v → (d : Side) → endOf d (block s (m .memory) v i) < headOf (m .memory) (childOf d v)
+  ends v i iv h d = end-below sound d v iv i (below-head (sound .node v (inner-node s v iv)) i h)
 
-    inner : Inner s (w .node)
-    inner = step-nodes s (m .memory) (holding m) k kp (processOf m k .begun) (C3 w l r) way
-
-    read-before : EqualSaveSuper (block s (n .memory) (w .node) (w .head - 1)) (block s (m .memory) (w .node) (w .head - 1))
-    read-before = below (w .node) (w .head - 1) (inner-node s (w .node) inner) (omega (arith, way .refreshing .first, way .refreshing .last))
-
-    read-left : EqualSaveSuper (block s (n .memory) (leftOf (w .node)) l) (block s (m .memory) (leftOf (w .node)) l)
-    unfolding leftOf
-    read-left = below (2 * w .node) l (omega (arith, inner .first, inner .last)) (way .hand .0 .below)
-
-    read-right : EqualSaveSuper (block s (n .memory) (rightOf (w .node)) r) (block s (m .memory) (rightOf (w .node)) r)
-    unfolding rightOf
-    read-right = below (2 * w .node + 1) r (omega (arith, inner .first, inner .last)) (way .hand .1 .below)
+  -- C3 reads below heads
+  read-c3 : (o : Operation) (w : Visit) (l r : ℕ) → processOf m k .status ≡ Busy o (C3 w l r)
+      → (w .head - 1 < headOf (m .memory) (w .node)) × (l < headOf (m .memory) (leftOf (w .node))) × (r < headOf (m .memory) (rightOf (w .node)))
+  unfolding leftOf rightOf
+  read-c3 o w l r at =
+      let way : Building s (m .memory) (holding m) k (processOf m k .begun) w (two l r) =
+      subst (λ (x : Status). Way s (m .memory) (holding m) k (processOf m k .begun) (stageOf x)) at (now .invariant .process k kp .way)
+      in
+      (omega (arith, way .refreshing .first, way .refreshing .last), way .hand .0 .below, way .hand .1 .below)
 
   -- ---- an operation that stands in the root
   module _ (o : Operation) (at : processOf m k .status ≡ Busy o Q) where
@@ -107,6 +111,27 @@ module _ (s : Shape) (tall : 1 ≤ s .height) (rs ts : List StepRecord) (legal :
           first = found .first;
           last = omega (arith, found .last, reached-grows s (m .memory) (n .memory) (now .invariant .sound) (then .invariant .sound) later k kp);
         })
+
+    -- the root blocks below the root's head reach it, and those before its own do not
+    below-root : rootBlockOf s (m .memory .table) x < headOf (m .memory) root
+    below-root =
+        let r = root-block s (m .memory .table) x here in
+        let b = in-block s (m .memory) sound x (suc (r .past)) (r .high) (r .here) in
+        on (r .past) (decLt (suc (r .past)) (headOf (m .memory) root)) (r .is) (r .high) (b .past)
+      where
+        reaches : Rooted s (m .memory) k (processOf m k .begun)
+        reaches = subst (λ (y : Status). Way s (m .memory) (holding m) k (processOf m k .begun) (stageOf y)) at (now .invariant .process k kp .way)
+
+        on : (past : ℕ) → Dec (suc past < headOf (m .memory) root) → rootBlockOf s (m .memory .table) x ≡ suc past → past < lastRoot s (m .memory .table)
+            → reached s (m .memory) k (suc past - 1) < x .serial → rootBlockOf s (m .memory .table) x < headOf (m .memory) root
+        on past (yes l) e high low = omega arith
+        on past (no l) e high low =
+            absurd (omega (
+              arith,
+              reaches,
+              now .counts k kp,
+              reached-rises s (m .memory) sound k kp (headOf (m .memory) root - 1) (suc past - 1) (omega arith) (root-written s (m .memory) sound (suc past - 1) (omega arith)),
+            ))
 
     same-block : rootBlockOf s (n .memory .table) x ≡ rootBlockOf s (m .memory .table) x
     same-block = root-block-grows s (m .memory) (n .memory) (now .invariant .sound) (then .invariant .sound) later x here
@@ -141,9 +166,10 @@ module _ (s : Shape) (tall : 1 ≤ s .height) (rs ts : List StepRecord) (legal :
   legal-stable =
       let serial : processOf m k .begun ≡ begins k rs = now .counts k kp in
       record {
-        before = read-before;
-        left = read-left;
-        right = read-right;
+        stays = λ v i f l. stays v i (omega arith);
+        opens = λ v i f l. ends v i (record { first = f; last = l });
+        c3 = read-c3;
+        q = λ o at. rw serial (below-root o at);
         rootBlock = λ o at. rw serial (same-block o at);
         reply = λ o at. rw serial (same-reply o at);
       }

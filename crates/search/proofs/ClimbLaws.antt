@@ -1,4 +1,4 @@
--- The climb by node numbers: what each level of it needs and gives, at the root and below it, without and with the count. Used by proofs; no exported promise rests on it.
+-- The climb by node numbers: what each level of it needs and gives, at the root and below it, without and with the count. Used by proofs; no exported promise names it.
 use Prim.Native.Nat.{ℕ, suc, _+_, _-_, _/_, _≤_, _<_}
 use native.Mathlib.Omega.{arith}
 use mathlib.Core.Path.{_≡_, sym, ap, subst, _∙_}
@@ -13,7 +13,7 @@ use Rattle.tree.proofs.Presence.{count}
 use Rattle.tree.proofs.Ancestors.{ancestor, ancestor-node, root-height, not-root}
 use Rattle.steps.specs.Contracts.Ready.{HasPlace, nodeBlock}
 use Rattle.steps.proofs.Places.{places-most}
-use Rattle.search.specs.Contracts.Stands.{InBlock, StandsAt}
+use Rattle.search.specs.Contracts.Stands.{OfKind, InBlock, StandsAt}
 use Rattle.search.specs.Contracts.Climbing.{Ascends, FirstAbove, Beside, besideOf}
 use Rattle.search.proofs.Holding.{CountsAs, HoldsAs, Reached, Counted, OfEach}
 use Rattle.search.proofs.Ascent.{Above, ascends, above}
@@ -85,7 +85,7 @@ module _ {s : Shape} {k i : ℕ} {starts heads table : List ℕ} {κ : Kind} {v 
     unfolding root
     top-low = root-low s k i starts heads table place (at-top (c .at) top) κ number top-counts
 
-    pub top-stands : StandsAt s table κ k i (record { block = place; rank = number - total κ (nodeBlock starts table 1 (place - 1)) })
+    pub top-stands : OfKind s table κ k i → StandsAt s table κ k i (record { block = place; rank = number - total κ (nodeBlock starts table 1 (place - 1)) })
     unfolding root
     top-stands = root-stands s k i starts heads table place (at-top (c .at) top) κ number top-counts
 

@@ -1,4 +1,4 @@
--- One level down from a block that has a put: the child and the number there, the search there, and the put in the subblock found. Used by proofs; no exported promise rests on it.
+-- One level down from a block that has a put: the child and the number there, the search there, and the put in the subblock found. Used by proofs; no exported promise names it.
 use Prim.Native.Nat.{ℕ, zero, suc, _+_, _-_, _≤_, _<_}
 use native.Mathlib.Omega.{arith}
 use native.Mathlib.Decide.{decLe}

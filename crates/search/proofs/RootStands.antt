@@ -1,4 +1,4 @@
--- Where the climb ends: the root block of an operation, and its number there. Used by proofs; no exported promise rests on it.
+-- Where the climb ends: the root block of an operation, and its number there. Used by proofs; no exported promise names it.
 use Prim.Native.Nat.{ℕ, suc, _-_, _≤_}
 use native.Mathlib.Omega.{arith}
 use mathlib.Core.Path.{_≡_, sym, ap}
@@ -17,7 +17,7 @@ use Rattle.tree.proofs.Reached.{ancestor-top}
 use Rattle.tree.proofs.Climb.{climb-root}
 use Rattle.steps.specs.Contracts.Ready.{HasPlace, nodeBlock}
 use Rattle.steps.specs.Contracts.Settled.{Settles}
-use Rattle.search.specs.Contracts.Stands.{InBlock, StandsAt}
+use Rattle.search.specs.Contracts.Stands.{OfKind, InBlock, StandsAt}
 use Rattle.search.proofs.Holding.{CountsAs, HoldsAs}
 use Rattle.search.proofs.Words.{node-reads, written-place}
 
@@ -60,16 +60,16 @@ module _ (s : Shape) (k i : ℕ) (starts heads table : List ℕ) (place : ℕ) (
     pub root-low : total κ (nodeBlock starts table root (place - 1)) ≤ number
     root-low = omega (arith, root-reads, rw top at (counts .low))
 
-    pub root-stands : StandsAt s table κ k i (record { block = place; rank = number - total κ (nodeBlock starts table root (place - 1)) })
+    pub root-stands : OfKind s table κ k i → StandsAt s table κ k i (record { block = place; rank = number - total κ (nodeBlock starts table root (place - 1)) })
     unfolding inRoot
-    root-stands =
+    root-stands o =
         let low = rw top at (counts .low) in
         let high = rw top at (counts .high) in
         let x : OpId = record { process = k; serial = i } in
         rw root-reads
         (record {
           block = root-block;
-          rank = λ o. omega (arith, rw top at (counts .exact o));
-          some = λ o. omega (arith, rw top at (counts .exact o), rw top at (rank-some x _ (counts .inside o)));
+          rank = omega (arith, rw top at (counts .exact o));
+          some = omega (arith, rw top at (counts .exact o), rw top at (rank-some x _ (counts .inside o)));
           most = omega arith;
         })

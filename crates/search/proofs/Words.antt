@@ -1,4 +1,4 @@
--- What the words of a node's part are in a settled memory: the ends and the puts of its blocks. Used by proofs; no exported promise rests on it.
+-- What the words of a node's part are in a settled memory: the ends and the puts of its blocks. Used by proofs; no exported promise names it.
 use Prim.Native.Nat.{ℕ, _+_, _*_, _%_, _≤_, _<_}
 use native.Mathlib.Omega.{arith}
 use native.Mathlib.Decide.{ℕ-discrete}

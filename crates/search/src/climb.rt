@@ -8,7 +8,7 @@ ghost use mathlib.Core.Path.{_≡_};
 ghost use Prim.Native.Nat.{ℕ};
 ghost use Rattle.tree.specs.declared.Kind.the-variants.{Takes};
 ghost use Rattle.tree.specs.Shape.{Shape};
-ghost use Rattle.search.specs.Contracts.Stands.{StandsAs, Stands, InBlock, StandsAt};
+ghost use Rattle.search.specs.Contracts.Stands.{StandsAs, Stands, StandsOf, OfKind, InBlock, StandsAt};
 ghost use Rattle.search.specs.Contracts.Climbing.{Ascends, FirstAbove, Beside, besideOf};
 
 // The block of v's parent that holds v's block `place`: the first whose end towards v reaches it. The superblock word of v's block is a guess only: the parent's head may
@@ -53,7 +53,7 @@ pub fn root_block(heads: &[u32], table: &[u32], starts: &[usize; 17], leaf: u32,
     place
 }
 
-// Where operation `serial` of the process with that leaf stands among the takes: the same climb, with a count. The number counts v's takes from its first block on. Counted
+// Where operation `serial` of the process with that leaf, a take, stands among the takes: the same climb, with a count. The number counts v's takes from its first block on. Counted
 // so, a leaf's is its block's total, the parent's is v's and what comes before from the sibling, and only the root's blocks before the operation's own are taken off. Takes
 // alone are counted, since nothing asks for the number of a put in its block.
 pub fn standing(
@@ -63,9 +63,10 @@ pub fn standing(
     leaf: u32,
     serial: u32,
 ) -> Standing
-    requires { ⌜ Stands (now starts) (now heads) (now table) leaf serial ⌝ }
+    requires { ⌜ StandsOf Takes (now starts) (now heads) (now table) leaf serial ⌝ }
     ensures { λ r. ⌜ ((s : Shape) (k : ℕ) →
         StandsAs s k (now (starts .entry)) (now (heads .entry)) (now (table .entry)) leaf serial →
+        OfKind s (now (table .entry)) Takes k serial →
         StandsAt s (now (table .entry)) Takes k serial r) ⌝ }
 {
     let mut v = leaf;

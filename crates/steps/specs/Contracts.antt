@@ -1,4 +1,4 @@
--- Definitions that only contracts between the crates cite: no exported promise rests on them.
+-- What contracts of functions say in their own terms. Proofs use it; no exported promise names it.
 pub mod Ready
 pub mod Next
 pub mod Settled

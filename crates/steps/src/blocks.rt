@@ -62,8 +62,9 @@ pub fn step_a(
 
 // V2: v's block gets its superblock, if it has none yet: the parent's head as V1 read it.
 pub fn step_v2(table: &mut [u32], starts: &[usize; 17], q: Process) -> Process
-    requires { ⌜ (q .steps < 65536) × Fits (now starts) (stepIn (q .status)) ⌝ }
-    requires { ⌜ ((a : After) (w : Visit) (v h x : ℕ) → stepIn (q .status) ≡ Step.V2 a w v h x → HasPlace (now starts) (now table) v h) ⌝ }
+    requires { ⌜ q .steps < 65536 ⌝ }
+    requires { ⌜ ((a : After) (w : Visit) (v h x : ℕ) → stepIn (q .status) ≡ Step.V2 a w v h x →
+        HasPlace (now starts) (now table) v h × Fits (now starts) (Step.V2 a w v h x)) ⌝ }
     ensures step { λ r. ⌜ ((a : After) (w : Visit) (v h x : ℕ) → stepIn (q .status) ≡ Step.V2 a w v h x →
         NextByTable (now (starts .entry)) (now (table .entry)) (now (table .exit)) q r) ⌝ }
     ensures other { λ r. ⌜ (((a : After) (w : Visit) (v h x : ℕ) → stepIn (q .status) ≡ Step.V2 a w v h x → ⊥) → ((r ≡ q) × (now (table .exit) ≡ now (table .entry)))) ⌝ }
@@ -106,8 +107,9 @@ fn help(missing: bool, w: Visit, a: After, child: u32, c: u32) -> Step
 
 // R3: the left child's block at the head that was read is looked at.
 pub fn step_r3(table: &[u32], starts: &[usize; 17], q: Process) -> Process
-    requires { ⌜ (q .steps < 65536) × Fits (now starts) (stepIn (q .status)) ⌝ }
-    requires { ⌜ ((w : Visit) (c : ℕ) → stepIn (q .status) ≡ Step.R3 w c → HasPart (now starts) (now table) (2 * w .node)) ⌝ }
+    requires { ⌜ q .steps < 65536 ⌝ }
+    requires { ⌜ ((w : Visit) (c : ℕ) → stepIn (q .status) ≡ Step.R3 w c →
+        HasPart (now starts) (now table) (2 * w .node) × Fits (now starts) (Step.R3 w c)) ⌝ }
     ensures step { λ r. ⌜ ((w : Visit) (c : ℕ) → stepIn (q .status) ≡ Step.R3 w c →
         NextByTable (now (starts .entry)) (now (table .entry)) (now (table .entry)) q r) ⌝ }
     ensures other { λ r. ⌜ (((w : Visit) (c : ℕ) → stepIn (q .status) ≡ Step.R3 w c → ⊥) → r ≡ q) ⌝ }
@@ -130,8 +132,9 @@ pub fn step_r3(table: &[u32], starts: &[usize; 17], q: Process) -> Process
 
 // R5: the same of the right child.
 pub fn step_r5(table: &[u32], starts: &[usize; 17], q: Process) -> Process
-    requires { ⌜ (q .steps < 65536) × Fits (now starts) (stepIn (q .status)) ⌝ }
-    requires { ⌜ ((w : Visit) (c : ℕ) → stepIn (q .status) ≡ Step.R5 w c → HasPart (now starts) (now table) (2 * w .node + 1)) ⌝ }
+    requires { ⌜ q .steps < 65536 ⌝ }
+    requires { ⌜ ((w : Visit) (c : ℕ) → stepIn (q .status) ≡ Step.R5 w c →
+        HasPart (now starts) (now table) (2 * w .node + 1) × Fits (now starts) (Step.R5 w c)) ⌝ }
     ensures step { λ r. ⌜ ((w : Visit) (c : ℕ) → stepIn (q .status) ≡ Step.R5 w c →
         NextByTable (now (starts .entry)) (now (table .entry)) (now (table .entry)) q r) ⌝ }
     ensures other { λ r. ⌜ (((w : Visit) (c : ℕ) → stepIn (q .status) ≡ Step.R5 w c → ⊥) → r ≡ q) ⌝ }
@@ -164,8 +167,9 @@ fn settle(w: Visit, n: Built, old: Block) -> Step
 
 // C3: the block is made of the children's blocks at the ends that C1 and C2 found.
 pub fn step_c3(table: &[u32], starts: &[usize; 17], q: Process) -> Process
-    requires { ⌜ (q .steps < 65536) × Fits (now starts) (stepIn (q .status)) ⌝ }
-    requires { ⌜ ((w : Visit) (l r : ℕ) → stepIn (q .status) ≡ Step.C3 w l r → Builds (now starts) (now table) w l r) ⌝ }
+    requires { ⌜ q .steps < 65536 ⌝ }
+    requires { ⌜ ((w : Visit) (l r : ℕ) → stepIn (q .status) ≡ Step.C3 w l r →
+        Builds (now starts) (now table) w l r × Fits (now starts) (Step.C3 w l r)) ⌝ }
     ensures step { λ z. ⌜ ((w : Visit) (l r : ℕ) → stepIn (q .status) ≡ Step.C3 w l r →
         NextByTable (now (starts .entry)) (now (table .entry)) (now (table .entry)) q z) ⌝ }
     ensures other { λ z. ⌜ (((w : Visit) (l r : ℕ) → stepIn (q .status) ≡ Step.C3 w l r → ⊥) → z ≡ q) ⌝ }
@@ -182,8 +186,9 @@ pub fn step_c3(table: &[u32], starts: &[usize; 17], q: Process) -> Process
 
 // C4: the block is written if its place is still empty. The refresh has then succeeded.
 pub fn step_c4(table: &mut [u32], starts: &[usize; 17], q: Process) -> Process
-    requires { ⌜ (q .steps < 65536) × Fits (now starts) (stepIn (q .status)) ⌝ }
-    requires { ⌜ ((w : Visit) (b : Built) → stepIn (q .status) ≡ Step.C4 w b → HasPlace (now starts) (now table) (w .node) (w .head)) ⌝ }
+    requires { ⌜ q .steps < 65536 ⌝ }
+    requires { ⌜ ((w : Visit) (b : Built) → stepIn (q .status) ≡ Step.C4 w b →
+        HasPlace (now starts) (now table) (w .node) (w .head) × Fits (now starts) (Step.C4 w b)) ⌝ }
     ensures step { λ r. ⌜ ((w : Visit) (b : Built) → stepIn (q .status) ≡ Step.C4 w b →
         NextByTable (now (starts .entry)) (now (table .entry)) (now (table .exit)) q r) ⌝ }
     ensures other { λ r. ⌜ (((w : Visit) (b : Built) → stepIn (q .status) ≡ Step.C4 w b → ⊥) → ((r ≡ q) × (now (table .exit) ≡ now (table .entry)))) ⌝ }

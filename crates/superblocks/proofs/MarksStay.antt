@@ -1,5 +1,5 @@
 -- A step of any process keeps the invariant of supers, given what it leaves its own process with. Used by proofs; no
--- promise cites it.
+-- exported promise names it.
 use Prim.Native.Nat.{ℕ, zero, suc, _≤_, _<_}
 use native.Mathlib.Omega.{arith}
 use native.Mathlib.Decide.{ℕ-discrete, decLt, decLe}

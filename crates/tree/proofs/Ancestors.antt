@@ -1,4 +1,4 @@
--- The nodes above a process's leaf. Used by proofs; no exported promise rests on it.
+-- The nodes above a process's leaf. Used by proofs and by contracts of functions; no exported promise names it.
 use Prim.Native.Nat.{ℕ, zero, suc, _*_, _-_, _^_, _≤_, _<_}
 use native.Mathlib.Omega.{arith}
 use native.Mathlib.Decide.{decLt, ℕ-discrete}

@@ -1,4 +1,4 @@
--- Climbing from a leaf to the root: which block of each node above it holds an operation. Used by proofs; no exported promise rests on it.
+-- Climbing from a leaf to the root: which block of each node above it holds an operation. Used by proofs; no exported promise names it.
 use Prim.Native.Nat.{ℕ, suc, _+_, _-_, _≤_, _<_}
 use native.Mathlib.Omega.{arith}
 use native.Mathlib.Nat.{le-refl}

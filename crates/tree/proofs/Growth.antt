@@ -1,4 +1,4 @@
--- How one step may make a memory grow, and that such growth keeps the memory invariant. Used by proofs; no exported promise rests on it.
+-- How one step may make a memory grow, and that such growth keeps the memory invariant. Used by proofs and by contracts of functions; no exported promise names it.
 use Prim.Native.Nat.{ℕ, zero, suc, _+_, _≤_, _<_}
 use native.Mathlib.Omega.{arith}
 use native.Mathlib.Decide.{decLt, decLe}

@@ -1,4 +1,4 @@
--- Opening a block of a sound memory: where its operations come from, how many they are, and that they stay. Used by proofs; no exported promise rests on it.
+-- Opening a block of a sound memory: where its operations come from, how many they are, and that they stay. Used by proofs; no exported promise names it.
 use Prim.Native.Nat.{ℕ, zero, suc, _+_, _-_, _≤_, _<_}
 use native.Mathlib.Omega.{arith}
 use native.Mathlib.Decide.{decLt}

@@ -1,4 +1,4 @@
--- Presence of a block as a number: it has puts or takes. Used by proofs; no exported promise rests on it.
+-- Presence of a block as a number: it has puts or takes. Used by proofs and by contracts of functions; no exported promise names it.
 use Prim.Native.Nat.{ℕ, _+_, _≤_}
 use native.Mathlib.Omega.{arith}
 use native.Mathlib.Decide.{decLe}

@@ -1,4 +1,4 @@
--- How many of a process's operations the first blocks of a node above its leaf hold. Used by proofs; no exported promise rests on it.
+-- How many of a process's operations the first blocks of a node above its leaf hold. Used by proofs and by contracts of functions; no exported promise names it.
 use Prim.Native.Nat.{ℕ, zero, suc, _≤_, _<_}
 use native.Mathlib.Omega.{arith}
 use mathlib.Core.Path.{_≡_, refl, ap, _∙_}

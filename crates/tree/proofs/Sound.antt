@@ -1,4 +1,4 @@
--- The memory invariant: what holds of the blocks and heads whatever the order of steps. Used by proofs; no exported promise rests on it.
+-- The memory invariant: what holds of the blocks and heads whatever the order of steps. Used by proofs and by contracts of functions; no exported promise names it.
 use Prim.Native.Nat.{ℕ, zero, suc, _+_, _-_, _≤_, _<_}
 use native.Mathlib.Omega.{arith}
 use native.Mathlib.Decide.{decLe, ℕ-discrete}

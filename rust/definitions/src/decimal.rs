@@ -1,10 +1,34 @@
-//! A list of bytes or words as one decimal number, low element first, which keeps the rows short for the prover.
+//! Lists of bytes and words as text that is short for the prover.
 
-/// `(NAME length number)`, where `number` is the list read in base 2^32 or 2^8.
+/// A run of equal words from this length on is written by its length.
+const LONG: usize = 64;
+
+/// Pieces joined by `++`: `wordsOf length number`, where `number` is the piece read in base 2^32,
+/// low word first, and `replicate length word` for a long run of one word.
 pub fn words(list: &[u32]) -> String {
-    format!("(wordsOf {} {})", list.len(), decimal(list.to_vec()))
+    let mut pieces = Vec::new();
+    let mut others: Vec<u32> = Vec::new();
+    for run in list.chunk_by(|a, b| a == b) {
+        if run.len() < LONG {
+            others.extend(run);
+            continue;
+        }
+        if !others.is_empty() {
+            pieces.push(piece(std::mem::take(&mut others)));
+        }
+        pieces.push(format!("replicate {} {}", run.len(), run[0]));
+    }
+    if !others.is_empty() || pieces.is_empty() {
+        pieces.push(piece(others));
+    }
+    format!("({})", pieces.join(" ++ "))
 }
 
+fn piece(words: Vec<u32>) -> String {
+    format!("wordsOf {} {}", words.len(), decimal(words))
+}
+
+/// `(bytesOf length number)`, where `number` is the list read in base 2^8, low byte first.
 pub fn bytes(list: &[u8]) -> String {
     let words = list.chunks(4).map(|chunk| {
         chunk

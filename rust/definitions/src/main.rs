@@ -1,21 +1,56 @@
-//! Writes random runs of the reference, with everything that they leave, as theorems for the prover.
-//! Arguments: how many rows, and a seed.
+//! Writes rows for the prover: calls of the reference with everything that they leave, and what it
+//! says of demand 3. Arguments: `HOW-MANY SEED` for random calls; `calls` for the fixed ones;
+//! `demand3` for its terms; `long` for more of both that take the prover long; and
+//! `tally FILE ..`, which says how often the rows of these files meet each number and fails if one
+//! is never met.
 
 mod call;
 mod decimal;
+mod demand3;
+mod fixed_bytes;
+mod fixed_calls;
+mod fixed_logs;
+mod fixed_records;
+mod met;
+mod random_calls;
+mod row;
+mod taken;
+mod terms;
 
-use call::Call;
-use reference::random::Random;
+use row::Row;
 
 fn main() {
-    let mut arguments = std::env::args()
-        .skip(1)
-        .map(|a| a.parse::<u64>().expect("a number"));
-    let rows = arguments.next().expect("how many rows");
-    let seed = arguments.next().expect("a seed");
-    let mut random = Random::new(seed);
+    let arguments: Vec<String> = std::env::args().skip(1).collect();
+    let arguments: Vec<&str> = arguments.iter().map(String::as_str).collect();
+    match arguments[..] {
+        ["tally", ref files @ ..] => {
+            if let Err(missing) = met::tally(files) {
+                eprintln!("{missing}");
+                std::process::exit(1);
+            }
+        }
+        ["calls"] => print(fixed_calls::rows()),
+        ["demand3"] => print(demand3::rows()),
+        ["long"] => print(long()),
+        [rows, seed] => print(random_calls::rows(number(rows), number(seed))),
+        _ => panic!("arguments: HOW-MANY SEED, calls, demand3, long, or tally FILE .."),
+    }
+}
+
+fn long() -> Vec<Row> {
+    let mut rows = fixed_calls::largest();
+    rows.extend(demand3::planned());
+    rows
+}
+
+fn number(argument: &str) -> u64 {
+    argument.parse().expect("a number")
+}
+
+/// The file of the rows.
+fn print(rows: Vec<Row>) {
     print!("{}", include_str!("head.txt"));
-    for row in 0..rows {
-        println!("\n{}", Call::random(&mut random, row).theorem(row));
+    for (number, row) in rows.iter().enumerate() {
+        print!("{}", row.text(number));
     }
 }

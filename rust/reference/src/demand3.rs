@@ -51,13 +51,15 @@ pub enum Violation {
 
 /// An operation as the records tell it.
 #[derive(Clone, Copy, PartialEq, Eq, Debug)]
-struct Told {
-    name: Name,
-    operation: Operation,
-    begin: usize,
+pub struct Told {
+    pub name: Name,
+    pub operation: Operation,
+    /// The record that opens it, by its index in the list.
+    pub begin: usize,
     /// The record that does its Q.
-    end: Option<usize>,
-    steps: u32,
+    pub end: Option<usize>,
+    /// Own steps.
+    pub steps: u32,
 }
 
 /// The order of the operations in the root, by index in the list of those told.
@@ -111,7 +113,7 @@ pub fn check_within(
 
 /// Plays the step rules to learn which record does each Q. Own steps are counted
 /// from the records.
-fn replay(shape: Shape, records: &[u8]) -> Result<Vec<Told>, Violation> {
+pub fn replay(shape: Shape, records: &[u8]) -> Result<Vec<Told>, Violation> {
     let mut machine = Machine::start(shape);
     let mut told: Vec<Told> = Vec::new();
     for (index, bytes) in records.chunks_exact(STEP_RECORD_BYTES).enumerate() {

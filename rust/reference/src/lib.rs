@@ -1,9 +1,11 @@
 //! Plain version of the queue on an ordering tree: the oracle of comparison tests.
 
+pub mod account;
 pub mod check;
 pub mod demand3;
 pub mod growth;
 pub mod known_runs;
+pub mod linearizable;
 pub mod list;
 pub mod lists;
 pub mod machine;

@@ -1,5 +1,6 @@
 //! All tests of the reference version, one file for each topic.
 
+mod account;
 mod branches;
 mod call_refusals;
 mod check_log;

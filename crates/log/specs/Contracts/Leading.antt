@@ -12,6 +12,7 @@ use Rattle.record.specs.AnswerRecords.{answerSize, answerBytes, logBytes}
 use Rattle.rules.specs.declared.Verdict.{Verdict}
 use Rattle.rules.specs.declared.Verdict.the-variants.{Same, Differs}
 use Rattle.rules.specs.CheckLog.{sameBytes}
+use Rattle.rules.specs.LogVerdict.{recordAt}
 
 -- the records at the beginning in which two logs are equal
 unfoldable pub leading : List (List ℕ) → List (List ℕ) → ℕ
@@ -37,7 +38,7 @@ withAnswer out n a =
 -- of n answers `equal` at the beginning are those of a log; so many are with answer a: one more if all were and the log's next record is a's
 unfoldable pub countAfter : List ℕ → ℕ → ℕ → AnswerRecord → ℕ
 countAfter log n equal a =
-    if eqb equal n && sameBytes (answerBytes a) (take answerSize (drop (answerSize * n) log)) then equal + 1 else equal
+    if eqb equal n && sameBytes (answerBytes a) (recordAt n log) then equal + 1 else equal
 
 -- the verdict on a log of so many bytes, when `equal` of the answers are those of the log: the same if these are all of both
 unfoldable pub verdictOf : ℕ → ℕ → ℕ → Verdict

@@ -36,7 +36,7 @@ print-input-requires c κs =
     let first = c .before .before .before .before .before .before .before .read-full in
     let after = c .before .before .before .before .read-next in
     read-joined (take (first .result) (first .last .1 .0)) (omega arith) (take (after .result) (after .last .1 .0)) (omega arith)
-    (λ short. sym (after .ensures .0 .1) ∙ after .ensures .1 (omega (arith, first .ensures .1)))
+    (λ short. sym (after .ensures .0 .1) ∙ after .ensures .1 (omega (arith, first .ensures .1)) .0)
 
 array-share-prefix-out : tie.Need-array-share-prefix-out
 array-share-prefix-out c = search needs

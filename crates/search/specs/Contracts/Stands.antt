@@ -30,15 +30,22 @@ pub record Stands (starts heads table : List ℕ) (leaf serial : ℕ) : Type 0 w
 abbrev pub OfKind : Shape → List ℕ → Kind → ℕ → ℕ → Type 0
 OfKind s t κ k i = total κ (blockAt s t (leafOf s k) (i - 1)) < total κ (blockAt s t (leafOf s k) i)
 
+-- the same of an operation of kind κ
+pub record StandsOf (κ : Kind) (starts heads table : List ℕ) (leaf serial : ℕ) : Type 0 where
+  pub shape : Shape
+  pub process : ℕ
+  pub stands : StandsAs shape process starts heads table leaf serial
+  pub kind : OfKind shape table κ process serial
+
 -- b is the root block of operation i of process k, and is present
 pub record InBlock (s : Shape) (t : List ℕ) (k i b : ℕ) : Type 0 where
   pub first : 1 ≤ b
   pub last : b ≤ lastRoot s t
   pub own : b ≡ rootBlockOf s t (record { process = k; serial = i })
 
--- r is where operation i of process k stands: its root block, and its number among those of kind κ there, if it is of that kind
+-- r is where operation i of process k stands, which is of kind κ: its root block, and its number among those of that kind there
 pub record StandsAt (s : Shape) (t : List ℕ) (κ : Kind) (k i : ℕ) (r : Standing) : Type 0 where
   pub block : InBlock s t k i (r .block)
-  pub rank : OfKind s t κ k i → r .rank ≡ rankIn (record { process = k; serial = i }) (inRoot s t κ (r .block))
-  pub some : OfKind s t κ k i → 1 ≤ r .rank
+  pub rank : r .rank ≡ rankIn (record { process = k; serial = i }) (inRoot s t κ (r .block))
+  pub some : 1 ≤ r .rank
   pub most : r .rank ≤ total κ (blockAt s t root (r .block)) - total κ (blockAt s t root (r .block - 1))

@@ -1,8 +1,8 @@
 -- What the code of a named step promises: the memory that it leaves and the step that its process comes to are those of the rules, whatever it does not look at.
-use Prim.Native.Nat.{ℕ, _+_, _*_}
+use Prim.Native.Nat.{ℕ, _+_, _*_, _<_}
 use mathlib.Core.Path.{_≡_}
 use mathlib.Core.List.{List}
-use Rattle.tree.specs.Shape.{Shape, leafOf}
+use Rattle.tree.specs.Shape.{Shape, processes, leafOf}
 use Rattle.steps.specs.declared.Operation.{Operation}
 use Rattle.steps.specs.declared.Operation.the-variants.{Take}
 use Rattle.steps.specs.declared.Process.{Process}
@@ -39,6 +39,7 @@ pub record Fits (starts : List ℕ) (n : Step) : Type 0 where
 pub record FitsLeaf (starts : List ℕ) (leaf : ℕ) : Type 0 where
   pub shape : Shape
   pub process : ℕ
+  pub low : process < processes shape
   pub own : leaf ≡ leafOf shape process
   pub begins : Begins shape starts leaf
 

@@ -12,6 +12,7 @@ use Rattle.record.specs.declared.AnswerRecord.{AnswerRecord}
 use Rattle.record.specs.AnswerRecords.{answerSize, answerBytes}
 use Rattle.record.proofs.Lengths.{answer-length}
 use Rattle.rules.specs.CheckLog.{sameBytes}
+use Rattle.rules.specs.LogVerdict.{recordAt}
 use Rattle.log.specs.Contracts.Leading.{countAfter}
 use Rattle.log.proofs.Cuts.{no-record}
 use Rattle.log.proofs.compare.equal_after.Statement.{statement}
@@ -40,7 +41,7 @@ add-if2 : tie.Need-add-if2
 add-if2 c = search needs
 
 returns-2 : tie.Need-returns-2
-unfolding countAfter answerSize
+unfolding countAfter answerSize recordAt
 returns-2 c =
     let start = c .before .before .before in
     rw (no-record (start .args .log .now) (start .args .n) (start .args .a) (c .if2 .taken), eq-eqb _ _ (c .before .if1 .left))
@@ -61,7 +62,7 @@ add-result : tie.Need-add-result
 add-result c = search needs
 
 returns-3 : tie.Need-returns-3
-unfolding countAfter answerSize
+unfolding countAfter answerSize recordAt
 returns-3 c =
     let start = c .before .before .before .before .before .before .before .before .before in
     let put = c .before .before .before .before .put-answer .ensures in
@@ -69,7 +70,7 @@ returns-3 c =
     rw (compared-as (start .args .log .now) (start .args .a) (start .args .n) _ true put test, eq-eqb _ _ (c .before .before .before .before .before .before .before .if1 .left))
 
 returns-4 : tie.Need-returns-4
-unfolding countAfter answerSize
+unfolding countAfter answerSize recordAt
 returns-4 c =
     let start = c .before .before .before .before .before .before .before .before .before in
     let put = c .before .before .before .before .put-answer .ensures in

@@ -2,7 +2,6 @@
 use mathlib.Core.Path.{refl}
 use borrow.Author.Needs.{needs}
 use Rattle.rules.specs.CheckLog.{verdictRefusal, verdictNumber, verdictIndex, checked}
-use Rattle.queue.specs.Left.{checkLeft}
 use Rattle.queue.proofs.exports.checked.Statement.{statement}
 use Rattle.queue.proofs.exports.checked.Tie as tie
 
@@ -19,15 +18,15 @@ number-requires : tie.Need-number-requires
 number-requires c κs = search needs
 
 returns : tie.Need-returns
-unfolding checkLeft checked verdictRefusal verdictNumber verdictIndex
+unfolding checked verdictRefusal verdictNumber verdictIndex
 returns c = λ _. rw (c .enum-told .given .1) record { refusal = refl; verdict = refl; index = refl; words = refl }
 
 returns-2 : tie.Need-returns-2
-unfolding checkLeft checked verdictRefusal verdictNumber verdictIndex
+unfolding checked verdictRefusal verdictNumber verdictIndex
 returns-2 c = λ _. rw (c .before .v .given .1) record { refusal = refl; verdict = refl; index = refl; words = refl }
 
 returns-3 : tie.Need-returns-3
-unfolding checkLeft checked verdictRefusal verdictNumber verdictIndex
+unfolding checked verdictRefusal verdictNumber verdictIndex
 returns-3 c = λ _. rw (c .before .before .v2 .given .1, c .number .ensures) record { refusal = refl; verdict = refl; index = refl; words = refl }
 
 pub checked-spec : {M : Type 1} → statement M

@@ -16,7 +16,7 @@ same-length c = search needs
 returns : tie.Need-returns
 returns c =
     let r = c .before .before .before .check-log in
-    let x = check-export _ _ _ _ (r .ensures .0) (c .checked .ensures _) in
+    let x = check-export (r .result) _ _ _ (r .ensures .0) (c .checked .ensures _) in
     (x, check-told _ _ _ _ _ _ _ x)
 
 pub otq-check-log-spec : {M : Type 1} → statement M

@@ -21,49 +21,49 @@ returns c = (λ _ _ _ e. absurd (other (c .match .keys2) (c .before .step-in .en
 
 sub-block-at : tie.Need-sub-block-at
 sub-block-at c =
-    let p = c .before .before .before .before .before .before .pre .1 _ _ _ (sym (c .before .before .before .before .step-in .ensures) ∙ c .before .before .visit .given .1) in
+    let p = (c .before .before .before .before .before .before .pre .1 _ _ _ (sym (c .before .before .before .before .step-in .ensures) ∙ c .before .before .visit .given .1)) .0 in
     search needs
 
 block-at-requires : tie.Need-block-at-requires
 block-at-requires c κs =
-    let p = c .before .before .before .before .before .before .pre .1 _ _ _ (sym (c .before .before .before .before .step-in .ensures) ∙ c .before .before .visit .given .1) in
+    let p = (c .before .before .before .before .before .before .pre .1 _ _ _ (sym (c .before .before .before .before .step-in .ensures) ∙ c .before .before .visit .given .1)) .0 in
     search needs
 
 mul-block-at : tie.Need-mul-block-at
 mul-block-at c =
-    let p = c .before .before .before .before .before .before .before .pre .1 _ _ _ (sym (c .before .before .before .before .before .step-in .ensures) ∙ c .before .before .before .visit .given .1) in
+    let p = (c .before .before .before .before .before .before .before .pre .1 _ _ _ (sym (c .before .before .before .before .before .step-in .ensures) ∙ c .before .before .before .visit .given .1)) .0 in
     search needs
 
 block-at-requires-2 : tie.Need-block-at-requires-2
 block-at-requires-2 c κs =
-    let p = c .before .before .before .before .before .before .before .pre .1 _ _ _ (sym (c .before .before .before .before .before .step-in .ensures) ∙ c .before .before .before .visit .given .1) in
+    let p = (c .before .before .before .before .before .before .before .pre .1 _ _ _ (sym (c .before .before .before .before .before .step-in .ensures) ∙ c .before .before .before .visit .given .1)) .0 in
     search needs
 
 mul-block-at-2 : tie.Need-mul-block-at-2
 mul-block-at-2 c =
-    let p = c .before .before .before .before .before .before .before .before .pre .1 _ _ _ (sym (c .before .before .before .before .before .before .step-in .ensures) ∙ c .before .before .before .before .visit .given .1) in
+    let p = (c .before .before .before .before .before .before .before .before .pre .1 _ _ _ (sym (c .before .before .before .before .before .before .step-in .ensures) ∙ c .before .before .before .before .visit .given .1)) .0 in
     search needs
 
 add-block-at : tie.Need-add-block-at
 add-block-at c =
-    let p = c .before .before .before .before .before .before .before .before .pre .1 _ _ _ (sym (c .before .before .before .before .before .before .step-in .ensures) ∙ c .before .before .before .before .visit .given .1) in
+    let p = (c .before .before .before .before .before .before .before .before .pre .1 _ _ _ (sym (c .before .before .before .before .before .before .step-in .ensures) ∙ c .before .before .before .before .visit .given .1)) .0 in
     search needs
 
 block-at-requires-3 : tie.Need-block-at-requires-3
 block-at-requires-3 c κs =
-    let p = c .before .before .before .before .before .before .before .before .pre .1 _ _ _ (sym (c .before .before .before .before .before .before .step-in .ensures) ∙ c .before .before .before .before .visit .given .1) in
+    let p = (c .before .before .before .before .before .before .before .before .pre .1 _ _ _ (sym (c .before .before .before .before .before .before .step-in .ensures) ∙ c .before .before .before .before .visit .given .1)) .0 in
     search needs
 
 joined-requires : tie.Need-joined-requires
 joined-requires c κs =
-    let p = c .before .before .before .before .before .before .before .before .before .pre .1 _ _ _ (sym (c .before .before .before .before .before .before .before .step-in .ensures) ∙ c .before .before .before .before .before .visit .given .1) in
+    let p = (c .before .before .before .before .before .before .before .before .before .pre .1 _ _ _ (sym (c .before .before .before .before .before .before .before .step-in .ensures) ∙ c .before .before .before .before .before .visit .given .1)) .0 in
     rw (c .block-at3 .ensures, c .before .block-at2 .ensures, c .before .before .block-at .ensures) ((p .puts, p .takes, p .size), (p .putsRise, p .takesRise))
 
 settle-requires : tie.Need-settle-requires
 settle-requires c κs = search needs
 
 moved-requires : tie.Need-moved-requires
-moved-requires c κs = (c .before .before .before .before .before .before .before .before .before .before .before .pre .0 .0, busy _ (sym (c .before .before .before .before .before .before .before .before .before .step-in .ensures) ∙ c .before .before .before .before .before .before .before .visit .given .1) tt)
+moved-requires c κs = (c .before .before .before .before .before .before .before .before .before .before .before .pre .0, busy _ (sym (c .before .before .before .before .before .before .before .before .before .step-in .ensures) ∙ c .before .before .before .before .before .before .before .visit .given .1) tt)
 
 returns-2 : tie.Need-returns-2
 unfolding step go built block leftOf rightOf

@@ -23,7 +23,7 @@ block-of-requires c κs = search needs
 
 write-if-absent-requires : tie.Need-write-if-absent-requires
 write-if-absent-requires c κs =
-    let p = c .before .before .before .before .before .before .before .pre .1 _ _ (sym (c .before .before .before .before .before .step-in .ensures) ∙ c .before .before .before .visit .given .1) in
+    let p = (c .before .before .before .before .before .before .before .pre .1 _ _ (sym (c .before .before .before .before .before .step-in .ensures) ∙ c .before .before .before .visit .given .1)) .0 in
     search needs
 
 after-refresh-requires : tie.Need-after-refresh-requires

@@ -21,17 +21,17 @@ returns c = (λ _ _ e. absurd (other (c .match .keys2) (c .before .step-in .ensu
 
 mul-v : tie.Need-mul-v
 mul-v c =
-    let p = c .before .before .before .before .before .before .pre .1 _ _ (sym (c .before .before .before .before .step-in .ensures) ∙ c .before .before .visit .given .1) in
+    let p = (c .before .before .before .before .before .before .pre .1 _ _ (sym (c .before .before .before .before .step-in .ensures) ∙ c .before .before .visit .given .1)) .0 in
     search needs
 
 add-v : tie.Need-add-v
 add-v c =
-    let p = c .before .before .before .before .before .before .pre .1 _ _ (sym (c .before .before .before .before .step-in .ensures) ∙ c .before .before .visit .given .1) in
+    let p = (c .before .before .before .before .before .before .pre .1 _ _ (sym (c .before .before .before .before .step-in .ensures) ∙ c .before .before .visit .given .1)) .0 in
     search needs
 
 absent-at-requires : tie.Need-absent-at-requires
 absent-at-requires c κs =
-    let p = c .before .before .before .before .before .before .pre .1 _ _ (sym (c .before .before .before .before .step-in .ensures) ∙ c .before .before .visit .given .1) in
+    let p = (c .before .before .before .before .before .before .pre .1 _ _ (sym (c .before .before .before .before .step-in .ensures) ∙ c .before .before .visit .given .1)) .0 in
     search needs
 
 help-requires : tie.Need-help-requires

@@ -20,7 +20,7 @@ returns c = (λ _ _ _ _ _ e. absurd (other (c .match .keys2) (c .before .step-in
 
 set-super-at-requires : tie.Need-set-super-at-requires
 set-super-at-requires c κs =
-    let p = c .before .before .before .before .before .before .pre .1 _ _ _ _ _ (sym (c .before .before .before .before .step-in .ensures) ∙ c .before .before .after .given .1) in
+    let p = (c .before .before .before .before .before .before .pre .1 _ _ _ _ _ (sym (c .before .before .before .before .step-in .ensures) ∙ c .before .before .after .given .1)) .0 in
     search needs
 
 moved-requires : tie.Need-moved-requires

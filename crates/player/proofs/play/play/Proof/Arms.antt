@@ -40,7 +40,7 @@ unfolding idle isQ
 ready-v2 c κs =
     let b = c .before .before .before .before in
     let busy = b .before .status .given .1 in
-    ((few-steps b, step-fits (found b) busy (c .before .before .enum-told4 .given .1) refl), λ _ _ _ _ _ e. (step-ready (found b) (b .before .status .given .1) e refl) .1)
+    (few-steps b, λ _ _ _ _ _ e. ((step-ready (found b) busy e refl) .1, step-fits (found b) busy e refl))
 
 pub again-v2 : tie.Need-loop-again-3 Inv-loop μ-loop
 unfolding idle isQ
@@ -91,7 +91,7 @@ unfolding idle isQ
 ready-r3 c κs =
     let b = c .before .before .before .before in
     let busy = b .before .status .given .1 in
-    ((few-steps b, step-fits (found b) busy (c .before .before .enum-told8 .given .1) refl), λ _ _ e. (step-ready (found b) (b .before .status .given .1) e refl) .1)
+    (few-steps b, λ _ _ e. ((step-ready (found b) busy e refl) .1, step-fits (found b) busy e refl))
 
 pub again-r3 : tie.Need-loop-again-7 Inv-loop μ-loop
 unfolding idle isQ
@@ -118,7 +118,7 @@ unfolding idle isQ
 ready-r5 c κs =
     let b = c .before .before .before .before in
     let busy = b .before .status .given .1 in
-    ((few-steps b, step-fits (found b) busy (c .before .before .enum-told10 .given .1) refl), λ _ _ e. (step-ready (found b) (b .before .status .given .1) e refl) .1)
+    (few-steps b, λ _ _ e. ((step-ready (found b) busy e refl) .1, step-fits (found b) busy e refl))
 
 pub again-r5 : tie.Need-loop-again-9 Inv-loop μ-loop
 unfolding idle isQ
@@ -157,7 +157,7 @@ unfolding idle isQ
 ready-c3 c κs =
     let b = c .before .before .before .before in
     let busy = b .before .status .given .1 in
-    ((few-steps b, step-fits (found b) busy (c .before .before .enum-told13 .given .1) refl), λ _ _ _ e. (step-ready (found b) (b .before .status .given .1) e refl) .1)
+    (few-steps b, λ _ _ _ e. ((step-ready (found b) busy e refl) .1, step-fits (found b) busy e refl))
 
 pub again-c3 : tie.Need-loop-again-12 Inv-loop μ-loop
 unfolding idle isQ
@@ -172,7 +172,7 @@ unfolding idle isQ
 ready-c4 c κs =
     let b = c .before .before .before .before in
     let busy = b .before .status .given .1 in
-    ((few-steps b, step-fits (found b) busy (c .before .before .enum-told14 .given .1) refl), λ _ _ e. (step-ready (found b) (b .before .status .given .1) e refl) .1)
+    (few-steps b, λ _ _ e. ((step-ready (found b) busy e refl) .1, step-fits (found b) busy e refl))
 
 pub again-c4 : tie.Need-loop-again-13 Inv-loop μ-loop
 unfolding idle isQ

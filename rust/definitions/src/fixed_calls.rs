@@ -1,0 +1,141 @@
+//! Fixed calls that are turned down before their records, and calls on either side of each edge.
+
+use crate::call::{kept_bytes, kept_words, Call};
+use crate::row::Row;
+use crate::{fixed_bytes, fixed_logs, fixed_records};
+use reference::lists::List;
+use reference::tree::Shape;
+
+/// Calls that meet every number and verdict, each edge of a test, and the order of the tests; and
+/// records whose bytes are all in use.
+pub fn rows() -> Vec<Row> {
+    [
+        wrong_processes(),
+        wrong_limits(),
+        allowed_limits(),
+        short_tables(),
+        torn_records(),
+        fixed_records::rows(),
+        fixed_logs::rows(),
+        fixed_bytes::rows(),
+    ]
+    .into_iter()
+    .flatten()
+    .collect()
+}
+
+/// A put of process 0 and one step: what a call that is turned down must not play.
+fn short_list() -> Vec<u8> {
+    List::new().put(0, 7).steps(0, 1).bytes()
+}
+
+/// A later test that fails too.
+type Fault = (&'static str, fn(&mut Call));
+
+/// Faults that the tests 2, 3, 4, 11 and those of the first record find, in that order.
+const FAULTS: [Fault; 5] = [
+    ("L = 0", |call| call.l = 0),
+    ("no table", |call| call.table.clear()),
+    ("torn records", |call| call.records.truncate(15)),
+    ("a torn log", |call| call.log = kept_bytes(15)),
+    ("an ill-formed record", |call| call.records[2] = 1),
+];
+
+/// The call with each of the faults from one on alone, and with all of them.
+fn with_faults(call: &Call, about: &str, from: usize) -> Vec<Row> {
+    let mut rows = Vec::new();
+    let mut all = call.clone();
+    for (fault, make) in &FAULTS[from..] {
+        rows.push(call.with(make).row(format!("{about}, and {fault}")));
+        make(&mut all);
+    }
+    rows.push(all.row(format!("{about}, and all later faults")));
+    rows
+}
+
+/// Number 1. The buffers are those of p = 8, for which no p here is too large.
+fn wrong_processes() -> Vec<Row> {
+    let call = Call::ample(8, 1, short_list());
+    let mut rows = Vec::new();
+    for p in [0, 1, 3, 5, 6, 7, 9, 16, 501, u32::MAX] {
+        rows.push(call.with(|call| call.p = p).row(format!("p = {p}")));
+    }
+    rows.extend(with_faults(&call.with(|call| call.p = 3), "p = 3", 0));
+    rows
+}
+
+/// Number 2.
+fn wrong_limits() -> Vec<Row> {
+    let mut rows = Vec::new();
+    for p in [2, 4, 8] {
+        let call = Call::ample(p, 1, short_list());
+        for l in [0, 501, 512, u32::MAX] {
+            rows.push(
+                call.with(|call| call.l = l)
+                    .row(format!("p = {p}, L = {l}")),
+            );
+        }
+        let many = call.with(|call| call.l = 501);
+        rows.extend(with_faults(&many, &format!("p = {p}, L = 501"), 1));
+    }
+    rows
+}
+
+/// L at the edges of what is allowed, and on either side of the printing program's 24.
+fn allowed_limits() -> Vec<Row> {
+    let mut rows = edge_of(2, 500);
+    for p in [2, 4, 8] {
+        rows.extend([1, 24, 25].into_iter().flat_map(|l| edge_of(p, l)));
+    }
+    rows
+}
+
+/// The largest tables, which take the prover long.
+pub fn largest() -> Vec<Row> {
+    [4, 8].into_iter().flat_map(|p| edge_of(p, 500)).collect()
+}
+
+/// A word too few refuses with 3, and with no word too few the records are met: the second of them
+/// is refused, since listing even an empty order of a large table takes the prover long.
+fn edge_of(p: u32, l: u32) -> Vec<Row> {
+    let needed = Shape::new(p, l).expect("a proper shape").words_needed();
+    let call = Call::ample(p, l, List::new().put(0, 7).steps(1, 1).bytes());
+    let words = |words| call.with(|call| call.table = kept_words(words));
+    vec![
+        words(needed - 1).row(format!("p = {p}, L = {l}, a word too few")),
+        words(needed).row(format!("p = {p}, L = {l}, no word too few")),
+    ]
+}
+
+/// Number 3.
+fn short_tables() -> Vec<Row> {
+    let mut rows = Vec::new();
+    for (p, l) in [(2, 1), (2, 3), (4, 2), (8, 1)] {
+        let call = Call::ample(p, l, short_list());
+        rows.push(call.row(format!("p = {p}, L = {l}, 3 words more than needed")));
+        let needed = call.table.len() - 3;
+        let exact = call.with(|call| call.table.truncate(needed));
+        rows.push(exact.row(format!("p = {p}, L = {l}, the words needed")));
+        let short = call.with(|call| call.table.truncate(needed - 1));
+        let about = format!("p = {p}, L = {l}, a word too few");
+        rows.push(short.row(&about));
+        rows.extend(with_faults(&short, &about, 2));
+    }
+    rows
+}
+
+/// Number 4: every number of bytes up to two records.
+fn torn_records() -> Vec<Row> {
+    let mut rows = Vec::new();
+    let call = Call::ample(2, 1, short_list());
+    for bytes in 0..=16 {
+        let torn = call.with(|call| call.records.truncate(bytes));
+        rows.push(torn.row(format!("{bytes} record bytes")));
+    }
+    for p in [2, 4, 8] {
+        let call = Call::ample(p, 1, short_list());
+        let torn = call.with(|call| call.records.truncate(15));
+        rows.extend(with_faults(&torn, &format!("p = {p}, 15 record bytes"), 3));
+    }
+    rows
+}

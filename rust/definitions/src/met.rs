@@ -1,0 +1,77 @@
+//! What the rows meet: the numbers and verdicts of the calls, and the cases of demand 3's terms.
+
+use std::fmt;
+
+/// Everything that the rows must meet, by what can meet it. The numbers and verdicts of the calls
+/// are those of document 01, "What each call turns down".
+const REQUIRED: [(&str, &[&str]); 6] = [
+    ("run", &["0", "1", "2", "3", "4", "5", "6", "7", "8", "9"]),
+    ("list", &["0", "1", "2", "3", "4", "5", "6", "7", "8", "10"]),
+    (
+        "check",
+        &[
+            "same", "unequal", "shorter", "longer", "1", "2", "3", "4", "5", "6", "7", "8", "11",
+        ],
+    ),
+    ("limit", &["p=2", "p=4", "p=8"]),
+    ("operation", &["finished", "placed", "begun", "unopened"]),
+    ("answer", &["done", "value", "none"]),
+];
+
+/// How a line of the rows' file begins that lists what a row meets.
+pub const LINE: &str = "-- met: ";
+
+/// A number or case, and what met it.
+#[derive(Clone, PartialEq, Eq, Debug)]
+pub struct Met {
+    what: &'static str,
+    case: String,
+}
+
+impl Met {
+    pub fn new(what: &'static str, case: impl ToString) -> Met {
+        Met {
+            what,
+            case: case.to_string(),
+        }
+    }
+}
+
+impl fmt::Display for Met {
+    fn fmt(&self, out: &mut fmt::Formatter) -> fmt::Result {
+        write!(out, "{} {}", self.what, self.case)
+    }
+}
+
+/// Prints how often the rows of these files meet each case. A case that none meets is an error, and
+/// so is one that no row can meet.
+pub fn tally(files: &[&str]) -> Result<(), String> {
+    let mut met = Vec::new();
+    for file in files {
+        let text = std::fs::read_to_string(file).map_err(|error| format!("{file}: {error}"))?;
+        let lines = text.lines().filter_map(|line| line.strip_prefix(LINE));
+        met.extend(lines.flat_map(|line| line.split(", ")).map(str::to_string));
+    }
+    let mut never = Vec::new();
+    let mut counted = 0;
+    for (what, cases) in REQUIRED {
+        let mut line = Vec::new();
+        for case in cases {
+            let name = format!("{what} {case}");
+            let count = met.iter().filter(|met| **met == name).count();
+            line.push(format!("{case} x{count}"));
+            counted += count;
+            if count == 0 {
+                never.push(name);
+            }
+        }
+        println!("{what}: {}", line.join(", "));
+    }
+    if !never.is_empty() {
+        return Err(format!("no row meets: {}", never.join(", ")));
+    }
+    match counted == met.len() {
+        true => Ok(()),
+        false => Err("a row meets what document 01 does not have".to_string()),
+    }
+}
