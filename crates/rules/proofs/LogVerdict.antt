@@ -148,8 +148,10 @@ module _ (p l words : ℕ) (records log : List ℕ) where
       record {
         same = (λ z. absurd (omega (arith, z)), λ z. absurd (d .first .here (ap (recordAt (d .index)) (sym (z .1)))));
         differs =
-            λ i.
-            (λ z. (none, subst (λ (k : ℕ). DifferFirst k own log) (sym (zero-add (d .index)) ∙ z .1) (d .first)), λ z. (refl, zero-add (d .index) ∙ one-first (d .index) i own log (d .first) (z .1)));
+            λ i. (
+              λ z. (none, subst (λ (k : ℕ). DifferFirst k own log) (sym (zero-add (d .index)) ∙ z .1) (d .first)),
+              λ z. (refl, zero-add (d .index) ∙ one-first (d .index) i own log (d .first) (z .1)),
+            );
       }
 
   judges-refused : (n : Refusal) → (NoRefusal p l words records log → ⊥) → Judges p l words records log (verdictNumber (Refused n)) (verdictIndex (Refused n))

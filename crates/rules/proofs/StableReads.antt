@@ -175,7 +175,9 @@ module _ (s : Shape) (tall : 1 ≤ s .height) (rs ts : List StepRecord) (legal :
       }
 
 -- of the machine after some records, and after more, where none is refused
-pub stable-reads : (s : Shape) → 1 ≤ s .height → (room room' : ℕ) (rs ts : List StepRecord) → accepted (play s room rs .refusal) ≡ true → accepted (play s room' (rs ++ ts) .refusal) ≡ true
+pub stable-reads : (s : Shape) → 1 ≤ s .height → (room room' : ℕ) (rs ts : List StepRecord)
+    → accepted (play s room rs .refusal) ≡ true
+    → accepted (play s room' (rs ++ ts) .refusal) ≡ true
     → (k : ℕ) → k < processes s → StableReads s (play s room rs .machine) (play s room' (rs ++ ts) .machine) k
 stable-reads s tall room room' rs ts ok ok' k kp =
     rw (whole-machine s tall room rs ok, whole-machine s tall room' (rs ++ ts) ok') (legal-stable s tall rs ts (whole-legal s tall room' (rs ++ ts) ok') k kp)

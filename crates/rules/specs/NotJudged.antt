@@ -1,4 +1,5 @@
--- Verdicts that the second promise of check a log refuses: on each of these logs it lets one verdict pass, or none but a refusal, and a weaker promise would let others pass.
+-- Verdicts that the second promise of check a log refuses: on each of these logs it lets one verdict pass, or none but
+-- a refusal. Each weaker promise that a mistakes/weak_judges_*.edit puts in its place would let another pass.
 use Prim.Native.Nat.{ℕ}
 use native.Mathlib.Omega.{arith}
 use mathlib.Core.Path.{_≡_, refl, ap}
@@ -6,18 +7,20 @@ use mathlib.Core.List.{List, [], _∷_, _++_}
 use lib.ListN.{length, getD, take}
 use Rattle.rules.specs.LogVerdict.{Judges}
 use Rattle.rules.specs.KnownRuns.{beginTake, steps}
+use Rattle.rules.specs.NotKept.{bytes}
 use Rattle.rules.specs.All.{rules}
 
--- a take alone at p = 2, L = 1, and its log: process 0, kind 3 for none, 15 steps, value 0, serial 1, root block b
-abbrev pub aTake : List ℕ
-aTake = beginTake 0 ++ steps 15 0
+-- the records of a take alone at p = 2, L = 1, and its log: process 0, kind 3 for none, 15 steps, value 0, serial 1 and
+-- root block b
+abbrev pub takeAlone : List ℕ
+takeAlone = beginTake 0 ++ steps 15 0
 
 abbrev pub logWith : ℕ → List ℕ
-logWith b = 0 ∷ 3 ∷ 15 ∷ 0 ∷ 0 ∷ 0 ∷ 0 ∷ 0 ∷ 1 ∷ 0 ∷ 0 ∷ 0 ∷ b ∷ 0 ∷ 0 ∷ 0 ∷ []
+logWith b = bytes 0 3 15 0 1 b
 
 -- what is judged: a verdict v with index i on a log of that take, with a table of 42 words
 abbrev pub Told : List ℕ → ℕ → ℕ → Type 0
-Told log v i = Judges 2 1 42 aTake log v i
+Told log v i = Judges 2 1 42 takeAlone log v i
 
 -- the log of the rules: 'same'
 pub onItsLog : (v i : ℕ) → Told (logWith 1) v i → v ≡ 0

@@ -1,4 +1,5 @@
--- Outcomes that demand 3 refuses: each clause of Kept refutes some, and would not if it were weaker.
+-- Outcomes that demand 3 refuses: each clause of Kept refutes some, and each weaker clause that a mistakes/weak_*.edit
+-- puts in its place would let one of them pass.
 use Prim.Native.Nat.{ℕ, zero, suc, _+_, _*_, _<_}
 use native.Mathlib.Omega.{arith}
 use mathlib.Core.Path.{_≡_, refl, ap, sym, _∙_}
@@ -7,6 +8,7 @@ use mathlib.Core.List.{List, [], _∷_, _++_, map}
 use lib.ListN.{length, replicate}
 use Rattle.base.specs.Members.{All}
 use Rattle.record.specs.declared.StepRecord.{StepRecord}
+use Rattle.record.specs.StepRecords.{stepRecords}
 use Rattle.record.specs.AnswerRecords.{logBytes}
 use Rattle.tree.specs.Shape.{Shape, root}
 use Rattle.tree.specs.Blocks.{blockAt}
@@ -17,6 +19,7 @@ use Rattle.steps.specs.declared.Operation.the-variants.{Put, Take}
 use Rattle.rules.specs.CheckLog.{sameBytes}
 use Rattle.rules.specs.History.{Event, opens, moves, finishes, operation, isOpened, ownSteps}
 use Rattle.rules.specs.Demand3.{queueAfter, queueRecord, finishing, stepLimit, Kept, Demand3}
+use Rattle.rules.specs.KnownRuns.{beginPut, beginTake, steps}
 use Rattle.rules.specs.All.{rules}
 
 -- ---- what an outcome is made of
@@ -25,30 +28,37 @@ use Rattle.rules.specs.All.{rules}
 abbrev pub shape : ℕ → ℕ → Shape
 shape H l = record { height = H; most = l }
 
--- the first operations of processes 0 and 1
+-- the first operations of processes 0 and 1, and the second of process 0
 abbrev pub x : OpId
 x = operation 0 1
 
 abbrev pub y : OpId
 y = operation 1 1
 
--- the words of a block: puts, takes, end left, end right and size; its super is 0, which no clause reads
-abbrev pub block : ℕ → ℕ → ℕ → ℕ → ℕ → List ℕ
-block puts takes left right size = puts ∷ takes ∷ 0 ∷ left ∷ right ∷ size ∷ []
+abbrev pub x2 : OpId
+x2 = operation 0 2
+
+-- the six words of a block: puts, takes, end left, end right and size; its super is 0, which no clause reads
+abbrev pub sixWords : ℕ → ℕ → ℕ → ℕ → ℕ → List ℕ
+sixWords puts takes left right size = puts ∷ takes ∷ 0 ∷ left ∷ right ∷ size ∷ []
 
 abbrev pub none : List ℕ
-none = block 0 0 0 0 0
+none = sixWords 0 0 0 0 0
 
--- block 1 of a leaf: a put of n, a take
-abbrev pub putOf : ℕ → List ℕ
-putOf n = block 1 0 n 0 0
+-- the words of block 1 of a leaf: a put of n, a take
+abbrev pub putBlock : ℕ → List ℕ
+putBlock n = sixWords 1 0 n 0 0
 
-abbrev pub aTake : List ℕ
-aTake = block 0 1 0 0 0
+abbrev pub takeBlock : List ℕ
+takeBlock = sixWords 0 1 0 0 0
 
 -- the table words at H = 1, L = 1: root blocks 1 and 2, and block 1 of either leaf; each block 0 is all zero
 abbrev pub table : List ℕ → List ℕ → List ℕ → List ℕ → List ℕ
 table root1 root2 left right = none ++ root1 ++ root2 ++ none ++ left ++ none ++ right
+
+-- at H = 1, L = 2: root blocks 1 to 3, and blocks 1 and 2 of the left leaf; the right leaf is empty
+abbrev pub table2 : List ℕ → List ℕ → List ℕ → List ℕ → List ℕ → List ℕ
+table2 root1 root2 root3 left1 left2 = none ++ root1 ++ root2 ++ root3 ++ none ++ none ++ left1 ++ left2 ++ none ++ none ++ none
 
 -- the bytes of an answer: process, kind, steps, value, serial and root block
 abbrev pub bytes : ℕ → ℕ → ℕ → ℕ → ℕ → ℕ → List ℕ
@@ -71,21 +81,31 @@ lost o left right log k = omega (arith, k .finishedOnce x refl)
 
 -- atMostOnce: x has not finished, and stands in root blocks 1 and 3, as the end in block 2 goes back from 1 to e = 0
 abbrev pub threeBlocks : ℕ → List ℕ
-threeBlocks e = none ++ block 1 0 1 0 1 ++ block 2 0 e 0 1 ++ block 3 0 1 0 2 ++ none ++ none ++ putOf 7 ++ none ++ none ++ none ++ none
+threeBlocks e = table2 (sixWords 1 0 1 0 1) (sixWords 2 0 e 0 1) (sixWords 3 0 1 0 2) (putBlock 7) none
 
 pub twice : Refuted (shape 1 2) (opens x (Put 7) ∷ []) (threeBlocks 0)
 unfolding rules
 twice log k = omega (arith, k .atMostOnce x)
 
 -- atMostOnce: x stands in root block 1 as a put and as a take, as its leaf's block adds both
-pub ofBothKinds : Refuted (shape 1 1) (opens x (Put 7) ∷ []) (table (block 1 1 1 0 2) none (block 1 1 7 0 0) none)
+pub ofBothKinds : Refuted (shape 1 1) (opens x (Put 7) ∷ []) (table (sixWords 1 1 1 0 2) none (sixWords 1 1 7 0 0) none)
 unfolding rules
 ofBothKinds log k = omega (arith, k .atMostOnce x)
 
--- nothingElse: x stands in root block 1, and no record opened it
-pub unopened : (h : List Event) → isOpened x h ≡ false → Refuted (shape 1 1) h (table (block 0 1 1 0 0) none aTake none)
+-- nothingElse: x stands in root block 1, and no record opened it: none opened any; one opened an operation of another
+-- process; one opened another of its process
+abbrev pub withoutX : List (List Event)
+withoutX = [] ∷ (opens y Take ∷ []) ∷ (opens x2 Take ∷ []) ∷ []
+
+abbrev pub takeOfX : List ℕ
+takeOfX = table (sixWords 0 1 1 0 0) none takeBlock none
+
+pub unopened : All (λ h. Refuted (shape 1 1) h takeOfX) withoutX
 unfolding rules
-unopened h e log k = true≢false (sym (k .nothingElse x (omega arith)) ∙ e)
+unopened = (on refl, (on refl, (on refl, tt)))
+  where
+    on : {h : List Event} → isOpened x h ≡ false → Refuted (shape 1 1) h takeOfX
+    on e log k = true≢false (sym (k .nothingElse x (omega arith)) ∙ e)
 
 -- ---- the answers are those of the plain queue fed the root order, in the order of the Q's
 
@@ -94,7 +114,7 @@ abbrev pub overlapping : List Event
 overlapping = opens x (Put 7) ∷ opens y Take ∷ moves x ∷ moves y ∷ finishes y ∷ moves x ∷ finishes x ∷ []
 
 abbrev pub inTwoBlocks : List ℕ
-inTwoBlocks = table (block 1 0 1 0 1) (block 1 1 1 1 0) (putOf 7) aTake
+inTwoBlocks = table (sixWords 1 0 1 0 1) (sixWords 1 1 1 1 0) (putBlock 7) takeBlock
 
 abbrev pub rightLog : List ℕ
 rightLog = bytes 1 2 2 7 1 2 ++ bytes 0 1 3 0 1 1
@@ -141,7 +161,7 @@ abbrev pub twoPuts : List Event
 twoPuts = opens x (Put 7) ∷ opens y (Put 8) ∷ finishes y ∷ []
 
 abbrev pub lastSize : ℕ → List ℕ
-lastSize n = table (block 1 0 1 0 1) (block 2 0 1 1 n) (putOf 7) (putOf 8)
+lastSize n = table (sixWords 1 0 1 0 1) (sixWords 2 0 1 1 n) (putBlock 7) (putBlock 8)
 
 -- endSize: no other size than 2 will do; one too large, one too small
 pub noOtherSize : (n : ℕ) (log : List ℕ) → Kept (shape 1 1) twoPuts log (lastSize n) → n ≡ 2
@@ -161,14 +181,30 @@ abbrev pub apart : List Event
 apart = opens x (Put 7) ∷ finishes x ∷ opens y Take ∷ finishes y ∷ []
 
 -- realTime: both in one block, where the put comes first in root order all the same
-pub inOneBlock : Refuted (shape 1 1) apart (table (block 1 1 1 1 0) none (putOf 7) aTake)
+pub inOneBlock : Refuted (shape 1 1) apart (table (sixWords 1 1 1 1 0) none (putBlock 7) takeBlock)
 unfolding rules
 inOneBlock log k = omega (arith, k .realTime x y 1 1 (omega arith) (omega arith) refl (omega arith) (omega arith))
 
 -- realTime: the take in the earlier block
-pub turnedRound : Refuted (shape 1 1) apart (table (block 0 1 0 1 0) (block 1 1 1 1 1) (putOf 7) aTake)
+pub turnedRound : Refuted (shape 1 1) apart (table (sixWords 0 1 0 1 0) (sixWords 1 1 1 1 1) (putBlock 7) takeBlock)
 unfolding rules
 turnedRound log k = omega (arith, k .realTime x y 2 1 (omega arith) (omega arith) refl (omega arith) (omega arith))
+
+-- realTime: a take that finished before a put began, both in one block; the put has not finished, and the take gets 7
+abbrev pub takeThenPut : List Event
+takeThenPut = opens x Take ∷ finishes x ∷ opens y (Put 7) ∷ []
+
+pub valueToCome : Refuted (shape 1 1) takeThenPut (table (sixWords 1 1 1 1 0) none takeBlock (putBlock 7))
+unfolding rules
+valueToCome log k = omega (arith, k .realTime x y 1 1 (omega arith) (omega arith) refl (omega arith) (omega arith))
+
+-- realTime: two operations of one process in one block
+abbrev pub inTurn : List Event
+inTurn = opens x (Put 7) ∷ finishes x ∷ opens x2 Take ∷ finishes x2 ∷ []
+
+pub ofOneProcess : Refuted (shape 1 2) inTurn (table2 (sixWords 1 1 2 0 0) none none (putBlock 7) (sixWords 1 1 0 0 0))
+unfolding rules
+ofOneProcess log k = omega (arith, k .realTime x x2 1 1 (omega arith) (omega arith) refl (omega arith) (omega arith))
 
 -- ---- no operation takes more than 36H + 1 steps of its own
 
@@ -196,7 +232,7 @@ steps74 t = tooMany (shape 2 1) t 73 (finishes x ∷ []) (omega arith)
 -- x in root block 1; the end in block 2 kept at 1; x opened; the right log; size 2; the put in root block 1 and the
 -- take in root block 2; 37 and 73 steps
 pub putRight :
-    (times x (rootOperations (shape 1 1) (table (block 1 0 1 0 1) none (putOf 7) none)) ≡ 1)
+    (times x (rootOperations (shape 1 1) (table (sixWords 1 0 1 0 1) none (putBlock 7) none)) ≡ 1)
     × (times x (rootOperations (shape 1 2) (threeBlocks 1)) ≡ 1)
     × (isOpened x (opens x Take ∷ []) ≡ true)
     × (rightLog ≡ logBytes (map (queueRecord (shape 1 1) inTwoBlocks overlapping) (finishing overlapping)))
@@ -210,19 +246,16 @@ putRight = (refl, refl, refl, refl, refl, refl, refl, refl, refl)
 
 -- ---- step records in the place of a history
 
--- process, kind and value; a put of 7 by 0, then a take by 1, 15 steps each
-abbrev pub oneRecord : ℕ → ℕ → ℕ → StepRecord
-oneRecord k kind v = record { process = k; kind = kind; zeros = 0; value = v }
-
+-- a put of 7 by process 0, then a take by 1, 15 steps each
 abbrev pub putThenTake : List StepRecord
-putThenTake = oneRecord 0 1 7 ∷ replicate 15 (oneRecord 0 0 0) ++ oneRecord 1 2 0 ∷ replicate 15 (oneRecord 1 0 0)
+putThenTake = stepRecords (beginPut 7 0 ++ steps 15 0 ++ beginTake 1 ++ steps 15 1)
 
 -- the table cleared and left
 pub cleared : (log : List ℕ) → Demand3 2 1 putThenTake log (replicate 42 0) → ⊥
-unfolding rules
+unfolding rules beginPut beginTake steps
 cleared log k = omega (arith, k .finishedOnce x refl)
 
 -- every take 'none'
 pub everyTakeNone : Demand3 2 1 putThenTake (bytes 0 1 15 0 1 1 ++ bytes 1 3 15 0 1 2) inTwoBlocks → ⊥
-unfolding rules
+unfolding rules beginPut beginTake steps
 everyTakeNone k = unequal (bytes 0 1 15 0 1 1 ++ bytes 1 2 15 7 1 2) _ refl refl (k .answered)

@@ -1,8 +1,9 @@
--- Histories that are not linearizable or not wait-free: each clause helps to refute one; a weaker one would not.
-use Prim.Native.Nat.{ℕ, zero, suc, _≤_}
+-- Histories that are not linearizable or not wait-free: each clause helps to refute one, and each weaker clause that a
+-- mistakes/weak_*.edit puts in its place would let one of them pass.
+use Prim.Native.Nat.{ℕ, zero, suc, _≤_, _<_}
 use native.Mathlib.Omega.{arith}
-use mathlib.Core.Path.{_≡_, refl, sym, _∙_, subst⁻¹}
-use mathlib.Core.Bool.{Bool, true, false, _||_, false≢true, and-eq-true-iff}
+use mathlib.Core.Path.{_≡_, refl, ap, sym, _∙_, subst⁻¹}
+use mathlib.Core.Bool.{Bool, true, false, _&&_, _||_, false≢true, and-eq-true-iff}
 use mathlib.Core.List.{List, [], _∷_, _++_}
 use lib.ListN.{replicate}
 use lib.Dec.{ltb, eqb}
@@ -12,14 +13,16 @@ use Rattle.base.specs.Members.{All}
 use Rattle.record.specs.declared.Reply.{Reply}
 use Rattle.record.specs.declared.Reply.the-variants.{Done, Value, Nothing}
 use Rattle.record.specs.declared.AnswerRecord.{AnswerRecord}
+use Rattle.record.specs.AnswerRecords.{replyKind}
 use Rattle.tree.specs.Order.{OpId}
 use Rattle.tree.specs.Standing.{same, times}
 use Rattle.steps.specs.declared.Operation.the-variants.{Put, Take}
 use Rattle.rules.specs.History.{Event, opens, moves, finishes, operation, isOpening, isOpened, isFinished}
+use Rattle.rules.specs.PlainQueue.{fed}
 use Rattle.rules.specs.Demand3.{queueAnswer}
 use Rattle.rules.specs.Linearizable.{response, precedes, Linearizable, WaitFree}
 use Rattle.rules.specs.All.{rules}
-use Rattle.rules.specs.NotKept.{x, y, apart, stepping, counted}
+use Rattle.rules.specs.NotKept.{x, y, x2, apart, stepping, counted}
 
 -- ---- every order of operations that a history opens
 
@@ -48,6 +51,11 @@ among P (finishes v ∷ h) w e ps = among P h w e ps
 abbrev pub Invoked : List Event → List OpId → Type 0
 Invoked h os = (w : OpId) → 1 ≤ times w os → isOpened w h ≡ true
 
+-- what is in an order is in a longer one
+more : (b : Bool) (n : ℕ) → 1 ≤ n → 1 ≤ (if b then suc n else n)
+more true n l = omega arith
+more false n l = l
+
 -- so a proof for every order goes by its first operation, which is one of them
 orders : (h : List Event) (P : List OpId → Type 0) → P [] → ((os : List OpId) → Invoked h os → P os → All (λ w. P (w ∷ os)) (opening h))
     → (os : List OpId) → Invoked h os → P os
@@ -58,28 +66,33 @@ orders h P n c (w ∷ os) i =
     (c os rest (orders h P n c os rest))
   where
     rest : Invoked h os
-    rest v l = i v (on (same v w))
-      where
-        on : (b : Bool) → 1 ≤ (if b then suc (times v os) else times v os)
-        on true = omega arith
-        on false = l
+    rest v l = i v (more (same v w) (times v os) l)
+
+-- what another precedes is in the order
+later : (v w : OpId) (os : List OpId) → precedes v w os ≡ true → 1 ≤ times w os
+unfolding rules
+later v w [] e = absurd (false≢true e)
+later v w (u ∷ os) e = more (same w u) (times w os) (on (same v u) (ltb 0 (times w os)) refl (later v w os) e)
+  where
+    on : (a b : Bool) → ltb 0 (times w os) ≡ b → (precedes v w os ≡ true → 1 ≤ times w os) → a && b || precedes v w os ≡ true → 1 ≤ times w os
+    on a true q r e = ltb-true 0 (times w os) q
+    on true false q r e = r e
+    on false false q r e = r e
+
+-- 'none' is no 'done', and no value
+notNone : (r : Reply) → replyKind r < 3 → Nothing ≡ r → ⊥
+unfolding replyKind
+notNone r l e = omega (arith, l, ap replyKind e)
 
 noValue : (n : ℕ) → Nothing ≡ Value n → ⊥
-noValue n e = let c : _≡_ {A = ℕ} 0 1 = cc in omega arith
+unfolding replyKind
+noValue n = notNone (Value n) (omega arith)
 
 -- an answer; a response is its reply, whatever its steps and its root block
 abbrev pub got : OpId → Reply → AnswerRecord
 got w r = record { process = w .process; reply = r; steps = 1; serial = w .serial; block = 1 }
 
 -- ---- a put of 7 finished before a take began: in every order the take gets 7
-
-later : (os : List OpId) → Invoked apart os → precedes x y os ≡ true → 1 ≤ times y os
-unfolding rules opening
-later = orders apart (λ os. precedes x y os ≡ true → 1 ≤ times y os) (λ e. absurd (false≢true e)) (λ os i r. (on os r (ltb 0 (times y os)) refl, ((λ e. omega arith), tt)))
-  where
-    on : (os : List OpId) → (precedes x y os ≡ true → 1 ≤ times y os) → (b : Bool) → ltb 0 (times y os) ≡ b → b || precedes x y os ≡ true → 1 ≤ times y os
-    on os r true q e = ltb-true 0 (times y os) q
-    on os r false q e = r e
 
 fromSeven : (os : List OpId) → Invoked apart os → times x os ≡ 0 → times y os ≡ 1 → queueAnswer apart y (7 ∷ []) os ≡ Value 7
 unfolding rules opening
@@ -91,7 +104,7 @@ fromEmpty : (os : List OpId) → Invoked apart os → times x os ≡ 1 → times
 unfolding rules opening
 fromEmpty =
     orders apart (λ os. times x os ≡ 1 → times y os ≡ 1 → precedes x y os ≡ true → queueAnswer apart y [] os ≡ Value 7) (λ a b p. absurd (omega arith))
-    (λ os i r. ((λ a b p. fromSeven os i (omega arith) b), ((λ a b p. absurd (omega (arith, later os i p))), tt)))
+    (λ os i r. ((λ a b p. fromSeven os i (omega arith) b), ((λ a b p. absurd (omega (arith, later x y os p))), tt)))
 
 -- responded, invoked, legal, keepsOrder: whatever the log
 pub getsSeven : (log : List AnswerRecord) → Linearizable apart log → response log y ≡ Value 7
@@ -104,6 +117,46 @@ getsSeven log l =
 pub lostValue : Linearizable apart (got x Done ∷ got y Nothing ∷ []) → ⊥
 unfolding rules
 lostValue l = noValue 7 (getsSeven (got x Done ∷ got y Nothing ∷ []) l)
+
+-- responded, invoked, legal: and the put responds 'done'
+pub putIsDone : (log : List AnswerRecord) → Linearizable apart log → response log x ≡ Done
+unfolding rules opening
+putIsDone log l = l .legal x refl ∙ inOrder (l .order) (l .invoked) (omega (arith, l .responded x refl)) []
+  where
+    inOrder : (os : List OpId) → Invoked apart os → 1 ≤ times x os → (q : List ℕ) → queueAnswer apart x q os ≡ Done
+    inOrder =
+        orders apart (λ os. 1 ≤ times x os → (q : List ℕ) → queueAnswer apart x q os ≡ Done) (λ a q. absurd (omega arith))
+        (λ os i r. ((λ a q. refl), ((λ a q. r a (fed Take q)), tt)))
+
+pub putGotNone : Linearizable apart (got x Nothing ∷ got y (Value 7) ∷ []) → ⊥
+unfolding rules
+putGotNone l = notNone Done (omega arith) (putIsDone (got x Nothing ∷ got y (Value 7) ∷ []) l)
+
+-- ---- a take finished before two puts began, one of another process and one of its own: in every order it gets none
+
+abbrev pub beforePuts : List Event
+beforePuts = opens x Take ∷ finishes x ∷ opens y (Put 7) ∷ opens x2 (Put 8) ∷ []
+
+-- w is in an order at most once, and x before it
+AfterX : OpId → List OpId → Type 0
+AfterX w os = (times w os ≤ 1) × (1 ≤ times w os → precedes x w os ≡ true)
+
+nothingFrom : (os : List OpId) → Invoked beforePuts os → AfterX y os → AfterX x2 os → queueAnswer beforePuts x [] os ≡ Nothing
+unfolding rules opening AfterX
+nothingFrom =
+    orders beforePuts (λ os. AfterX y os → AfterX x2 os → queueAnswer beforePuts x [] os ≡ Nothing) (λ a b. refl)
+    (λ os i r. ((λ a b. refl), ((λ a b. absurd (omega (arith, a .0, later x y os (a .1 (omega arith))))), ((λ a b. absurd (omega (arith, b .0, later x x2 os (b .1 (omega arith))))), tt))))
+
+-- responded, once, invoked, legal, keepsOrder: whatever the log
+pub getsNone : (log : List AnswerRecord) → Linearizable beforePuts log → response log x ≡ Nothing
+unfolding rules AfterX
+getsNone log l =
+    let a : 1 ≤ times x (l .order) = omega (arith, l .responded x refl) in
+    l .legal x refl ∙ nothingFrom (l .order) (l .invoked) (l .once y, l .keepsOrder x y refl a) (l .once x2, l .keepsOrder x x2 refl a)
+
+pub gotTooSoon : (n : ℕ) → Linearizable beforePuts (got x (Value n) ∷ []) → ⊥
+unfolding rules
+gotTooSoon n l = noValue n (sym (getsNone (got x (Value n) ∷ []) l))
 
 -- ---- a put of 7 that has not finished, and two takes: they do not both get 7
 

@@ -27,7 +27,12 @@ enum-told-2 c = search needs
 standing-requires : tie.Need-standing-requires
 standing-requires c κs =
     let p = c .before .before .before .before .pre in
-    record { shape = p .0 .shape; process = c .before .before .before .before .args .k; stands = stands-as (p .0 .plays) (p .0 .width) (p .1); kind = of-takes (p .0 .plays) (p .0 .width) (p .1) (c .enum-told2 .given .1) }
+    record {
+      shape = p .0 .shape;
+      process = c .before .before .before .before .args .k;
+      stands = stands-as (p .0 .plays) (p .0 .width) (p .1);
+      kind = of-takes (p .0 .plays) (p .0 .width) (p .1) (c .enum-told2 .given .1);
+    }
 
 height-for-requires : tie.Need-height-for-requires
 height-for-requires c κs = search needs

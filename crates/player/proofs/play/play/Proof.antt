@@ -2,11 +2,10 @@
 mod Places
 mod Arms
 use native.Mathlib.Omega.{arith}
-use mathlib.Core.Path.{refl, ap, sym, _∙_}
+use mathlib.Core.Path.{refl, sym, _∙_}
 use borrow.Author.Needs.{needs}
 use borrow.Author.Tests.{not-true}
 use Rattle.steps.specs.Process.{idle}
-use Rattle.steps.specs.Machine.{isIdle}
 use Rattle.player.proofs.Loop.{loop-start, loop-narrow, loop-ends}
 use Rattle.player.proofs.StepLoop.{step-named, step-busy, step-low, step-playing, step-idle, finish-full, finish-moves}
 use Rattle.player.proofs.BeginLoop.{other-ill, begin-few, begin-busy, begin-all, begin-moves}
@@ -30,10 +29,6 @@ refused-full c =
     let f = found b in
     let busy = b .before .status .given .1 in
     rw (c .ended2 .ensures) (finish-full f (step-busy f busy refl (step-named f busy (c .before .before .enum-told15 .given .1))) (c .before .if3 .taken))
-
-busy-q : tie.Need-operation-in-requires Inv-loop μ-loop
-unfolding idle isIdle
-busy-q c κs = ap isIdle (c .before .before .before .before .before .before .before .status .given .1)
 
 ready-q : tie.Need-answer-of-requires Inv-loop μ-loop
 unfolding idle
@@ -253,7 +248,7 @@ play-spec =
     refused-full
     (λ c. record { fits = omega (arith, step-low (found (c .before .before .before))) })
     (λ c. step-low (found (c .before .before .before)))
-    busy-q
+    arms.busy-q
     ready-q
     (λ c κs. (omega (arith, few-answers (c .before .before .before .before .before)), c .answer-of .ensures .1 .0, c .answer-of .ensures .1 .1))
     (λ c κs. (omega (arith, few-answers (c .before .before .before .before .before .before .before)), c .before .before .answer-of .ensures .1 .0, c .before .before .answer-of .ensures .1 .1))

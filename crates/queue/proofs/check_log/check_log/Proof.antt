@@ -21,7 +21,8 @@ returns : tie.Need-returns
 returns c =
     let a = c .before .before .before .before .before .before .args in
     let n = c .before .before .of-check .ensures in
-    rw n (with-judges (a .p) (a .l) (a .records .now) (a .log .now) (a .table .now) _ _ (check-down (a .p) (a .l) (a .records .now) (a .log .now) (a .table .now) (ap accepted (sym n) ∙ sym (c .before .accepted .ensures) ∙ not-true (c .before .accepted .result) (c .if1 .taken))))
+    let down = ap accepted (sym n) ∙ sym (c .before .accepted .ensures) ∙ not-true (c .before .accepted .result) (c .if1 .taken) in
+    rw n (with-judges (a .p) (a .l) (a .records .now) (a .log .now) (a .table .now) _ _ (check-down (a .p) (a .l) (a .records .now) (a .log .now) (a .table .now) down))
 
 wide-requires : tie.Need-wide-requires
 wide-requires c κs = search needs

@@ -63,7 +63,9 @@ settle-requires : tie.Need-settle-requires
 settle-requires c κs = search needs
 
 moved-requires : tie.Need-moved-requires
-moved-requires c κs = (c .before .before .before .before .before .before .before .before .before .before .before .pre .0, busy _ (sym (c .before .before .before .before .before .before .before .before .before .step-in .ensures) ∙ c .before .before .before .before .before .before .before .visit .given .1) tt)
+moved-requires c κs =
+    let told = sym (c .before .before .before .before .before .before .before .before .before .step-in .ensures) ∙ c .before .before .before .before .before .before .before .visit .given .1 in
+    (c .before .before .before .before .before .before .before .before .before .before .before .pre .0, busy _ told tt)
 
 returns-2 : tie.Need-returns-2
 unfolding step go built block leftOf rightOf

@@ -33,7 +33,9 @@ advance-requires : tie.Need-advance-requires
 advance-requires c κs = search needs
 
 moved-requires : tie.Need-moved-requires
-moved-requires c κs = (search needs, busy _ (sym (c .before .before .before .before .before .before .before .before .before .before .step-in .ensures) ∙ c .before .before .before .before .before .before .before .before .visit .given .1) tt)
+moved-requires c κs =
+    let told = sym (c .before .before .before .before .before .before .before .before .before .before .step-in .ensures) ∙ c .before .before .before .before .before .before .before .before .visit .given .1 in
+    (search needs, busy _ told tt)
 
 same-length : tie.Need-same-length
 same-length c = search needs

@@ -33,7 +33,9 @@ help-requires : tie.Need-help-requires
 help-requires c κs = search needs
 
 moved-requires : tie.Need-moved-requires
-moved-requires c κs = (search needs, busy _ (sym (c .before .before .before .before .before .before .step-in .ensures) ∙ c .before .before .before .before .visit .given .1) tt)
+moved-requires c κs =
+    let told = sym (c .before .before .before .before .before .before .step-in .ensures) ∙ c .before .before .before .before .visit .given .1 in
+    (search needs, busy _ told tt)
 
 returns-2 : tie.Need-returns-2
 unfolding step go help block leftOf

@@ -25,7 +25,9 @@ resume-requires : tie.Need-resume-requires
 resume-requires c κs = search needs
 
 moved-requires : tie.Need-moved-requires
-moved-requires c κs = (search needs, busy _ (sym (c .before .before .before .before .before .before .before .before .step-in .ensures) ∙ c .before .before .before .before .before .before .after .given .1) tt)
+moved-requires c κs =
+    let told = sym (c .before .before .before .before .before .before .before .before .step-in .ensures) ∙ c .before .before .before .before .before .before .after .given .1 in
+    (search needs, busy _ told tt)
 
 same-length : tie.Need-same-length
 same-length c = search needs

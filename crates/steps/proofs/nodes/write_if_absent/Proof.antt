@@ -16,7 +16,9 @@ same-length : tie.Need-same-length
 same-length c = search needs
 
 returns : tie.Need-returns
-returns c = (rw (← c .before .before .before .before .before .before .block-at .ensures) (c .before .before .before .before .before .absent .ensures), rw (c .before .before .before .before .if1 .taken) (c .before .before .write-at .ensures))
+returns c =
+    let b = c .before .before .before .before in
+    (rw (← b .before .before .block-at .ensures) (b .before .absent .ensures), rw (b .if1 .taken) (c .before .before .write-at .ensures))
 
 same-length-2 : tie.Need-same-length-2
 same-length-2 c = search needs

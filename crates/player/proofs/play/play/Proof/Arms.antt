@@ -1,5 +1,5 @@
 -- The arms of `play`'s loop, one a named step: what the step needs, and that the loop's invariant holds after it. Used by its proof alone.
-use mathlib.Core.Path.{refl, sym}
+use mathlib.Core.Path.{refl, ap, sym}
 use Rattle.steps.specs.Process.{idle}
 use Rattle.steps.specs.Machine.{isIdle, isQ}
 use Rattle.player.proofs.StepLoop.{step-named, step-leaf, step-begins, step-ready, step-fits, step-fits-leaf, step-moves}
@@ -181,3 +181,7 @@ again-c4 c =
     let f = found b in
     step-moves f (b .before .status .given .1) (c .before .before .before .before .before .enum-told14 .given .1) refl _ _ _ refl (c .before .before .step-c4 .kept .0)
     (λ is _ placed. let e = c .before .before .step-c4 .ensures .0 _ _ is in (e .0, e .1 _ _ _ _ placed))
+
+pub busy-q : tie.Need-operation-in-requires Inv-loop μ-loop
+unfolding idle isIdle
+busy-q c κs = ap isIdle (c .before .before .before .before .before .before .before .status .given .1)
