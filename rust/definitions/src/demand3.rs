@@ -1,5 +1,6 @@
 //! Rows of the terms of demand 3: what the reference says of lists that Run takes whole.
 
+use crate::fixed_bytes::WIDE;
 use crate::row::Row;
 use crate::taken::Taken;
 use reference::known_runs::{m3, m5, m6};
@@ -9,7 +10,7 @@ use reference::schedules::{schedule, Ending, Pace, Plan};
 
 /// The terms on lists of the known runs, and their like.
 pub fn rows() -> Vec<Row> {
-    let unfinished = List::new().put(0, 5).steps(0, 15).take(1).steps(1, 14);
+    let unfinished = List::new().put(0, WIDE).steps(0, 15).take(1).steps(1, 14);
     let unfinished = unfinished.put(0, 6).steps(0, 2);
     let of_eight = List::new().take(7).steps(7, 39).put(0, 1).steps(0, 1);
     let lists = [

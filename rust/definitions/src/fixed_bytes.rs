@@ -6,7 +6,7 @@ use crate::terms;
 use reference::records::{Answer, Kind, OrderRecord, Outcome};
 
 /// Each byte of a 32-bit field is another.
-const WIDE: u32 = 0x0403_0201;
+pub const WIDE: u32 = 0x0403_0201;
 
 pub fn rows() -> Vec<Row> {
     let mut rows = Vec::new();

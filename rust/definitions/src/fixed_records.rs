@@ -1,6 +1,7 @@
 //! Fixed calls whose records are refused, and those that run out of answer bytes or of output.
 
 use crate::call::{kept_bytes, Call};
+use crate::fixed_bytes::WIDE;
 use crate::row::Row;
 use reference::lists::List;
 
@@ -25,9 +26,9 @@ fn then(list: List, record: [u8; 8]) -> Vec<u8> {
     [list.bytes(), record.to_vec()].concat()
 }
 
-/// A put alone, whole at p = 2.
+/// A put alone, whole at p = 2, of a value whose bytes differ.
 pub fn one_put() -> List {
-    List::new().put(0, 1).steps(0, 15)
+    List::new().put(0, WIDE).steps(0, 15)
 }
 
 /// Two operations, one after the other, whole at p = 2.
