@@ -28,7 +28,7 @@ pub written-fits : (out : List ℕ) (xs : List AnswerRecord) → answerSize * le
 unfolding written
 written-fits out xs h = rw (take-all (length out) (logBytes xs) (rw log-length h))
 
-pub written-length : (out : List ℕ) (xs : List AnswerRecord) → (length out ≡ 0) ⊎ (answerSize * length xs ≤ length out) → length (written out xs) ≡ length out
+written-length : (out : List ℕ) (xs : List AnswerRecord) → (length out ≡ 0) ⊎ (answerSize * length xs ≤ length out) → length (written out xs) ≡ length out
 written-length out xs (inl z) = ap length (written-nowhere out xs z)
 written-length out xs (inr h) = rw (written-fits out xs h) (simp (length-append, length-drop, log-length) (omega arith))
 
