@@ -7,7 +7,7 @@ use Rattle.record.specs.declared.Reply.{Reply}
 use Rattle.record.specs.declared.Reply.the-variants.{Done}
 use Rattle.record.specs.declared.AnswerRecord.{AnswerRecord}
 use Rattle.tree.specs.declared.Kind.the-variants.{Takes}
-use Rattle.tree.specs.Shape.{Shape, processes, root, leafOf}
+use Rattle.tree.specs.Shape.{Shape, processes, root, leafOf, heightFor}
 use Rattle.tree.specs.Memory.{Memory, headOf, block}
 use Rattle.tree.specs.Order.{total}
 use Rattle.tree.proofs.Sound.{below-head}
@@ -19,13 +19,12 @@ use Rattle.steps.specs.declared.Status.{Status}
 use Rattle.steps.specs.declared.Status.the-variants.{Busy}
 use Rattle.steps.specs.declared.Step.the-variants.{Q}
 use Rattle.steps.specs.declared.Process.{Process}
-use Rattle.steps.specs.Contracts.Settled.{Settles}
+use Rattle.tree.specs.Contracts.SoundTree.{SoundTree}
 use Rattle.steps.proofs.Stages.{stageOf}
 use Rattle.steps.proofs.Progress.{Rooted, Way}
 use Rattle.steps.proofs.Invariant.{holding}
-use Rattle.steps.proofs.Places.{processes-most}
-use Rattle.rules.specs.Refusals.{heightFor}
-use Rattle.rules.specs.Answer.{takeReply, replyOf, answerOf}
+use Rattle.tree.proofs.Places.{processes-most}
+use Rattle.calls.specs.Answer.{takeReply, replyOf, answerOf}
 use Rattle.search.specs.declared.Standing.{Standing}
 use Rattle.search.specs.Contracts.Stands.{StandsAs, InBlock, OfKind, StandsAt}
 use Rattle.answer.specs.Contracts.Playing.{machineOf, Plays}
@@ -55,7 +54,7 @@ module _ {s : Shape} {ps : List Process} {starts heads table : List ℕ} {k : �
   unfolding processes
   height-is = rw (← width) (height-by (s .height) (plays .inner) (plays .tall))
 
-  settles : Settles s starts heads table
+  settles : SoundTree s starts heads table
   settles =
       record {
         inner = plays .inner;

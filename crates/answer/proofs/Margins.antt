@@ -9,7 +9,7 @@ use lib.Dec.{ltb}
 use lib.IntN.{ℤ, pos, negsuc, _+ℤ_, _-ℤ_}
 use lib.Signed.{mag, ltZ}
 use Rattle.record.specs.declared.Reply.the-variants.{Value, Nothing}
-use Rattle.rules.specs.Answer.{byMargin}
+use Rattle.calls.specs.Answer.{byMargin}
 
 mag-by : (a b m : ℕ) → a < m → b < m → (t : Bool) → ltb a (suc b) ≡ t → mag (cond t (negsuc (suc b - suc a)) (pos (a - suc b))) < m
 mag-by a b m h k true e = omega arith

@@ -19,10 +19,10 @@ use Rattle.tree.specs.Memory.{Memory, block}
 use Rattle.tree.specs.Order.{total, lastRoot}
 use Rattle.tree.proofs.Sound.{totals-rise}
 use Rattle.tree.proofs.LastRoot.{node-root, root-sound, root-written}
-use Rattle.steps.specs.Contracts.Ready.{HasPlace, nodeBlock}
-use Rattle.steps.proofs.Places.{places-most}
-use Rattle.rules.specs.Answer.{margin, putNumber, valueOf, takeReply}
-use Rattle.rules.proofs.RootQueue.{size-within}
+use Rattle.tree.specs.Contracts.Access.{HasPlace, nodeBlock}
+use Rattle.tree.proofs.Places.{places-most}
+use Rattle.calls.specs.Answer.{margin, putNumber, valueOf, takeReply}
+use Rattle.calls.proofs.RootQueue.{size-within}
 use Rattle.search.specs.Contracts.Numbered.{NumberedAs, ValueAt}
 use Rattle.search.proofs.Words.{node-reads, written-place}
 use Rattle.answer.specs.Contracts.Answering.{TakenAs}

@@ -2,11 +2,11 @@
 use crate::replies::take_reply;
 use record::AnswerRecord;
 use record::Reply;
-use refusals::sooner::height_for;
 use search::climb::root_block;
 use search::climb::standing;
 use steps::Operation;
 use steps::Process;
+use tree::layout::height_for;
 ghost use mathlib.Core.Path.{_≡_};
 ghost use mathlib.Core.List.{List};
 ghost use Prim.Native.Nat.{_<_};
@@ -14,7 +14,7 @@ ghost use Rattle.tree.specs.Shape.{Shape, processes};
 ghost use Rattle.steps.specs.declared.Process.{Process as Proc};
 ghost use Rattle.steps.specs.declared.Status.the-variants.{Busy};
 ghost use Rattle.steps.specs.declared.Step.the-variants.{Q};
-ghost use Rattle.rules.specs.Answer.{answerOf};
+ghost use Rattle.calls.specs.Answer.{answerOf};
 ghost use Rattle.answer.specs.Contracts.Playing.{machineOf, Plays, Playing};
 ghost use Rattle.answer.specs.Contracts.Answering.{recordOf};
 

@@ -2,12 +2,12 @@
 use crate::margin::margin;
 use record::Reply;
 use search::find::put_value;
-use steps::nodes::block_at;
+use tree::access::block_at;
 ghost use mathlib.Core.Path.{_≡_};
 ghost use mathlib.Core.List.{List};
 ghost use Prim.Native.Nat.{ℕ};
 ghost use Rattle.tree.specs.Shape.{Shape};
-ghost use Rattle.rules.specs.Answer.{takeReply};
+ghost use Rattle.calls.specs.Answer.{takeReply};
 ghost use Rattle.answer.specs.Contracts.Answering.{TakenAs, Taken};
 
 // The reply of the i-th take of root block b. The root is node 1. Where the margin is not below 0, the put with that number is in the root blocks up to b.

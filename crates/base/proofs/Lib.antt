@@ -5,3 +5,5 @@ pub mod Stores
 pub mod Gather
 pub mod Repeats
 pub mod Beginnings
+pub mod Stored
+pub mod Entries

@@ -3,8 +3,8 @@ use Prim.Native.Nat.{ℕ, zero, suc, _+_, _≤_, _<_}
 use native.Mathlib.Omega.{arith}
 use native.Mathlib.Decide.{decLt, ℕ-discrete}
 use native.Mathlib.Nat.{not-suc-le-zero, le-refl, suc-add, add-suc, add-zero}
-use mathlib.Core.Path.{_≡_, refl, _∙_}
-use mathlib.Core.List.{List, [], _∷_}
+use mathlib.Core.Path.{_≡_, refl, ap, _∙_}
+use mathlib.Core.List.{List, [], _∷_, _++_}
 use lib.ListN.{length, getD, set, length-set}
 use lib.Seq.{sets, getD-set-same, getD-set-other, set-out}
 
@@ -20,6 +20,11 @@ pub sets-here : (vs l : List ℕ) (a k : ℕ) → a + length vs ≤ length l →
 sets-here [] l a k fits h = absurd (not-suc-le-zero h)
 sets-here (v ∷ vs) l a zero fits h = rw add-zero (sets-before vs (set l a v) (suc a) a (le-refl _) ∙ getD-set-same l a v 0 (omega arith))
 sets-here (v ∷ vs) l a (suc k) fits h = rw (add-suc, ← suc-add) (sets-here vs (set l a v) (suc a) k (rw length-set (omega arith)) (omega arith))
+
+-- a run of stores that follows another makes one run with it
+pub runs : (l xs ys : List ℕ) (i j : ℕ) → i + length xs ≡ j → sets (sets l i xs) j ys ≡ sets l i (xs ++ ys)
+runs l [] ys i j e = ap (λ (k : ℕ). sets l k ys) (omega arith)
+runs l (x ∷ xs) ys i j e = runs (set l i x) xs ys (suc i) j (omega arith)
 
 -- an entry after one store is the new one, if it stands there, or what it was; a store past the end changes nothing
 pub set-cases : {A : Type 0} (P : A → Type 0) (l : List A) (u v : ℕ) (x d : A) → (v ≡ u → P x) → P (getD l v d) → P (getD (set l u x) v d)

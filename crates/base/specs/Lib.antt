@@ -2,3 +2,4 @@ pub mod Choice
 pub mod Between
 pub mod Beginning
 pub mod Members
+pub mod Contracts

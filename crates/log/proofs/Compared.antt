@@ -12,10 +12,10 @@ use Rattle.base.specs.Choice.{if_then_else_}
 use Rattle.base.proofs.Cases.{cases, and-true, contradiction}
 use Rattle.record.specs.declared.AnswerRecord.{AnswerRecord}
 use Rattle.record.specs.AnswerRecords.{answerSize, answerBytes}
-use Rattle.rules.specs.declared.Verdict.{Verdict}
-use Rattle.rules.specs.declared.Verdict.the-variants.{Same, Differs}
-use Rattle.rules.specs.Refusals.{torn}
-use Rattle.rules.specs.CheckLog.{sameBytes, compared}
+use Rattle.calls.specs.declared.Verdict.{Verdict}
+use Rattle.calls.specs.declared.Verdict.the-variants.{Same, Differs}
+use Rattle.calls.specs.Refusals.{torn}
+use Rattle.calls.specs.CheckLog.{sameBytes, compared}
 use Rattle.log.specs.Contracts.Leading.{leading, leadingOf, verdictOf}
 use Rattle.log.proofs.Cuts.{recordsOf, records-length}
 use Rattle.log.proofs.Counted.{counts}

@@ -12,8 +12,8 @@ use borrow.Author.Tests.{leb-true, leb-false, eqb-true, eqb-false}
 use Rattle.base.specs.Choice.{if_then_else_}
 use Rattle.record.specs.declared.AnswerRecord.{AnswerRecord}
 use Rattle.record.specs.AnswerRecords.{answerSize, answerBytes}
-use Rattle.rules.specs.CheckLog.{sameBytes}
-use Rattle.rules.specs.LogVerdict.{recordAt}
+use Rattle.calls.specs.CheckLog.{sameBytes}
+use Rattle.calls.specs.LogVerdict.{recordAt}
 use Rattle.log.specs.Contracts.Leading.{leading, leadingOf, countAfter}
 use Rattle.record.proofs.Cuts.{cut-at}
 use Rattle.log.proofs.Cuts.{recordsOf, records-length, no-record}

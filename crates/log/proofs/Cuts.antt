@@ -11,9 +11,9 @@ use Rattle.record.specs.declared.AnswerRecord.{AnswerRecord}
 use Rattle.record.specs.AnswerRecords.{answerSize, answerBytes}
 use Rattle.record.proofs.Cuts.{cut-length}
 use Rattle.record.proofs.Lengths.{answer-length}
-use Rattle.rules.specs.CheckLog.{sameBytes}
-use Rattle.rules.specs.LogVerdict.{recordAt}
-use Rattle.rules.proofs.SameBytes.{unequal-not-same}
+use Rattle.calls.specs.CheckLog.{sameBytes}
+use Rattle.calls.specs.LogVerdict.{recordAt}
+use Rattle.calls.proofs.SameBytes.{unequal-not-same}
 
 abbrev pub recordsOf : List ℕ → List (List ℕ)
 recordsOf log = cut answerSize (length log / answerSize) log

@@ -3,7 +3,7 @@ use record::AnswerRecord;
 ghost use mathlib.Core.Path.{_≡_};
 ghost use Prim.Native.Nat.{_+_, _*_, _≤_, _<_};
 ghost use lib.ListN.{length, take, drop};
-ghost use Rattle.rules.specs.CheckLog.{sameBytes};
+ghost use Rattle.calls.specs.CheckLog.{sameBytes};
 ghost use Rattle.log.specs.Contracts.Leading.{countAfter, verdictOf};
 
 // Whether sixteen bytes are those from an index on.
@@ -34,7 +34,7 @@ pub fn equal_after(log: &[u8], n: usize, equal: usize, a: AnswerRecord) -> usize
         return equal;
     }
     let mut bytes = [0u8; 16];
-    record::answers::put_answer(&mut bytes, 0, a);
+    record::answer_records::put_answer(&mut bytes, 0, a);
     if same_sixteen(&bytes, log, at) {
         return equal + 1;
     }
@@ -43,15 +43,15 @@ pub fn equal_after(log: &[u8], n: usize, equal: usize, a: AnswerRecord) -> usize
 
 // What checking a log of so many bytes finds, when `equal` records at the beginning are those of the answers: the same log, if these are all records of both. A log has whole
 // records here, so its bytes tell how many they are.
-pub fn verdict(equal: usize, answers: usize, bytes: usize) -> rules::Verdict
+pub fn verdict(equal: usize, answers: usize, bytes: usize) -> calls::Verdict
     requires { ⌜ 16 * answers < 18446744073709551616 ⌝ }
     ensures { λ r. ⌜ r ≡ verdictOf equal answers bytes ⌝ }
 {
     if equal != answers {
-        return rules::Verdict::Differs(equal as u64);
+        return calls::Verdict::Differs(equal as u64);
     }
     if 16 * answers != bytes {
-        return rules::Verdict::Differs(equal as u64);
+        return calls::Verdict::Differs(equal as u64);
     }
-    rules::Verdict::Same
+    calls::Verdict::Same
 }

@@ -11,6 +11,6 @@ pub fn write_answer(out: &mut [u8], n: usize, a: AnswerRecord)
 {
     let at = 16 * n;
     if at + 16 <= out.len() {
-        record::answers::put_answer(out, at, a);
+        record::answer_records::put_answer(out, at, a);
     }
 }

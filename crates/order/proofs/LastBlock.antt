@@ -13,16 +13,17 @@ use Rattle.tree.specs.Shape.{Shape, root}
 use Rattle.tree.specs.Blocks.{absent}
 use Rattle.tree.specs.Memory.{Memory, headOf, block}
 use Rattle.tree.specs.Order.{lastRoot}
-use Rattle.tree.proofs.Nodes.{Node, root-node}
-use Rattle.tree.proofs.Presence.{count, Present, Written, absent-count, present-count}
+use Rattle.tree.specs.Contracts.Invariant.{Node, count, Present, Written}
+use Rattle.tree.proofs.Nodes.{root-node}
+use Rattle.tree.proofs.Presence.{absent-count, present-count}
 use Rattle.tree.proofs.LastRoot.{root-sound, last-written, last-most, last-head, head-last}
-use Rattle.steps.specs.Contracts.Ready.{HasPart, HasPlace, nodeBlock}
-use Rattle.steps.specs.Contracts.Settled.{Settles}
-use Rattle.rules.specs.ListOrder.{orderList}
+use Rattle.tree.specs.Contracts.Access.{HasPart, HasPlace, nodeBlock}
+use Rattle.tree.specs.Contracts.SoundTree.{SoundTree}
+use Rattle.order.specs.OrderList.{orderList}
 use Rattle.order.proofs.Reading.{memory, node-head, node-part, node-reads, node-small, written-place}
 use Rattle.order.proofs.RootRecords.{list-count}
 
-module _ {s : Shape} {starts heads table : List ℕ} (q : Settles s starts heads table) where
+module _ {s : Shape} {starts heads table : List ℕ} (q : SoundTree s starts heads table) where
   -- ---- the root
   node : Node s 1
   node = root-node s

@@ -12,7 +12,7 @@ use Rattle.tree.specs.Shape.{Shape, leafOf}
 use Rattle.tree.specs.Memory.{block}
 use Rattle.tree.specs.Order.{opened, placed}
 use Rattle.tree.proofs.Levels.{level-leaf}
-use Rattle.rules.specs.ListOrder.{kindNumber, orderRecord}
+use Rattle.order.specs.OrderList.{kindNumber, orderRecord}
 use Rattle.order.specs.declared.Listing.{Listing}
 use Rattle.order.specs.declared.Subtree.{Subtree}
 use Rattle.order.specs.Contracts.Opens.{leafAt, addsTo, BlockOf}

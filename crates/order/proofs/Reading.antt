@@ -6,17 +6,16 @@ use mathlib.Core.List.{List}
 use lib.ListN.{length}
 use Rattle.tree.specs.Shape.{Shape, lastPlace}
 use Rattle.tree.specs.Memory.{Memory, block}
-use Rattle.tree.proofs.Nodes.{Node}
-use Rattle.tree.proofs.Presence.{count, Written}
+use Rattle.tree.specs.Contracts.Invariant.{Node, count, Written}
 use Rattle.tree.proofs.Sound.{place-count}
-use Rattle.steps.specs.Contracts.Ready.{HasPart, HasPlace, nodeBlock}
-use Rattle.steps.specs.Contracts.Settled.{Settles}
-use Rattle.steps.proofs.Places.{processes-most, places-most, headed, has-part, has-place, reads, small}
+use Rattle.tree.specs.Contracts.Access.{HasPart, HasPlace, nodeBlock}
+use Rattle.tree.specs.Contracts.SoundTree.{SoundTree}
+use Rattle.tree.proofs.Places.{processes-most, places-most, headed, has-part, has-place, reads, small}
 
 abbrev pub memory : List ℕ → List ℕ → Memory
 memory heads table = record { table = table; heads = heads }
 
-module _ {s : Shape} {starts heads table : List ℕ} (q : Settles s starts heads table) (v : ℕ) (n : Node s v) where
+module _ {s : Shape} {starts heads table : List ℕ} (q : SoundTree s starts heads table) (v : ℕ) (n : Node s v) where
   pub node-low : v < 16
   node-low = omega (arith, n .last, processes-most s (q .tall) (q .few))
 

@@ -13,11 +13,10 @@ use Rattle.tree.specs.declared.Kind.the-variants.{Puts, Takes}
 use Rattle.tree.specs.Shape.{Shape, processes, root}
 use Rattle.tree.specs.Memory.{Memory, block}
 use Rattle.tree.specs.Order.{Placed, placed, total, inRoot, lastRoot, blockOrder, rootOrder}
-use Rattle.tree.proofs.Presence.{count, Present}
-use Rattle.tree.proofs.Sound.{Sound}
+use Rattle.tree.specs.Contracts.Invariant.{count, Present, Sound}
 use Rattle.tree.proofs.Levels.{level-root}
 use Rattle.tree.proofs.LastRoot.{root-sound, root-present, root-length}
-use Rattle.rules.specs.ListOrder.{orderRecord, orderList}
+use Rattle.order.specs.OrderList.{orderRecord, orderList}
 use Rattle.order.specs.declared.Listing.{Listing}
 use Rattle.order.specs.declared.Subtree.{Subtree}
 use Rattle.order.specs.Contracts.Opens.{BlockOf, RootOf}

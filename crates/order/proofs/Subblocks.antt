@@ -13,12 +13,11 @@ use Rattle.tree.specs.Shape.{Shape, processes}
 use Rattle.tree.specs.Memory.{block}
 use Rattle.tree.specs.Order.{OpId, placed, opened}
 use Rattle.tree.specs.Sides.{Side, onLeft, onRight, childOf, endOf}
-use Rattle.tree.proofs.Nodes.{Node, Inner}
-use Rattle.tree.proofs.Presence.{Present}
+use Rattle.tree.specs.Contracts.Invariant.{Node, Inner, Present}
 use Rattle.tree.proofs.Levels.{Level, level-child, level-inner}
 use Rattle.tree.proofs.Opening.{openedOn, opened-inner, subblocks-rise, subblock-present}
-use Rattle.steps.specs.Contracts.Ready.{HasPlace, nodeBlock}
-use Rattle.rules.specs.ListOrder.{orderRecord}
+use Rattle.tree.specs.Contracts.Access.{HasPlace, nodeBlock}
+use Rattle.order.specs.OrderList.{orderRecord}
 use Rattle.order.specs.declared.Listing.{Listing}
 use Rattle.order.specs.declared.Subtree.{Subtree}
 use Rattle.order.specs.Contracts.Opens.{Stands, BlockOf, RangeOf}

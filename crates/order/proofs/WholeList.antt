@@ -9,7 +9,7 @@ use lib.ListN.{length, drop}
 use lib.Seq.{sets, sets-eq}
 use Rattle.tree.specs.Shape.{Shape}
 use Rattle.tree.proofs.LastRoot.{root-present}
-use Rattle.rules.specs.ListOrder.{orderList}
+use Rattle.order.specs.OrderList.{orderList}
 use Rattle.order.specs.Contracts.Settled.{Listable}
 use Rattle.order.specs.Contracts.Opens.{RootOf, TreeOf}
 use Rattle.order.specs.Contracts.Listed.{rootRecords, gathered, Room, Lists}

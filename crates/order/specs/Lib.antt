@@ -1,1 +1,2 @@
+pub mod OrderList
 pub mod Contracts

@@ -2,9 +2,9 @@
 use crate::Listing;
 use crate::Subtree;
 use record::OrderRecord;
-use record::orders;
-use steps::nodes;
+use record::order_records;
 use tree::Kind;
+use tree::access;
 use tree::blocks;
 use tree::layout;
 ghost use mathlib.Core.Path.{_≡_};
@@ -13,9 +13,9 @@ ghost use Prim.Native.Nat.{ℕ, _-_, _≤_};
 ghost use lib.ListN.{length, drop};
 ghost use Rattle.tree.specs.Shape.{Shape};
 ghost use Rattle.tree.specs.Order.{lastRoot};
-ghost use Rattle.steps.specs.Contracts.Ready.{HasPlace};
-ghost use Rattle.steps.specs.Contracts.Settled.{Settles};
-ghost use Rattle.rules.specs.ListOrder.{kindNumber, orderList};
+ghost use Rattle.tree.specs.Contracts.Access.{HasPlace};
+ghost use Rattle.tree.specs.Contracts.SoundTree.{SoundTree};
+ghost use Rattle.order.specs.OrderList.{kindNumber, orderList};
 ghost use Rattle.order.specs.Contracts.Settled.{Listable};
 ghost use Rattle.order.specs.Contracts.Opens.{leafAt, addsTo, BlockOf, RangeOf, RootOf};
 ghost use Rattle.order.specs.Contracts.Listed.{Room, Lists, blockRecords, rootRecords, gathered};
@@ -167,7 +167,7 @@ fn list_root(
 // All root blocks in order. What stands in the output past the list stays.
 pub fn write_order(table: &[u32], starts: &[usize; 17], height: usize, last: u32, out: &mut [u8])
     requires { ⌜ Listable (now starts) (now table) height last (length (now out)) ⌝ }
-    ensures { λ _. ⌜ ((s : Shape) (heads : List ℕ) → Settles s (now (starts .entry)) heads (now (table .entry)) →
+    ensures { λ _. ⌜ ((s : Shape) (heads : List ℕ) → SoundTree s (now (starts .entry)) heads (now (table .entry)) →
         height ≡ s .height → last ≡ lastRoot s (now (table .entry)) →
         now (out .exit) ≡ orderList s (now (table .entry)) ++ drop (length (orderList s (now (table .entry)))) (now (out .entry))) ⌝ }
 {

@@ -1,20 +1,20 @@
 // The last root block, and how long the list of the root order is.
 use steps::heads;
-use steps::nodes;
+use tree::access;
 ghost use mathlib.Core.Path.{_≡_};
 ghost use mathlib.Core.List.{List};
 ghost use Prim.Native.Nat.{ℕ, _≤_};
 ghost use lib.ListN.{length};
 ghost use Rattle.tree.specs.Shape.{Shape};
 ghost use Rattle.tree.specs.Order.{lastRoot};
-ghost use Rattle.steps.specs.Contracts.Settled.{Settles};
-ghost use Rattle.rules.specs.ListOrder.{orderList};
+ghost use Rattle.tree.specs.Contracts.SoundTree.{SoundTree};
+ghost use Rattle.order.specs.OrderList.{orderList};
 ghost use Rattle.order.specs.Contracts.Settled.{Settled, Rooted};
 
 // The last present root block, 0 if there is none. It stands at the root's head, where no process has raised the head past it yet, or else just before.
 pub fn last_root(heads: &[u32], table: &[u32], starts: &[usize; 17]) -> u32
     requires { ⌜ Settled (now starts) (now heads) (now table) ⌝ }
-    ensures { λ r. ⌜ ((s : Shape) → Settles s (now (starts .entry)) (now (heads .entry)) (now (table .entry)) →
+    ensures { λ r. ⌜ ((s : Shape) → SoundTree s (now (starts .entry)) (now (heads .entry)) (now (table .entry)) →
         r ≡ lastRoot s (now (table .entry))) ⌝ }
 {
     let head = heads::head_of(heads, 1);
@@ -27,7 +27,7 @@ pub fn last_root(heads: &[u32], table: &[u32], starts: &[usize; 17]) -> u32
 // The bytes of the list: eight for each operation that the last root block counts.
 pub fn list_length(table: &[u32], starts: &[usize; 17], last: u32) -> usize
     requires { ⌜ Rooted (now starts) (now table) last ⌝ }
-    ensures { λ r. ⌜ (r ≤ 32000) × ((s : Shape) (heads : List ℕ) → Settles s (now (starts .entry)) heads (now (table .entry)) →
+    ensures { λ r. ⌜ (r ≤ 32000) × ((s : Shape) (heads : List ℕ) → SoundTree s (now (starts .entry)) heads (now (table .entry)) →
         last ≡ lastRoot s (now (table .entry)) → r ≡ length (orderList s (now (table .entry)))) ⌝ }
 {
     let block = nodes::block_at(table, starts, 1, last);

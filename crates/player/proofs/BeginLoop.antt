@@ -8,14 +8,13 @@ use lib.ListN.{take, drop, getD, set}
 use Rattle.record.specs.declared.StepRecord.{StepRecord}
 use Rattle.record.specs.Bytes.{numberOf}
 use Rattle.record.specs.StepRecords.{isStep, stepRecord, stepRecords, illFormed}
-use Rattle.tree.specs.Shape.{Shape, processes}
+use Rattle.tree.specs.Shape.{Shape, processes, shapeFor}
 use Rattle.steps.specs.declared.Process.{Process}
 use Rattle.steps.specs.Process.{idle}
 use Rattle.steps.specs.Machine.{Machine, processOf, isIdle}
-use Rattle.rules.specs.declared.Refusal.{Refusal}
-use Rattle.rules.specs.declared.Refusal.the-variants.{IllFormed, BeginWhileBusy, BegunAll}
-use Rattle.rules.specs.Refusals.{shapeFor}
-use Rattle.rules.specs.Run.{play}
+use Rattle.calls.specs.declared.Refusal.{Refusal}
+use Rattle.calls.specs.declared.Refusal.the-variants.{IllFormed, BeginWhileBusy, BegunAll}
+use Rattle.calls.specs.Run.{play}
 use Rattle.answer.proofs.PlaysLaws.{begun-small}
 use Rattle.answer.specs.Contracts.Playing.{machineOf, Plays}
 use Rattle.player.specs.Contracts.Turns.{Refused, Moved, opened, TurnOf}

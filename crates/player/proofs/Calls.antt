@@ -5,11 +5,10 @@ use mathlib.Core.Path.{_≡_, ap, sym, _∙_, subst}
 use mathlib.Core.List.{List, _++_}
 use lib.ListN.{length, take, drop, getD, replicate, length-replicate}
 use lib.Seq.{take-at, drop-at}
-use Rattle.tree.specs.Shape.{Shape, processes}
+use Rattle.tree.specs.Shape.{Shape, processes, heightFor, shapeFor}
 use Rattle.tree.specs.Layout.{partStart, wordsNeeded}
-use Rattle.steps.specs.Contracts.Ready.{Laid}
-use Rattle.rules.specs.Refusals.{heightFor, shapeFor}
-use Rattle.rules.proofs.Theorem.{tall-for}
+use Rattle.tree.specs.Contracts.Access.{Laid}
+use Rattle.calls.proofs.Theorem.{tall-for}
 use Rattle.refusals.proofs.Limits.{allowed-most, allowed-width, shape-is, needed-for, short-for}
 use Rattle.player.specs.Contracts.Playing.{Callable, Starts}
 

@@ -9,22 +9,22 @@ use Rattle.record.specs.declared.StepRecord.{StepRecord}
 use Rattle.record.specs.declared.AnswerRecord.{AnswerRecord}
 use Rattle.tree.specs.Shape.{Shape, processes, leafOf}
 use Rattle.tree.specs.Memory.{Memory, block}
-use Rattle.tree.proofs.Presence.{Present}
+use Rattle.tree.specs.Contracts.Invariant.{Present}
 use Rattle.steps.specs.declared.Operation.{Operation}
 use Rattle.steps.specs.declared.Step.{Step}
 use Rattle.steps.specs.declared.Status.the-variants.{Busy}
 use Rattle.steps.specs.declared.Process.{Process}
 use Rattle.steps.specs.Process.{idle}
-use Rattle.steps.specs.Contracts.Ready.{Laid}
+use Rattle.tree.specs.Contracts.Access.{Laid}
 use Rattle.steps.specs.Machine.{Machine, processOf, withProcess}
-use Rattle.rules.specs.declared.Refusal.{Refusal}
-use Rattle.rules.specs.declared.Refusal.the-variants.{None}
-use Rattle.rules.specs.Answer.{answerOf}
-use Rattle.rules.specs.Refusals.{accepted}
-use Rattle.rules.specs.Run.{Played, refusing, play}
-use Rattle.rules.specs.History.{Event, operation, begins, does, history}
-use Rattle.rules.proofs.Agrees.{Doing}
-use Rattle.rules.proofs.Leaves.{IsBlockOf, LeavesAre}
+use Rattle.calls.specs.declared.Refusal.{Refusal}
+use Rattle.calls.specs.declared.Refusal.the-variants.{None}
+use Rattle.calls.specs.Answer.{answerOf}
+use Rattle.calls.specs.Refusals.{accepted}
+use Rattle.calls.specs.Run.{Played, refusing, play}
+use Rattle.calls.specs.History.{Event, operation, begins, does, history}
+use Rattle.calls.proofs.Agrees.{Doing}
+use Rattle.calls.proofs.Leaves.{IsBlockOf, LeavesAre}
 use Rattle.log.specs.Contracts.Leading.{leadingOf, written}
 use Rattle.answer.specs.Contracts.Playing.{machineOf, Plays}
 use Rattle.player.specs.Contracts.Turns.{Turn, Refused, Moved, Finished, rested, TurnOf}

@@ -10,19 +10,18 @@ use Rattle.record.specs.declared.StepRecord.{StepRecord}
 use Rattle.record.specs.declared.AnswerRecord.{AnswerRecord}
 use Rattle.record.specs.StepRecords.{stepRecord, stepRecords}
 use Rattle.record.proofs.Cuts.{records-length, record-at}
-use Rattle.tree.specs.Shape.{Shape, processes}
+use Rattle.tree.specs.Shape.{Shape, processes, shapeFor}
 use Rattle.tree.specs.Layout.{wordsNeeded}
 use Rattle.steps.specs.declared.Operation.{Operation}
 use Rattle.steps.specs.declared.Process.{Process}
 use Rattle.steps.specs.Process.{idle}
-use Rattle.steps.specs.Contracts.Ready.{Laid}
-use Rattle.steps.proofs.Places.{processes-most}
+use Rattle.tree.specs.Contracts.Access.{Laid}
+use Rattle.tree.proofs.Places.{processes-most}
 use Rattle.steps.specs.Machine.{Machine, start}
-use Rattle.rules.specs.declared.Refusal.{Refusal}
-use Rattle.rules.specs.declared.Refusal.the-variants.{None}
-use Rattle.rules.specs.Answer.{answerOf}
-use Rattle.rules.specs.Refusals.{shapeFor}
-use Rattle.rules.specs.Run.{atStart, play}
+use Rattle.calls.specs.declared.Refusal.{Refusal}
+use Rattle.calls.specs.declared.Refusal.the-variants.{None}
+use Rattle.calls.specs.Answer.{answerOf}
+use Rattle.calls.specs.Run.{atStart, play}
 use Rattle.log.specs.Contracts.Leading.{leadingOf, written}
 use Rattle.log.proofs.Counted.{leading-none}
 use Rattle.log.proofs.Written.{written-none}

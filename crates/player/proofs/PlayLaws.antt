@@ -12,16 +12,16 @@ use Rattle.tree.specs.Memory.{Memory}
 use Rattle.steps.specs.declared.Operation.{Operation}
 use Rattle.steps.specs.declared.Process.{Process}
 use Rattle.steps.specs.Machine.{Machine, processOf, withProcess}
-use Rattle.rules.specs.declared.Refusal.{Refusal}
-use Rattle.rules.specs.declared.Refusal.the-variants.{None}
-use Rattle.rules.specs.Answer.{answerOf}
-use Rattle.rules.specs.Refusals.{refusalNumber, accepted, recordRefusal}
-use Rattle.rules.specs.Run.{Played, takeRecord, recordAnswers, taking, refusing, playRecord, play}
-use Rattle.rules.specs.History.{begins, history}
-use Rattle.rules.proofs.Agrees.{Agrees}
-use Rattle.rules.proofs.Legal.{answersAlong}
-use Rattle.rules.proofs.Played.{played-machine, played-legal, over-stays, play-append}
-use Rattle.rules.proofs.Runs.{runs}
+use Rattle.calls.specs.declared.Refusal.{Refusal}
+use Rattle.calls.specs.declared.Refusal.the-variants.{None}
+use Rattle.calls.specs.Answer.{answerOf}
+use Rattle.calls.specs.Refusals.{refusalNumber, accepted, recordRefusal}
+use Rattle.calls.specs.Run.{Played, takeRecord, recordAnswers, taking, refusing, playRecord, play}
+use Rattle.calls.specs.History.{begins, history}
+use Rattle.calls.proofs.Agrees.{Agrees}
+use Rattle.calls.proofs.Legal.{answersAlong}
+use Rattle.calls.proofs.Played.{played-machine, played-legal, over-stays, play-append}
+use Rattle.calls.proofs.Runs.{runs}
 use Rattle.player.specs.Contracts.Turns.{Refused, Moved, Finished, rested, TurnOf}
 
 -- what the records that a run took did agrees with the machine that it left

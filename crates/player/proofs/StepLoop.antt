@@ -10,7 +10,7 @@ use Rattle.record.specs.declared.AnswerRecord.{AnswerRecord}
 use Rattle.record.specs.Bytes.{numberOf}
 use Rattle.record.specs.AnswerRecords.{answerSize}
 use Rattle.record.specs.StepRecords.{isStep, stepRecord, stepRecords, illFormed}
-use Rattle.tree.specs.Shape.{Shape, processes, leafOf}
+use Rattle.tree.specs.Shape.{Shape, processes, leafOf, shapeFor}
 use Rattle.steps.specs.declared.Operation.{Operation}
 use Rattle.steps.specs.declared.Step.{Step}
 use Rattle.steps.specs.declared.Step.the-variants.{A, V1, V2, V3, R1, R2, R3, R4, R5, C1, C2, C3, C4, Q}
@@ -18,14 +18,14 @@ use Rattle.steps.specs.declared.Status.the-variants.{Idle, Busy}
 use Rattle.steps.specs.declared.Process.{Process}
 use Rattle.steps.specs.Process.{idle}
 use Rattle.steps.specs.Rules.{step, go}
-use Rattle.steps.specs.Contracts.Ready.{Begins, Ready}
+use Rattle.tree.specs.Contracts.Access.{Begins}
+use Rattle.steps.specs.Contracts.Ready.{Ready}
 use Rattle.steps.specs.Contracts.Next.{Placed, Fits, FitsLeaf, operationIn, stepIn, moved, Moves}
-use Rattle.steps.proofs.NodeReads.{begins}
+use Rattle.tree.proofs.NodeReads.{begins}
 use Rattle.steps.specs.Machine.{isIdle, isQ}
-use Rattle.rules.specs.declared.Refusal.the-variants.{StepWhileIdle, AnswersFull}
-use Rattle.rules.specs.Answer.{answerOf}
-use Rattle.rules.specs.Refusals.{shapeFor}
-use Rattle.rules.specs.Run.{play}
+use Rattle.calls.specs.declared.Refusal.the-variants.{StepWhileIdle, AnswersFull}
+use Rattle.calls.specs.Answer.{answerOf}
+use Rattle.calls.specs.Run.{play}
 use Rattle.log.specs.Contracts.Leading.{withAnswer, countAfter}
 use Rattle.log.proofs.Counted.{count-after}
 use Rattle.log.proofs.Written.{written-after}

@@ -13,7 +13,7 @@ use Rattle.steps.specs.declared.Status.the-variants.{Busy}
 use Rattle.steps.specs.declared.Process.{Process}
 use Rattle.steps.specs.Rules.{step, go}
 use Rattle.steps.specs.Machine.{Machine, processOf, isIdle, isQ}
-use Rattle.rules.specs.declared.Refusal.the-variants.{StepWhileIdle, AnswersFull}
+use Rattle.calls.specs.declared.Refusal.the-variants.{StepWhileIdle, AnswersFull}
 use Rattle.answer.specs.Contracts.Playing.{machineOf, Plays}
 use Rattle.player.specs.Contracts.Turns.{Refused, Moved, Finished, TurnOf}
 use Rattle.steps.specs.Contracts.Next.{moved}

@@ -17,11 +17,11 @@ use Rattle.steps.specs.declared.Status.the-variants.{Busy}
 use Rattle.steps.specs.declared.Process.{Process}
 use Rattle.steps.specs.Rules.{step, go}
 use Rattle.steps.specs.Machine.{Machine, processOf, isIdle, isQ, atQ, begin, stepFrom, stepOf}
-use Rattle.rules.specs.declared.Refusal.the-variants.{None, IllFormed, BeginWhileBusy, StepWhileIdle, BegunAll, AnswersFull}
-use Rattle.rules.specs.Answer.{answersFrom, answersOf}
-use Rattle.rules.specs.Refusals.{refusalNumber, accepted, beginsWhileBusy, stepsWhileIdle, beginsAfterAll, finishesWithoutRoom, recordRefusal}
-use Rattle.rules.specs.Run.{takeRecord, recordAnswers}
-use Rattle.rules.proofs.Legal.{not-step, not-begin}
+use Rattle.calls.specs.declared.Refusal.the-variants.{None, IllFormed, BeginWhileBusy, StepWhileIdle, BegunAll, AnswersFull}
+use Rattle.calls.specs.Answer.{answersFrom, answersOf}
+use Rattle.calls.specs.Refusals.{refusalNumber, accepted, beginsWhileBusy, stepsWhileIdle, beginsAfterAll, finishesWithoutRoom, recordRefusal}
+use Rattle.calls.specs.Run.{takeRecord, recordAnswers}
+use Rattle.calls.proofs.Legal.{not-step, not-begin}
 use Rattle.steps.proofs.Inside.{is-q}
 use Rattle.player.specs.Contracts.Turns.{Refused, Moved, Finished, opened, rested, TurnOf}
 use Rattle.steps.specs.Contracts.Next.{moved}

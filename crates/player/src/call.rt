@@ -1,9 +1,9 @@
 // The records of a call, played from the start: the needed words of the table cleared, and each head 1.
 use crate::Outcome;
 use crate::play::play;
-use refusals::sooner::height_for;
-use steps::heads::wide;
+use tree::heads::wide;
 use tree::layout::clear;
+use tree::layout::height_for;
 use tree::layout::starts;
 use tree::layout::words_needed;
 ghost use mathlib.Core.Path.{_≡_};
@@ -12,8 +12,8 @@ ghost use Prim.Native.Nat.{_*_};
 ghost use lib.ListN.{length, take, drop};
 ghost use Rattle.record.specs.StepRecords.{stepRecords};
 ghost use Rattle.tree.specs.Layout.{wordsNeeded};
-ghost use Rattle.rules.specs.Refusals.{shapeFor};
-ghost use Rattle.rules.specs.Run.{play as played};
+ghost use Rattle.tree.specs.Shape.{shapeFor};
+ghost use Rattle.calls.specs.Run.{play as played};
 ghost use Rattle.player.specs.Contracts.Playing.{Callable, Leaves};
 
 // Plays the records of a call with p and l, which are allowed, and a table that is long enough. Table words past those needed stay.

@@ -3,7 +3,7 @@ pub mod call;
 pub mod play;
 pub mod records;
 
-use rules::Refusal;
+use calls::Refusal;
 
 // What playing a list of records comes to: why it ended, the records taken, the answers given, and how many answers at the beginning are equal to those of a log.
 pub struct Outcome {

@@ -4,10 +4,10 @@ use crate::records::is_idle;
 use crate::records::opened;
 use crate::records::rested;
 use answer::answers::answer_of;
+use calls::Refusal;
 use log::compare::equal_after;
 use log::write::write_answer;
 use record::bytes::word_at;
-use rules::Refusal;
 use steps::Process;
 use steps::Status;
 use steps::Step;
@@ -24,14 +24,13 @@ use steps::heads::step_r2;
 use steps::heads::step_r4;
 use steps::heads::step_v1;
 use steps::heads::step_v3;
-use steps::heads::wide;
 use steps::turn::operation_in;
+use tree::heads::wide;
 ghost use mathlib.Core.Path.{_≡_};
 ghost use lib.ListN.{length};
 ghost use Rattle.record.specs.StepRecords.{stepRecords};
-ghost use Rattle.tree.specs.Shape.{processes};
-ghost use Rattle.rules.specs.Refusals.{shapeFor};
-ghost use Rattle.rules.specs.Run.{play as played};
+ghost use Rattle.tree.specs.Shape.{processes, shapeFor};
+ghost use Rattle.calls.specs.Run.{play as played};
 ghost use Rattle.player.specs.Contracts.Playing.{Starts, Leaves};
 
 // What the loop comes to.
@@ -162,8 +161,8 @@ pub fn play(
                 }
             }
         }
-        let r = record::steps::step_record(records, at);
-        if record::steps::ill_formed(p, r) {
+        let r = record::step_records::step_record(records, at);
+        if record::step_records::ill_formed(p, r) {
             return ended(Refusal::IllFormed, i, answers, equal);
         }
         let k = wide(r.process);

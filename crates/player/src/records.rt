@@ -1,6 +1,6 @@
 // What a record makes of the process that it names.
 use record::StepRecord;
-use record::steps::is_begin_put;
+use record::step_records::is_begin_put;
 use steps::Operation;
 use steps::Process;
 use steps::Status;
@@ -8,7 +8,7 @@ use steps::Step;
 ghost use mathlib.Core.Path.{_≡_};
 ghost use Prim.Native.Nat.{_<_};
 ghost use Rattle.steps.specs.Machine.{isIdle};
-ghost use Rattle.rules.specs.Run.{operationOf};
+ghost use Rattle.calls.specs.Run.{operationOf};
 ghost use Rattle.player.specs.Contracts.Turns.{opened as openedOf, rested as restedOf};
 
 // The operation that a begin record opens.

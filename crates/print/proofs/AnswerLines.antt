@@ -10,7 +10,7 @@ use lib.Seq.{drop-drop}
 use Rattle.base.proofs.Gather.{flatMap-append}
 use Rattle.record.specs.Bytes.{cut}
 use Rattle.record.specs.AnswerRecords.{answerSize}
-use Rattle.print.specs.AnswerBytes.{answerRecord}
+use Rattle.record.specs.ReadAnswers.{answerRecord}
 use Rattle.print.specs.Lines.{answerLine, lastLine}
 use Rattle.print.specs.Printed.{answerLines}
 use Rattle.print.proofs.Lengths.{Bytes, drop-bytes, take-bytes, line-most, last-most}

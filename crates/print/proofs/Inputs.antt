@@ -7,7 +7,7 @@ use mathlib.Core.List.{List, [], _∷_, _++_, append-nil}
 use lib.ListN.{length, replicate, length-take, length-drop, drop-of-length-le}
 use lib.Seq.{take-all, take-at, drop-at}
 use borrow.Author.Tests.{lt-ltb, le-ltb}
-use Rattle.rules.specs.Run.{run}
+use Rattle.calls.specs.Run.{run}
 use Rattle.print.specs.Lines.{longLine}
 use Rattle.print.specs.Printed.{ReadFrom, runText, printRun}
 

@@ -16,7 +16,7 @@ use Rattle.record.specs.declared.AnswerRecord.{AnswerRecord}
 use Rattle.record.specs.Bytes.{numberOf}
 use Rattle.print.specs.Characters.{ascii}
 use Rattle.print.specs.Decimal.{decimal}
-use Rattle.print.specs.AnswerBytes.{replyFor, answerRecord}
+use Rattle.record.specs.ReadAnswers.{replyFor, answerRecord}
 use Rattle.print.specs.Lines.{operationName, numberField, numberFields, replyField, answerLine, lastLine}
 use Rattle.print.proofs.Digits.{decimal-most}
 

@@ -2,4 +2,4 @@ pub mod Digits
 pub mod Lengths
 pub mod AnswerLines
 pub mod Inputs
-pub mod ReadBack
+pub mod PrintedLog

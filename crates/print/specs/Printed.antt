@@ -7,8 +7,8 @@ use lib.Dec.{ltb}
 use Rattle.base.specs.Choice.{if_then_else_}
 use Rattle.record.specs.Bytes.{cut}
 use Rattle.record.specs.AnswerRecords.{answerSize}
-use Rattle.rules.specs.Run.{RunLeaves, run}
-use Rattle.print.specs.AnswerBytes.{answerRecord}
+use Rattle.calls.specs.Run.{RunLeaves, run}
+use Rattle.record.specs.ReadAnswers.{answerRecord}
 use Rattle.print.specs.Lines.{answerLine, lastLine, longLine}
 
 -- one line an answer, of the first n in some answer bytes

@@ -5,7 +5,7 @@ use record::AnswerRecord;
 use record::Reply;
 ghost use Prim.Native.Nat.{_+_, _≤_};
 ghost use lib.ListN.{length};
-ghost use Rattle.order.specs.Contracts.Listed.{Stored};
+ghost use Rattle.base.specs.Contracts.Stored.{Stored};
 ghost use Rattle.print.specs.Lines.{operationName, numberField, numberFields, replyField, answerLine, lastLine};
 
 // Put or take.

@@ -1,10 +1,10 @@
 // The whole text.
 use crate::line::put_last;
 use crate::line::put_line;
-use crate::read::answer_record;
+use record::answer_records::answer_record;
 ghost use Prim.Native.Nat.{_+_, _*_, _≤_};
 ghost use lib.ListN.{length};
-ghost use Rattle.order.specs.Contracts.Listed.{Stored};
+ghost use Rattle.base.specs.Contracts.Stored.{Stored};
 ghost use Rattle.print.specs.Printed.{answerLines, printed};
 
 // One line an answer. A line has at most 48 bytes.

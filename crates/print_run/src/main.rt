@@ -7,7 +7,7 @@ ghost use mathlib.Core.Path.{_≡_};
 ghost use mathlib.Core.List.{List, _++_};
 ghost use Prim.Native.Nat.{ℕ, _<_};
 ghost use Rattle.io.specs.Counts.{Counts};
-ghost use Rattle.order.specs.Contracts.Listed.{Stored};
+ghost use Rattle.base.specs.Contracts.Stored.{Stored};
 ghost use Rattle.print.specs.Printed.{printRun, ReadFrom};
 
 // Writes the text of every input of which this was read: `records`, the bytes that the record buffer holds, and `next`, the byte after them, if there is one. The longest text has

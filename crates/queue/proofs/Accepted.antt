@@ -7,9 +7,10 @@ use mathlib.Core.Bool.{true}
 use lib.ListN.{length, take, replicate}
 use lib.Seq.{length-take-le}
 use Rattle.base.proofs.Repeats.{take-replicate}
-use Rattle.steps.proofs.Places.{processes-most}
-use Rattle.rules.specs.Refusals.{accepted, shapeFor, callRefusal}
-use Rattle.rules.proofs.CallAccepted.{accepted-processes, accepted-operations, accepted-enough}
+use Rattle.tree.proofs.Places.{processes-most}
+use Rattle.calls.specs.Refusals.{accepted, callRefusal}
+use Rattle.tree.specs.Shape.{shapeFor}
+use Rattle.calls.proofs.CallAccepted.{accepted-processes, accepted-operations, accepted-enough}
 use Rattle.refusals.proofs.Limits.{allowed-most, allowed-width, short-for}
 use Rattle.player.specs.Contracts.Playing.{Callable}
 

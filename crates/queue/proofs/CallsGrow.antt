@@ -7,11 +7,11 @@ use lib.ListN.{take}
 use Rattle.base.specs.Beginning.{IsBeginning}
 use Rattle.tree.specs.Layout.{wordsNeeded}
 use Rattle.tree.specs.Order.{rootOrder}
-use Rattle.rules.specs.Refusals.{shapeFor}
-use Rattle.rules.specs.Run.{run}
-use Rattle.rules.specs.ListOrder.{listOrder}
-use Rattle.rules.specs.Continuation.{orderLeft, listWritten}
-use Rattle.rules.proofs.HistoryGrows.{history-grows}
+use Rattle.tree.specs.Shape.{shapeFor}
+use Rattle.calls.specs.Run.{run}
+use Rattle.calls.specs.ListOrder.{listOrder}
+use Rattle.calls.specs.Continuation.{orderLeft, listWritten}
+use Rattle.calls.proofs.HistoryGrows.{history-grows}
 use Rattle.queue.specs.declared.OtqRun.{OtqRun}
 use Rattle.queue.specs.declared.OtqList.{OtqList}
 use Rattle.queue.specs.Exported.{RunExport, ListExport}

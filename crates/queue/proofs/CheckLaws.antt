@@ -7,19 +7,19 @@ use mathlib.Core.List.{List}
 use lib.ListN.{length, take, drop}
 use Rattle.record.specs.StepRecords.{stepRecords}
 use Rattle.record.specs.AnswerRecords.{answerSize}
-use Rattle.tree.specs.Shape.{Shape}
+use Rattle.tree.specs.Shape.{Shape, shapeFor}
 use Rattle.tree.specs.Layout.{wordsNeeded}
-use Rattle.rules.specs.declared.Refusal.{Refusal}
-use Rattle.rules.specs.declared.Verdict.{Verdict}
-use Rattle.rules.specs.declared.Verdict.the-variants.{Refused}
-use Rattle.rules.specs.Refusals.{accepted, shapeFor}
-use Rattle.rules.specs.Run.{Played, play}
-use Rattle.rules.specs.ListOrder.{playAll}
-use Rattle.rules.specs.CheckLog.{CheckLeaves, verdictNumber, verdictIndex, checkRefusal, checked, verdictOn, checkPlayed, checkLog}
-use Rattle.rules.specs.LogVerdict.{Judges}
-use Rattle.rules.proofs.LogVerdict.{check-judges}
-use Rattle.rules.proofs.Played.{played-room}
-use Rattle.rules.proofs.CallAccepted.{accepted-whole, check-call, check-whole}
+use Rattle.calls.specs.declared.Refusal.{Refusal}
+use Rattle.calls.specs.declared.Verdict.{Verdict}
+use Rattle.calls.specs.declared.Verdict.the-variants.{Refused}
+use Rattle.calls.specs.Refusals.{accepted}
+use Rattle.calls.specs.Run.{Played, play}
+use Rattle.calls.specs.ListOrder.{playAll}
+use Rattle.calls.specs.CheckLog.{CheckLeaves, verdictNumber, verdictIndex, checkRefusal, checked, verdictOn, checkPlayed, checkLog}
+use Rattle.calls.specs.LogVerdict.{Judges}
+use Rattle.calls.proofs.LogVerdict.{check-judges}
+use Rattle.calls.proofs.Played.{played-room}
+use Rattle.calls.proofs.CallAccepted.{accepted-whole, check-call, check-whole}
 use Rattle.log.specs.Contracts.Leading.{verdictOf}
 use Rattle.log.proofs.Compared.{verdict-compared}
 use Rattle.player.specs.declared.Outcome.{Outcome}

@@ -3,13 +3,13 @@ use Prim.Native.Nat.{ℕ}
 use mathlib.Core.Path.{_≡_, ap, _∙_, subst}
 use mathlib.Core.List.{List}
 use lib.ListN.{length}
-use Rattle.rules.specs.declared.Verdict.{Verdict}
-use Rattle.rules.specs.Refusals.{refusalNumber}
-use Rattle.rules.specs.Run.{RunLeaves}
-use Rattle.rules.specs.ListOrder.{ListLeaves}
-use Rattle.rules.specs.CheckLog.{CheckLeaves, checked, checkLog}
-use Rattle.rules.specs.LogVerdict.{Judges}
-use Rattle.rules.proofs.LogVerdict.{check-judges}
+use Rattle.calls.specs.declared.Verdict.{Verdict}
+use Rattle.calls.specs.Refusals.{refusalNumber}
+use Rattle.calls.specs.Run.{RunLeaves}
+use Rattle.calls.specs.ListOrder.{ListLeaves}
+use Rattle.calls.specs.CheckLog.{CheckLeaves, checked, checkLog}
+use Rattle.calls.specs.LogVerdict.{Judges}
+use Rattle.calls.proofs.LogVerdict.{check-judges}
 use Rattle.queue.specs.declared.Ran.{Ran}
 use Rattle.queue.specs.declared.Listed.{Listed}
 use Rattle.queue.specs.declared.OtqCheck.{OtqCheck}

@@ -6,20 +6,20 @@ use mathlib.Core.List.{List, _++_}
 use lib.ListN.{length, take, drop, getD}
 use borrow.Author.Tests.{lt-ltb, le-ltb}
 use Rattle.record.specs.StepRecords.{stepRecords}
-use Rattle.tree.specs.Shape.{Shape, processes}
+use Rattle.tree.specs.Shape.{Shape, processes, heightFor, shapeFor}
 use Rattle.tree.specs.Layout.{partStart, wordsNeeded}
 use Rattle.tree.specs.Memory.{Memory}
-use Rattle.tree.proofs.Writes.{Sized}
-use Rattle.tree.proofs.Sound.{Sound}
-use Rattle.steps.specs.Contracts.Settled.{Settles}
+use Rattle.tree.specs.Contracts.Invariant.{Sized, Sound}
+use Rattle.tree.specs.Contracts.SoundTree.{SoundTree}
 use Rattle.steps.proofs.Invariant.{Invariant}
-use Rattle.rules.specs.declared.Refusal.{Refusal}
-use Rattle.rules.specs.declared.Refusal.the-variants.{None, OutputShort}
-use Rattle.rules.specs.Refusals.{refusalNumber, accepted, heightFor, shapeFor, callRefusal}
-use Rattle.rules.specs.Run.{Played, play}
-use Rattle.rules.specs.ListOrder.{orderList, listRefusal, listed, listPlayed, listOrder}
-use Rattle.rules.proofs.CallAccepted.{accepted-whole, accepted-processes, accepted-operations}
-use Rattle.rules.proofs.Theorem.{tall-for}
+use Rattle.calls.specs.declared.Refusal.{Refusal}
+use Rattle.calls.specs.declared.Refusal.the-variants.{None, OutputShort}
+use Rattle.calls.specs.Refusals.{refusalNumber, accepted, callRefusal}
+use Rattle.calls.specs.Run.{Played, play}
+use Rattle.order.specs.OrderList.{orderList}
+use Rattle.calls.specs.ListOrder.{listRefusal, listed, listPlayed, listOrder}
+use Rattle.calls.proofs.CallAccepted.{accepted-whole, accepted-processes, accepted-operations}
+use Rattle.calls.proofs.Theorem.{tall-for}
 use Rattle.refusals.proofs.Limits.{allowed-most, short-for}
 use Rattle.player.specs.declared.Outcome.{Outcome}
 use Rattle.player.specs.Contracts.Playing.{Leaves}
@@ -35,7 +35,7 @@ use Rattle.queue.proofs.PlayAll.{plays-all, table-left}
 -- its parts begin at the starts that are worked out
 pub listing-settles : (p l : ℕ) (heads table : List ℕ) → Listing p l heads table → (h w : ℕ) → h ≡ heightFor p → w ≡ l → (firsts : List ℕ)
     → ((v : ℕ) → v ≤ 2 * processes (record { height = h; most = w }) → getD firsts v 0 ≡ partStart (record { height = h; most = w }) v)
-    → Settles (shapeFor p l) firsts heads table
+    → SoundTree (shapeFor p l) firsts heads table
 unfolding shapeFor
 listing-settles p l heads table k h w eh ew firsts parts =
     record {

@@ -9,10 +9,10 @@ use Rattle.record.specs.StepRecords.{stepSize, stepRecords}
 use Rattle.record.specs.AnswerRecords.{answerSize}
 use Rattle.record.proofs.Cuts.{records-length}
 use Rattle.tree.specs.Shape.{Shape}
-use Rattle.rules.specs.Refusals.{torn}
-use Rattle.rules.specs.Run.{Played, play}
-use Rattle.rules.specs.ListOrder.{playAll}
-use Rattle.rules.proofs.CallAccepted.{whole-records}
+use Rattle.calls.specs.Refusals.{torn}
+use Rattle.calls.specs.Run.{Played, play}
+use Rattle.calls.specs.ListOrder.{playAll}
+use Rattle.calls.proofs.CallAccepted.{whole-records}
 use Rattle.player.specs.declared.Outcome.{Outcome}
 use Rattle.player.specs.Contracts.Playing.{Leaves}
 

@@ -6,13 +6,13 @@ use mathlib.Core.List.{List}
 use lib.ListN.{length, take, drop}
 use Rattle.record.specs.AnswerRecords.{answerSize}
 use Rattle.record.specs.StepRecords.{stepRecords}
-use Rattle.tree.specs.Shape.{Shape}
+use Rattle.tree.specs.Shape.{Shape, shapeFor}
 use Rattle.tree.specs.Layout.{wordsNeeded}
-use Rattle.rules.specs.Refusals.{refusalNumber, accepted, shapeFor, callRefusal}
-use Rattle.rules.specs.Run.{Played, play, runTurnedDown, runPlayed, run}
-use Rattle.rules.specs.Demand3.{Demand3, RunKeeps}
-use Rattle.rules.proofs.Played.{played-room}
-use Rattle.rules.proofs.Theorem.{demand3-run}
+use Rattle.calls.specs.Refusals.{refusalNumber, accepted, callRefusal}
+use Rattle.calls.specs.Run.{Played, play, runTurnedDown, runPlayed, run}
+use Rattle.calls.specs.Demand3.{Demand3, RunKeeps}
+use Rattle.calls.proofs.Played.{played-room}
+use Rattle.calls.proofs.Theorem.{demand3-run}
 use Rattle.superblocks.specs.Supers.{SupersNear, RunSupers}
 use Rattle.superblocks.proofs.RunSupers.{supers-run}
 use Rattle.log.proofs.Written.{written-fits}

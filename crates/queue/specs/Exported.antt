@@ -2,9 +2,9 @@
 use Prim.Native.Nat.{ℕ}
 use mathlib.Core.Path.{_≡_}
 use mathlib.Core.List.{List}
-use Rattle.rules.specs.Run.{RunLeaves}
-use Rattle.rules.specs.ListOrder.{ListLeaves}
-use Rattle.rules.specs.CheckLog.{CheckLeaves}
+use Rattle.calls.specs.Run.{RunLeaves}
+use Rattle.calls.specs.ListOrder.{ListLeaves}
+use Rattle.calls.specs.CheckLog.{CheckLeaves}
 use Rattle.queue.specs.declared.OtqRun.{OtqRun}
 use Rattle.queue.specs.declared.OtqList.{OtqList}
 use Rattle.queue.specs.declared.OtqCheck.{OtqCheck}

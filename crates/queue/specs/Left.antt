@@ -1,11 +1,11 @@
 -- What a call returns together with what it leaves in the buffers, as the definitions have it: of an enum the paper's numbers.
 use Prim.Native.Nat.{ℕ}
 use mathlib.Core.List.{List}
-use Rattle.rules.specs.declared.Verdict.{Verdict}
-use Rattle.rules.specs.Refusals.{refusalNumber}
-use Rattle.rules.specs.Run.{RunLeaves}
-use Rattle.rules.specs.ListOrder.{ListLeaves}
-use Rattle.rules.specs.CheckLog.{CheckLeaves, checked}
+use Rattle.calls.specs.declared.Verdict.{Verdict}
+use Rattle.calls.specs.Refusals.{refusalNumber}
+use Rattle.calls.specs.Run.{RunLeaves}
+use Rattle.calls.specs.ListOrder.{ListLeaves}
+use Rattle.calls.specs.CheckLog.{CheckLeaves, checked}
 use Rattle.queue.specs.declared.Ran.{Ran}
 use Rattle.queue.specs.declared.Listed.{Listed}
 

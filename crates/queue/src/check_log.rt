@@ -1,14 +1,14 @@
 // Check a log.
+use calls::Verdict;
 use log::compare::verdict;
 use player::call::play_unanswered;
 use refusals::numbers::accepted;
 use refusals::sooner::of_check;
-use rules::Verdict;
-use steps::heads::wide;
+use tree::heads::wide;
 ghost use mathlib.Core.Path.{_≡_};
 ghost use lib.ListN.{length};
-ghost use Rattle.rules.specs.CheckLog.{checkLog, verdictNumber, verdictIndex};
-ghost use Rattle.rules.specs.LogVerdict.{Judges};
+ghost use Rattle.calls.specs.CheckLog.{checkLog, verdictNumber, verdictIndex};
+ghost use Rattle.calls.specs.LogVerdict.{Judges};
 ghost use Rattle.queue.specs.Left.{checkLeft};
 
 // Plays step records as Run does and compares their answers with a log, record by record. What it returns and all that it leaves in the table is what the rules say; and the verdict is

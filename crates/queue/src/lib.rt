@@ -4,7 +4,7 @@ pub mod exports;
 pub mod list_order;
 pub mod run;
 
-use rules::Refusal;
+use calls::Refusal;
 
 // What Run returns: why it ended, the records taken and the answers written.
 pub struct Ran {

@@ -1,21 +1,21 @@
 // List the order.
 use crate::Listed;
+use calls::Refusal;
 use order::list::write_order;
 use order::roots::last_root;
 use order::roots::list_length;
 use player::call::play_unanswered;
 use refusals::numbers::accepted;
-use refusals::sooner::height_for;
 use refusals::sooner::of_call;
-use rules::Refusal;
-use steps::heads::wide;
+use tree::heads::wide;
+use tree::layout::height_for;
 use tree::layout::starts;
 use tree::layout::words_needed;
 ghost use mathlib.Core.Path.{_≡_};
 ghost use mathlib.Core.List.{List};
 ghost use Prim.Native.Nat.{ℕ};
-ghost use Rattle.rules.specs.Refusals.{shapeFor};
-ghost use Rattle.rules.specs.ListOrder.{listOrder};
+ghost use Rattle.tree.specs.Shape.{shapeFor};
+ghost use Rattle.calls.specs.ListOrder.{listOrder};
 ghost use Rattle.queue.specs.Left.{listLeft};
 ghost use Rattle.queue.specs.Contracts.Listing.{Listing, listFrom};
 

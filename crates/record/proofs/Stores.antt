@@ -1,21 +1,18 @@
 -- Bytes stored one after the other: a run of stores that follows another makes one run with it.
-use Prim.Native.Nat.{ℕ, suc, _+_, _*_, _/_, _%_}
+use Prim.Native.Nat.{ℕ, _+_, _*_, _/_, _%_}
 use native.Mathlib.Nat.{add-mul-mod-self-left}
 use native.Mathlib.Omega.{arith}
 use mathlib.Core.Path.{_≡_, ap, sym, _∙_}
-use mathlib.Core.List.{List, [], _∷_, _++_}
-use lib.ListN.{length, set, length-append}
+use mathlib.Core.List.{List, _++_}
+use lib.ListN.{length, length-append}
 use lib.Seq.{sets}
 use Rattle.record.specs.declared.AnswerRecord.{AnswerRecord}
 use Rattle.record.specs.declared.OrderRecord.{OrderRecord}
 use Rattle.record.specs.Bytes.{bytesOf}
 use Rattle.record.specs.AnswerRecords.{replyKind, replyValue, answerBytes}
 use Rattle.record.specs.OrderRecords.{orderBytes}
+use Rattle.base.proofs.Stores.{runs}
 use Rattle.record.proofs.Lengths.{bytes-length}
-
-pub runs : (l xs ys : List ℕ) (i j : ℕ) → i + length xs ≡ j → sets (sets l i xs) j ys ≡ sets l i (xs ++ ys)
-runs l [] ys i j e = ap (λ (k : ℕ). sets l k ys) (omega arith)
-runs l (x ∷ xs) ys i j e = runs (set l i x) xs ys (suc i) j (omega arith)
 
 then-stored : (l xs ys : List ℕ) (i n : ℕ) → length xs ≡ n → sets (sets l i xs) (i + n) ys ≡ sets l i (xs ++ ys)
 then-stored l xs ys i n e = runs l xs ys i (i + n) (ap (_+_ i) e)

@@ -1,5 +1,6 @@
 pub mod Bytes
 pub mod StepRecords
 pub mod AnswerRecords
+pub mod ReadAnswers
 pub mod OrderRecords
 pub mod All

@@ -1,8 +1,8 @@
 // The records: step records, answer records and order records, as the fields that their bytes hold. This crate knows nothing of trees, steps or queues.
-pub mod answers;
+pub mod answer_records;
 pub mod bytes;
-pub mod orders;
-pub mod steps;
+pub mod order_records;
+pub mod step_records;
 
 // A step record.
 pub struct StepRecord {

@@ -8,11 +8,11 @@ use borrow.Author.Tests.{eqb-true, leb-true}
 use Rattle.base.specs.Choice.{if_then_else_}
 use Rattle.base.proofs.Cases.{and-true, both}
 use Rattle.record.specs.StepRecords.{stepSize}
-use Rattle.tree.specs.Shape.{processes}
+use Rattle.tree.specs.Shape.{processes, heightFor, shapeFor}
 use Rattle.tree.specs.Layout.{wordsNeeded}
 use Rattle.steps.specs.Process.{processesAllowed, operationsAllowed}
-use Rattle.rules.specs.declared.Refusal.the-variants.{None, TableShort, RecordsTorn}
-use Rattle.rules.specs.Refusals.{heightFor, shapeFor, torn, callRefusal}
+use Rattle.calls.specs.declared.Refusal.the-variants.{None, TableShort, RecordsTorn}
+use Rattle.calls.specs.Refusals.{torn, callRefusal}
 
 -- L is 1 to 500
 pub allowed-most : (l : ℕ) → operationsAllowed l ≡ true → (1 ≤ l) × (l ≤ 500)

@@ -1,7 +1,7 @@
 // Refusals as the paper's numbers.
-use rules::Refusal;
+use calls::Refusal;
 ghost use mathlib.Core.Path.{_≡_};
-ghost use Rattle.rules.specs.Refusals.{refusalNumber, accepted as isAccepted};
+ghost use Rattle.calls.specs.Refusals.{refusalNumber, accepted as isAccepted};
 
 pub fn number(n: Refusal) -> u32
     ensures { λ r. ⌜ r ≡ refusalNumber n ⌝ }

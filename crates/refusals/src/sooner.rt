@@ -1,26 +1,14 @@
 // The tests that a call makes before its first record: a call that fails one changes nothing.
 use crate::numbers::accepted;
-use rules::Refusal;
+use calls::Refusal;
 use steps::Process;
-use steps::heads::wide;
+use tree::heads::wide;
+use tree::layout::height_for;
 use tree::layout::words_needed;
 ghost use mathlib.Core.Path.{_≡_};
-ghost use Prim.Native.Nat.{_≤_};
-ghost use Rattle.rules.specs.Refusals.{heightFor, callRefusal};
-ghost use Rattle.rules.specs.CheckLog.{checkRefusal};
-
-// The height of the tree for p processes.
-pub fn height_for(p: u32) -> usize
-    ensures { λ r. ⌜ (r ≡ heightFor p) × (1 ≤ r) × (r ≤ 3) ⌝ }
-{
-    if p == 2 {
-        return 1;
-    }
-    if p == 4 {
-        return 2;
-    }
-    3
-}
+ghost use Rattle.tree.specs.Shape.{heightFor};
+ghost use Rattle.calls.specs.Refusals.{callRefusal};
+ghost use Rattle.calls.specs.CheckLog.{checkRefusal};
 
 // A call with p, l, a work table of so many words and so many bytes of records: 1, 2, 3, 4.
 pub fn of_call(p: u32, l: u32, words: usize, bytes: usize) -> Refusal

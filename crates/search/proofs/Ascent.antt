@@ -10,15 +10,15 @@ use Rattle.tree.specs.Shape.{Shape, processes, leftOf, rightOf, parentOf}
 use Rattle.tree.specs.Memory.{Memory, headOf, block}
 use Rattle.tree.specs.Order.{OpId}
 use Rattle.tree.specs.Sides.{Side, onLeft, onRight}
-use Rattle.tree.proofs.Nodes.{Node, Inner, inner-node}
-use Rattle.tree.proofs.Presence.{Present, Written}
-use Rattle.tree.proofs.Sound.{Sound, below-head, first-zeros, zero-end, ends-rise}
+use Rattle.tree.specs.Contracts.Invariant.{Node, Inner, Present, Written, Sound}
+use Rattle.tree.proofs.Nodes.{inner-node}
+use Rattle.tree.proofs.Sound.{below-head, first-zeros, zero-end, ends-rise}
 use Rattle.tree.proofs.Ancestors.{ancestor, sideAt, child-at, ancestor-node, ancestor-inner}
 use Rattle.tree.proofs.OpenedBetween.{ancestor-level}
 use Rattle.tree.proofs.Climb.{endTowards, climb-step}
 use Rattle.tree.proofs.Rank.{times-step}
-use Rattle.steps.specs.Contracts.Ready.{HasPlace, nodePart}
-use Rattle.steps.specs.Contracts.Settled.{Settles}
+use Rattle.tree.specs.Contracts.Access.{HasPlace, nodePart}
+use Rattle.tree.specs.Contracts.SoundTree.{SoundTree}
 use Rattle.search.specs.Contracts.Searched.{Reaches, First}
 use Rattle.search.specs.Contracts.Climbing.{Ascends, FirstAbove, Beside, besideOf}
 use Rattle.search.proofs.Holding.{CountsAs, HoldsAs}
@@ -37,7 +37,7 @@ module _ (s : Shape) (k i j : ℕ) (starts heads table : List ℕ) (place : ℕ)
   abbrev m : Memory
   m = record { table = table; heads = heads }
 
-  abbrev sets : Settles s starts heads table
+  abbrev sets : SoundTree s starts heads table
   sets = h .stands .settles
 
   abbrev sound : Sound s m

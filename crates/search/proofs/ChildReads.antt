@@ -7,15 +7,15 @@ use Rattle.tree.specs.Shape.{Shape}
 use Rattle.tree.specs.Memory.{Memory, block}
 use Rattle.tree.specs.Order.{total}
 use Rattle.tree.specs.Sides.{Side, childOf, endOf}
-use Rattle.tree.proofs.Nodes.{Inner, inner-node, child-node}
-use Rattle.tree.proofs.Presence.{Written}
+use Rattle.tree.specs.Contracts.Invariant.{Inner, Written}
+use Rattle.tree.proofs.Nodes.{inner-node, child-node}
 use Rattle.tree.proofs.Sound.{below-head, end-below}
 use Rattle.tree.proofs.SideTotals.{endTotal}
-use Rattle.steps.specs.Contracts.Ready.{HasPlace, nodeBlock}
-use Rattle.steps.specs.Contracts.Settled.{Settles}
+use Rattle.tree.specs.Contracts.Access.{HasPlace, nodeBlock}
+use Rattle.tree.specs.Contracts.SoundTree.{SoundTree}
 use Rattle.search.proofs.Words.{node-reads, written-place}
 
-module _ (s : Shape) (starts heads table : List ℕ) (sets : Settles s starts heads table) (v : ℕ) (inner : Inner s v) (d : Side) (a : ℕ) where
+module _ (s : Shape) (starts heads table : List ℕ) (sets : SoundTree s starts heads table) (v : ℕ) (inner : Inner s v) (d : Side) (a : ℕ) where
   abbrev m : Memory
   m = record { table = table; heads = heads }
 

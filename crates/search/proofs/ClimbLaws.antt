@@ -9,10 +9,10 @@ use Rattle.tree.specs.declared.Kind.the-variants.{Puts, Takes}
 use Rattle.tree.specs.Shape.{Shape, root, parentOf}
 use Rattle.tree.specs.Memory.{block}
 use Rattle.tree.specs.Order.{total}
-use Rattle.tree.proofs.Presence.{count}
+use Rattle.tree.specs.Contracts.Invariant.{count}
 use Rattle.tree.proofs.Ancestors.{ancestor, ancestor-node, root-height, not-root}
-use Rattle.steps.specs.Contracts.Ready.{HasPlace, nodeBlock}
-use Rattle.steps.proofs.Places.{places-most}
+use Rattle.tree.specs.Contracts.Access.{HasPlace, nodeBlock}
+use Rattle.tree.proofs.Places.{places-most}
 use Rattle.search.specs.Contracts.Stands.{OfKind, InBlock, StandsAt}
 use Rattle.search.specs.Contracts.Climbing.{Ascends, FirstAbove, Beside, besideOf}
 use Rattle.search.proofs.Holding.{CountsAs, HoldsAs, Reached, Counted, OfEach}

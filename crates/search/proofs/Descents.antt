@@ -15,16 +15,16 @@ use Rattle.tree.specs.Shape.{Shape, leftOf, rightOf}
 use Rattle.tree.specs.Memory.{Memory, block}
 use Rattle.tree.specs.Order.{OpId, total, opened}
 use Rattle.tree.specs.Sides.{Side, onLeft, onRight, childOf, endOf}
-use Rattle.tree.proofs.Nodes.{Node, Inner, inner-node, child-node}
-use Rattle.tree.proofs.Presence.{Present, Written}
-use Rattle.tree.proofs.Sound.{Sound, before-written}
+use Rattle.tree.specs.Contracts.Invariant.{Node, Inner, Present, Written, Sound}
+use Rattle.tree.proofs.Nodes.{inner-node, child-node}
+use Rattle.tree.proofs.Sound.{before-written}
 use Rattle.tree.proofs.Levels.{Level, level-child, level-inner}
 use Rattle.tree.proofs.Opening.{openedOn}
 use Rattle.tree.proofs.SideTotals.{childTotal, endTotal}
 use Rattle.tree.proofs.Find.{find-left, find-right, find-on}
-use Rattle.steps.specs.Contracts.Ready.{HasPart, nodePart, nodeBlock}
-use Rattle.steps.specs.Contracts.Settled.{Settles}
-use Rattle.steps.proofs.Places.{processes-most, small}
+use Rattle.tree.specs.Contracts.Access.{HasPart, nodePart, nodeBlock}
+use Rattle.tree.specs.Contracts.SoundTree.{SoundTree}
+use Rattle.tree.proofs.Places.{processes-most, small}
 use Rattle.search.specs.declared.find.Descent.{Descent}
 use Rattle.search.specs.Contracts.Searched.{Reaches, First}
 use Rattle.search.specs.Contracts.Descending.{FindsAs, FoundIn, Descends, descentOf}
@@ -59,7 +59,7 @@ module _ (s : Shape) (heads starts table : List ℕ) (h v a n : ℕ) (f : FindsA
   abbrev m : Memory
   m = record { table = table; heads = heads }
 
-  abbrev sets : Settles s starts heads table
+  abbrev sets : SoundTree s starts heads table
   sets = f .settles
 
   abbrev sound : Sound s m

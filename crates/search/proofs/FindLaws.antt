@@ -10,13 +10,13 @@ use Rattle.tree.specs.Shape.{Shape, processes, root, leafOf}
 use Rattle.tree.specs.Blocks.{blockAt}
 use Rattle.tree.specs.Memory.{Memory, block}
 use Rattle.tree.specs.Order.{total, inRoot}
-use Rattle.tree.proofs.Nodes.{Node, leaf-node}
-use Rattle.tree.proofs.Presence.{Present}
+use Rattle.tree.specs.Contracts.Invariant.{Node, Present}
+use Rattle.tree.proofs.Nodes.{leaf-node}
 use Rattle.tree.proofs.Levels.{level-root, level-leaf}
 use Rattle.tree.proofs.Opening.{at-most-one}
 use Rattle.tree.proofs.LastRoot.{root-written}
 use Rattle.tree.proofs.Find.{find-leaf, find-root}
-use Rattle.steps.specs.Contracts.Ready.{HasPart, HasPlace, nodePart, nodeBlock}
+use Rattle.tree.specs.Contracts.Access.{HasPart, HasPlace, nodePart, nodeBlock}
 use Rattle.search.specs.declared.find.Descent.{Descent}
 use Rattle.search.specs.Contracts.Searched.{Reaches, First}
 use Rattle.search.specs.Contracts.Numbered.{NumberedAs, ValueAt}

@@ -9,16 +9,16 @@ use Rattle.tree.specs.declared.Kind.{Kind}
 use Rattle.tree.specs.Shape.{Shape, processes, root, leafOf}
 use Rattle.tree.specs.Memory.{Memory, headOf, block}
 use Rattle.tree.specs.Order.{total}
-use Rattle.tree.proofs.Nodes.{Node, leaf-node}
-use Rattle.tree.proofs.Presence.{Present}
-use Rattle.tree.proofs.Sound.{Follows, AddsOne, below-head}
+use Rattle.tree.specs.Contracts.Invariant.{Node, Present, Follows, AddsOne}
+use Rattle.tree.proofs.Nodes.{leaf-node}
+use Rattle.tree.proofs.Sound.{below-head}
 use Rattle.tree.proofs.Opening.{at-most-one}
 use Rattle.tree.proofs.LastRoot.{root-sound}
 use Rattle.tree.proofs.Reached.{reached-low}
 use Rattle.tree.proofs.Climb.{climb-leaf}
 use Rattle.tree.proofs.Rank.{rank-leaf, times-leaf}
-use Rattle.steps.specs.Contracts.Ready.{HasPlace, nodeBlock}
-use Rattle.steps.specs.Contracts.Settled.{Settles}
+use Rattle.tree.specs.Contracts.Access.{HasPlace, nodeBlock}
+use Rattle.tree.specs.Contracts.SoundTree.{SoundTree}
 use Rattle.search.specs.Contracts.Stands.{StandsAs}
 use Rattle.search.proofs.Holding.{CountsAs, Reached, Counted}
 use Rattle.search.proofs.Words.{node-reads, written-place}
@@ -27,7 +27,7 @@ module _ (s : Shape) (k : ℕ) (starts heads table : List ℕ) (leaf i : ℕ) (h
   abbrev m : Memory
   m = record { table = table; heads = heads }
 
-  abbrev sets : Settles s starts heads table
+  abbrev sets : SoundTree s starts heads table
   sets = h .settles
 
   abbrev kp : k < processes s

@@ -10,9 +10,9 @@ use Rattle.tree.specs.Memory.{Memory, block}
 use Rattle.tree.specs.Order.{OpId, total, opened}
 use Rattle.tree.specs.Standing.{times, rankIn}
 use Rattle.tree.specs.Sides.{Side, onLeft, onRight, childOf, endOf}
-use Rattle.tree.proofs.Nodes.{Inner, inner-node, child-node}
-use Rattle.tree.proofs.Presence.{Present, Written}
-use Rattle.tree.proofs.Sound.{Sound, below-head, before-written, totals-rise, sums-at}
+use Rattle.tree.specs.Contracts.Invariant.{Inner, Present, Written, Sound}
+use Rattle.tree.proofs.Nodes.{inner-node, child-node}
+use Rattle.tree.proofs.Sound.{below-head, before-written, totals-rise, sums-at}
 use Rattle.tree.proofs.Levels.{Level, level-inner}
 use Rattle.tree.proofs.SideTotals.{childTotal, endTotal, addedBefore}
 use Rattle.tree.proofs.Rank.{rank-step}

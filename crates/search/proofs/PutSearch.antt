@@ -8,12 +8,12 @@ use Rattle.tree.specs.declared.Kind.the-variants.{Puts}
 use Rattle.tree.specs.Shape.{Shape}
 use Rattle.tree.specs.Memory.{Memory, block}
 use Rattle.tree.specs.Order.{total}
-use Rattle.tree.proofs.Nodes.{Node, inner-node, leaf-node}
-use Rattle.tree.proofs.Presence.{Written}
+use Rattle.tree.specs.Contracts.Invariant.{Node, Written}
+use Rattle.tree.proofs.Nodes.{inner-node, leaf-node}
 use Rattle.tree.proofs.Sound.{written-low, below-head, first-zeros, zero-total, totals-rise}
 use Rattle.tree.proofs.Levels.{Level, level-inner, level-leaf}
-use Rattle.steps.specs.Contracts.Ready.{HasPart, nodePart}
-use Rattle.steps.specs.Contracts.Settled.{Settles}
+use Rattle.tree.specs.Contracts.Access.{HasPart, nodePart}
+use Rattle.tree.specs.Contracts.SoundTree.{SoundTree}
 use Rattle.search.specs.Contracts.Searched.{Reaches, First}
 use Rattle.search.specs.Contracts.Descending.{FindsAs}
 use Rattle.search.proofs.Words.{part-fits, node-part, written-place, puts-word}
@@ -22,7 +22,7 @@ pub level-node : (s : Shape) (h v : ℕ) → Level s h v → Node s v
 level-node s zero v l = let k = level-leaf s v l in rw (k .2) (leaf-node s (k .0) (k .1))
 level-node s (suc h) v l = inner-node s v (level-inner s h v l)
 
-module _ (s : Shape) (heads starts table : List ℕ) (sets : Settles s starts heads table) (h v : ℕ) (level : Level s h v) where
+module _ (s : Shape) (heads starts table : List ℕ) (sets : SoundTree s starts heads table) (h v : ℕ) (level : Level s h v) where
   abbrev m : Memory
   m = record { table = table; heads = heads }
 

@@ -9,14 +9,14 @@ use Rattle.tree.specs.Blocks.{blockAt}
 use Rattle.tree.specs.Memory.{Memory, block}
 use Rattle.tree.specs.Order.{OpId, total, inRoot, lastRoot}
 use Rattle.tree.proofs.Names.{rank-some}
-use Rattle.tree.proofs.Presence.{Present}
+use Rattle.tree.specs.Contracts.Invariant.{Present}
 use Rattle.tree.proofs.Sound.{below-head}
 use Rattle.tree.proofs.Ancestors.{ancestor}
 use Rattle.tree.proofs.LastRoot.{node-root, root-sound, last-most}
 use Rattle.tree.proofs.Reached.{ancestor-top}
 use Rattle.tree.proofs.Climb.{climb-root}
-use Rattle.steps.specs.Contracts.Ready.{HasPlace, nodeBlock}
-use Rattle.steps.specs.Contracts.Settled.{Settles}
+use Rattle.tree.specs.Contracts.Access.{HasPlace, nodeBlock}
+use Rattle.tree.specs.Contracts.SoundTree.{SoundTree}
 use Rattle.search.specs.Contracts.Stands.{OfKind, InBlock, StandsAt}
 use Rattle.search.proofs.Holding.{CountsAs, HoldsAs}
 use Rattle.search.proofs.Words.{node-reads, written-place}
@@ -25,7 +25,7 @@ module _ (s : Shape) (k i : ℕ) (starts heads table : List ℕ) (place : ℕ) (
   abbrev m : Memory
   m = record { table = table; heads = heads }
 
-  abbrev sets : Settles s starts heads table
+  abbrev sets : SoundTree s starts heads table
   sets = h .stands .settles
 
   top : ancestor s k (s .height) ≡ root

@@ -6,8 +6,8 @@ use native.Mathlib.Decide.{ℕ-discrete, decLe}
 use mathlib.Core.Path.{_≡_}
 use Rattle.tree.specs.Shape.{Shape, processes, root}
 use Rattle.tree.specs.Memory.{Memory, headOf}
-use Rattle.tree.proofs.Presence.{Written}
-use Rattle.tree.proofs.Sound.{Sound, below-head, end-below}
+use Rattle.tree.specs.Contracts.Invariant.{Written, Sound}
+use Rattle.tree.proofs.Sound.{below-head, end-below}
 use Rattle.tree.proofs.Ancestors.{ancestor, sideAt, child-at, ancestor-node, ancestor-inner}
 use Rattle.tree.proofs.Reach.{reach, reach-suc, reach-rises}
 use Rattle.tree.proofs.Reached.{ancestor-top}

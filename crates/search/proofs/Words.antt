@@ -12,12 +12,12 @@ use Rattle.tree.specs.Blocks.{wordIn, blockIn}
 use Rattle.tree.specs.Memory.{Memory, block}
 use Rattle.tree.specs.Order.{total}
 use Rattle.tree.specs.Sides.{Side, onLeft, onRight, endOf}
-use Rattle.tree.proofs.Nodes.{Node, sideOf}
-use Rattle.tree.proofs.Presence.{Written}
+use Rattle.tree.specs.Contracts.Invariant.{Node, Written}
+use Rattle.tree.proofs.Nodes.{sideOf}
 use Rattle.tree.proofs.Sound.{place-count}
-use Rattle.steps.specs.Contracts.Ready.{HasPart, HasPlace, nodePart, nodeBlock}
-use Rattle.steps.specs.Contracts.Settled.{Settles}
-use Rattle.steps.proofs.Places.{headed, has-part, has-place, reads}
+use Rattle.tree.specs.Contracts.Access.{HasPart, HasPlace, nodePart, nodeBlock}
+use Rattle.tree.specs.Contracts.SoundTree.{SoundTree}
+use Rattle.tree.proofs.Places.{headed, has-part, has-place, reads}
 
 -- the word of a block that has its end on a side
 abbrev pub wordOf : Side → ℕ
@@ -40,7 +40,7 @@ pub part-fits : (starts table : List ℕ) (v i : ℕ) → HasPlace starts table 
 unfolding nodePart
 part-fits starts table v i h = simp (length-take, length-drop) (omega arith)
 
-module _ (s : Shape) (starts heads table : List ℕ) (sets : Settles s starts heads table) where
+module _ (s : Shape) (starts heads table : List ℕ) (sets : SoundTree s starts heads table) where
   abbrev memory : Memory
   memory = record { table = table; heads = heads }
 

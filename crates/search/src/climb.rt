@@ -1,9 +1,9 @@
 // From an operation's leaf up to its root block.
 use crate::Standing;
 use crate::places::first_place;
-use steps::heads::head_of;
-use steps::heads::wide;
-use steps::nodes::block_at;
+use tree::access::block_at;
+use tree::heads::head_of;
+use tree::heads::wide;
 ghost use mathlib.Core.Path.{_≡_};
 ghost use Prim.Native.Nat.{ℕ};
 ghost use Rattle.tree.specs.declared.Kind.the-variants.{Takes};

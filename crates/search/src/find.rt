@@ -1,6 +1,6 @@
 // From a put's number in the root order down to its leaf, where its value is.
 use crate::places::first_place;
-use steps::nodes::block_at;
+use tree::access::block_at;
 ghost use mathlib.Core.Path.{_≡_};
 ghost use mathlib.Core.List.{List};
 ghost use Prim.Native.Nat.{ℕ};

@@ -1,12 +1,12 @@
 // Search of a node's places for the first whose word reaches a number.
-use steps::heads::wide;
-use steps::nodes::start_of;
-use tree::search;
+use tree::access::start_of;
+use tree::bisect;
+use tree::heads::wide;
 ghost use mathlib.Core.Path.{_≡_};
 ghost use mathlib.Core.Bool.{true};
 ghost use Prim.Native.Nat.{_+_, _*_, _≤_, _<_};
 ghost use lib.ListN.{length};
-ghost use Rattle.steps.specs.Contracts.Ready.{HasPart, nodePart};
+ghost use Rattle.tree.specs.Contracts.Access.{HasPart, nodePart};
 ghost use Rattle.search.specs.Contracts.Searched.{Reaches, First};
 
 // Whether place i is the first that reaches x: the one before it does not. Only these two places are looked at.

@@ -14,9 +14,9 @@ use Rattle.tree.specs.Shape.{Shape, root}
 use Rattle.tree.specs.Memory.{Memory, headOf, block}
 use Rattle.tree.specs.Order.{total}
 use Rattle.tree.specs.Sides.{Side, onLeft, onRight, childOf, endOf}
-use Rattle.tree.proofs.Nodes.{Inner, child-node, inner-node}
-use Rattle.tree.proofs.Presence.{count, Written}
-use Rattle.tree.proofs.Sound.{Sound, Follows, Joins, below-head, totals-rise, counts-rise, sums-at}
+use Rattle.tree.specs.Contracts.Invariant.{Inner, count, Written, Sound, Follows, Joins}
+use Rattle.tree.proofs.Nodes.{child-node, inner-node}
+use Rattle.tree.proofs.Sound.{below-head, totals-rise, counts-rise, sums-at}
 use Rattle.steps.specs.declared.Visit.{Visit}
 use Rattle.steps.specs.declared.Built.{Built}
 use Rattle.steps.specs.Rules.{joined, built, sameTotals, blockOf}

@@ -9,7 +9,8 @@ use Rattle.base.proofs.Cases.{both, cases}
 use Rattle.tree.specs.Shape.{Shape, processes, root, leafOf, parentOf, leftOf, rightOf, heightOf}
 use Rattle.tree.specs.Blocks.{absent}
 use Rattle.tree.specs.Memory.{Memory, headOf, block}
-use Rattle.tree.proofs.Nodes.{Node, Inner, inner-node, parent-inner}
+use Rattle.tree.specs.Contracts.Invariant.{Node, Inner}
+use Rattle.tree.proofs.Nodes.{inner-node, parent-inner}
 use Rattle.tree.proofs.Heights.{height-most, height-root, height-leaf, height-parent}
 use Rattle.steps.specs.declared.Operation.{Operation}
 use Rattle.steps.specs.declared.Visit.{Visit}

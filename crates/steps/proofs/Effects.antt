@@ -13,13 +13,14 @@ use Rattle.tree.specs.Blocks.{absent}
 use Rattle.tree.specs.Memory.{Memory, headOf, block, write, withSuper, setSuper, raise}
 use Rattle.tree.specs.Order.{total}
 use Rattle.tree.specs.Sides.{Side, onLeft, onRight, childOf, endOf}
-use Rattle.tree.proofs.Nodes.{Node, Inner, child-node, inner-node, leaf-node, leaf-not-inner, leaf-eq}
+use Rattle.tree.specs.Contracts.Invariant.{Node, Inner, count, Present, Written, Sound, Follows, Sized}
+use Rattle.tree.proofs.Nodes.{child-node, inner-node, leaf-node, leaf-not-inner, leaf-eq}
 use Rattle.tree.proofs.Ancestors.{ancestor-inner}
 use Rattle.tree.proofs.Heights.{leaf-places, node-places}
-use Rattle.tree.proofs.Presence.{count, Present, Written, absent-count}
-use Rattle.tree.proofs.Sound.{Sound, Follows, below-head, leaf-count}
+use Rattle.tree.proofs.Presence.{absent-count}
+use Rattle.tree.proofs.Sound.{below-head, leaf-count}
 use Rattle.tree.proofs.Growth.{Same, Fresh, same-refl}
-use Rattle.tree.proofs.Writes.{Sized, write-cases, raise-cases}
+use Rattle.tree.proofs.Writes.{write-cases, raise-cases}
 use Rattle.steps.specs.declared.Operation.{Operation}
 use Rattle.steps.specs.declared.Operation.the-variants.{Put, Take}
 use Rattle.steps.specs.declared.Visit.{Visit}

@@ -5,9 +5,9 @@ use lib.ListN.{length}
 use Rattle.tree.specs.Shape.{Shape, processes}
 use Rattle.tree.specs.Memory.{Memory, headOf}
 use Rattle.tree.specs.Sides.{Side, childOf}
-use Rattle.tree.proofs.Nodes.{Inner, inner-node, leaf-node}
-use Rattle.tree.proofs.Writes.{Sized, write-sized, raise-sized}
-use Rattle.tree.proofs.Sound.{Sound}
+use Rattle.tree.specs.Contracts.Invariant.{Inner, Sized, Sound}
+use Rattle.tree.proofs.Nodes.{inner-node, leaf-node}
+use Rattle.tree.proofs.Writes.{write-sized, raise-sized}
 use Rattle.tree.proofs.Ancestors.{ancestor-node, ancestor-inner}
 use Rattle.steps.specs.declared.Operation.{Operation}
 use Rattle.steps.specs.declared.Visit.{Visit}

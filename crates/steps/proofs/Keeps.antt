@@ -8,7 +8,7 @@ use lib.ListN.{length, length-set, length-replicate, getD-replicate}
 use lib.Seq.{getD-set-same, getD-set-other}
 use Rattle.tree.specs.Shape.{Shape, processes, leafOf}
 use Rattle.tree.specs.Memory.{Memory}
-use Rattle.tree.proofs.Writes.{Sized}
+use Rattle.tree.specs.Contracts.Invariant.{Sized}
 use Rattle.tree.proofs.Growth.{sound-grows}
 use Rattle.tree.proofs.Cleared.{cleared, cleared-head, cleared-count, cleared-sized, cleared-sound}
 use Rattle.steps.specs.declared.Operation.{Operation}

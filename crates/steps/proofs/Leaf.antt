@@ -8,10 +8,10 @@ use lib.Dec.{eqb}
 use Rattle.base.proofs.Cases.{both}
 use Rattle.tree.specs.Shape.{Shape, processes, root, leafOf}
 use Rattle.tree.specs.Memory.{Memory, headOf, block, write, raise}
-use Rattle.tree.proofs.Nodes.{Node, leaf-node}
-use Rattle.tree.proofs.Presence.{count, Present}
-use Rattle.tree.proofs.Writes.{Sized, raise-past}
-use Rattle.tree.proofs.Sound.{Sound, present-low}
+use Rattle.tree.specs.Contracts.Invariant.{Node, count, Present, Sized, Sound}
+use Rattle.tree.proofs.Nodes.{leaf-node}
+use Rattle.tree.proofs.Writes.{raise-past}
+use Rattle.tree.proofs.Sound.{present-low}
 use Rattle.steps.specs.declared.Operation.{Operation}
 use Rattle.steps.specs.declared.Visit.{Visit}
 use Rattle.steps.specs.declared.After.{After}

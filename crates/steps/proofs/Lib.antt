@@ -1,5 +1,3 @@
-pub mod Entries
-pub mod NodeReads
 pub mod Told
 pub mod Stages
 pub mod Turns
@@ -14,5 +12,4 @@ pub mod WayTurn
 pub mod Invariant
 pub mod Keeps
 pub mod Inside
-pub mod Places
 pub mod Readiness

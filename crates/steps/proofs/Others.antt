@@ -9,9 +9,9 @@ use mathlib.Core.Bool.{Bool}
 use Rattle.tree.specs.Shape.{Shape, processes, root, leafOf}
 use Rattle.tree.specs.Memory.{Memory, headOf, block}
 use Rattle.tree.specs.Sides.{Side, onLeft, onRight, childOf, endOf}
-use Rattle.tree.proofs.Nodes.{Node, Inner, child-node, inner-node}
-use Rattle.tree.proofs.Presence.{Present, Written}
-use Rattle.tree.proofs.Sound.{NodeSound, Sound, below-head}
+use Rattle.tree.specs.Contracts.Invariant.{Node, Inner, Present, Written, NodeSound, Sound}
+use Rattle.tree.proofs.Nodes.{child-node, inner-node}
+use Rattle.tree.proofs.Sound.{below-head}
 use Rattle.tree.proofs.Growth.{Same, Grows, same-refl, same-end, heads-rise, present-stays, follows-same, joins-grows, sound-grows}
 use Rattle.tree.proofs.Ancestors.{ancestor, sideAt, child-at, ancestor-node, ancestor-inner, ancestor-root}
 use Rattle.tree.proofs.Reach.{reach, reach-suc, reach-rises, reach-stays}

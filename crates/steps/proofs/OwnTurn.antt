@@ -12,8 +12,9 @@ use Rattle.base.proofs.Cases.{cases}
 use Rattle.tree.specs.Shape.{Shape, processes, root, parentOf, leftOf, rightOf}
 use Rattle.tree.specs.Memory.{Memory, headOf, block}
 use Rattle.tree.specs.Sides.{Side, onLeft, onRight, childOf, endOf}
-use Rattle.tree.proofs.Nodes.{Inner, child-node, inner-node}
-use Rattle.tree.proofs.Sound.{Sound, NodeSound, below-head, present-low, end-below}
+use Rattle.tree.specs.Contracts.Invariant.{Inner, Sound, NodeSound}
+use Rattle.tree.proofs.Nodes.{child-node, inner-node}
+use Rattle.tree.proofs.Sound.{below-head, present-low, end-below}
 use Rattle.tree.proofs.Ancestors.{ancestor, sideAt, child-at, ancestor-node, ancestor-inner, ancestor-root, root-height, not-root}
 use Rattle.tree.proofs.Reach.{reach, reach-suc, reach-rises}
 use Rattle.steps.specs.declared.Operation.{Operation}

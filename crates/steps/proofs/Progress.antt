@@ -6,9 +6,7 @@ use mathlib.Core.Bool.{Bool, true, false}
 use Rattle.tree.specs.Shape.{Shape, processes, root, leafOf}
 use Rattle.tree.specs.Memory.{Memory, headOf, block}
 use Rattle.tree.specs.Sides.{Side, onLeft, onRight, childOf, endOf}
-use Rattle.tree.proofs.Nodes.{Node}
-use Rattle.tree.proofs.Presence.{count, Present}
-use Rattle.tree.proofs.Sound.{Follows, Joins}
+use Rattle.tree.specs.Contracts.Invariant.{Node, count, Present, Follows, Joins}
 use Rattle.tree.proofs.Ancestors.{ancestor, sideAt}
 use Rattle.tree.proofs.Reach.{reach}
 use Rattle.steps.specs.declared.Visit.{Visit}

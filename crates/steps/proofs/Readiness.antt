@@ -15,11 +15,10 @@ use Rattle.tree.specs.Memory.{Memory, headOf, block}
 use Rattle.tree.specs.Size.{rootSize}
 use Rattle.tree.specs.Order.{total}
 use Rattle.tree.specs.Sides.{onLeft, onRight, childOf}
-use Rattle.tree.proofs.Nodes.{Node, Inner, child-node, inner-node, leaf-node}
-use Rattle.tree.proofs.Presence.{count, Present, Written}
-use Rattle.tree.proofs.Writes.{Sized, zeros}
+use Rattle.tree.specs.Contracts.Invariant.{Node, Inner, count, Present, Written, Sized, zeros, Sound}
+use Rattle.tree.proofs.Nodes.{child-node, inner-node, leaf-node}
 use Rattle.tree.proofs.Heights.{leaf-places, node-places}
-use Rattle.tree.proofs.Sound.{Sound, below-head, before-written, place-count, first-zeros}
+use Rattle.tree.proofs.Sound.{below-head, before-written, place-count, first-zeros}
 use Rattle.steps.specs.declared.Operation.{Operation}
 use Rattle.steps.specs.declared.Visit.{Visit}
 use Rattle.steps.specs.declared.Built.{Built}
@@ -29,8 +28,9 @@ use Rattle.steps.specs.declared.Status.{Status}
 use Rattle.steps.specs.declared.Status.the-variants.{Busy}
 use Rattle.steps.specs.Rules.{blockOf}
 use Rattle.steps.specs.Machine.{Machine, processOf, isQ}
-use Rattle.steps.specs.Contracts.Ready.{Laid, HasPart, HasPlace, nodeBlock, Children, Adds, Builds, Ready}
-use Rattle.steps.proofs.Places.{processes-most, places-most, headed as node-headed, has-part as node-part, has-place as node-place, reads as node-reads, small as node-small, below as place-below, present as place-present}
+use Rattle.tree.specs.Contracts.Access.{Laid, HasPart, HasPlace, nodeBlock}
+use Rattle.steps.specs.Contracts.Ready.{Children, Adds, Builds, Ready}
+use Rattle.tree.proofs.Places.{processes-most, places-most, headed as node-headed, has-part as node-part, has-place as node-place, reads as node-reads, small as node-small, below as place-below, present as place-present}
 use Rattle.steps.proofs.Stages.{Stage, stage, stageOf, made}
 use Rattle.steps.proofs.Progress.{LeafOpen, EndOk, HandOk, OwnLeaf, Way}
 use Rattle.steps.proofs.Builds.{new-sums, totals-grow}

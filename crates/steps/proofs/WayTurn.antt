@@ -9,11 +9,12 @@ use Rattle.tree.specs.Shape.{Shape, processes, leafOf, lastPlace}
 use Rattle.tree.specs.Blocks.{absent}
 use Rattle.tree.specs.Memory.{Memory, headOf, block, raise}
 use Rattle.tree.specs.Sides.{Side, childOf, endOf, onLeft, onRight}
-use Rattle.tree.proofs.Nodes.{Node, Inner, child-node, inner-node, leaf-node}
+use Rattle.tree.specs.Contracts.Invariant.{Node, Inner, Present, Sound, Sized}
+use Rattle.tree.proofs.Nodes.{child-node, inner-node, leaf-node}
 use Rattle.tree.proofs.Heights.{leaf-places}
-use Rattle.tree.proofs.Presence.{Present, present-count}
-use Rattle.tree.proofs.Sound.{Sound, below-head, present-low, place-count}
-use Rattle.tree.proofs.Writes.{Sized, write-here, raise-past}
+use Rattle.tree.proofs.Presence.{present-count}
+use Rattle.tree.proofs.Sound.{below-head, present-low, place-count}
+use Rattle.tree.proofs.Writes.{write-here, raise-past}
 use Rattle.tree.proofs.Ancestors.{ancestor, sideAt, child-at, ancestor-node, ancestor-inner}
 use Rattle.tree.proofs.Reach.{reach, reach-zero, reach-suc}
 use Rattle.steps.specs.declared.Operation.{Operation}

@@ -1,44 +1,19 @@
-// The heads of the nodes: read, and raised. A step that looks at heads alone goes on alike whatever the table is.
+// The named steps that look at heads alone. They go on alike whatever the table is.
 use crate::After;
 use crate::Process;
 use crate::Step;
 use crate::Visit;
-use crate::order::resume;
+use crate::sequence::resume;
 use crate::turn::moved;
 use crate::turn::step_in;
+use tree::heads::head_of;
+use tree::heads::raise;
 ghost use mathlib.Core.Path.{_≡_};
 ghost use mathlib.Core.Bool.{Bool};
-ghost use mathlib.Core.List.{[]};
 ghost use Prim.Native.Nat.{ℕ, _+_, _*_, _/_, _≤_, _<_};
 ghost use lib.ListN.{length, getD};
-ghost use Rattle.tree.specs.Memory.{raise as raiseOf};
 ghost use Rattle.steps.specs.Contracts.Next.{stepIn, NextByHeads};
 ghost use Rattle.steps.specs.Contracts.Ready.{Children};
-
-// A register as an index. Every index goes through here, so that no other place has a cast to prove.
-pub fn wide(x: u32) -> usize
-    ensures { λ r. ⌜ r ≡ x ⌝ }
-{
-    x as usize
-}
-
-// The head of v.
-pub fn head_of(heads: &[u32], v: u32) -> u32
-    requires { ⌜ v < length (now heads) ⌝ }
-    ensures { λ r. ⌜ r ≡ getD (now (heads .entry)) v 1 ⌝ }
-{
-    heads[wide(v)]
-}
-
-// The head of v raised from h to h + 1. If it is no longer h, another process has raised it already, and it stays.
-pub fn raise(heads: &mut [u32], v: u32, h: u32)
-    requires { ⌜ (v < length (now heads)) × (h < 65536) ⌝ }
-    ensures { λ _. ⌜ now (heads .exit) ≡ raiseOf (record { table = []; heads = now (heads .entry) }) v h .heads ⌝ }
-{
-    if head_of(heads, v) == h {
-        heads[wide(v)] = h + 1;
-    }
-}
 
 // V1: the parent's head is what v's block is to remember as its superblock.
 pub fn step_v1(heads: &[u32], q: Process) -> Process

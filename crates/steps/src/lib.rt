@@ -2,8 +2,7 @@
 pub mod blocks;
 pub mod build;
 pub mod heads;
-pub mod nodes;
-pub mod order;
+pub mod sequence;
 pub mod turn;
 
 ghost use mathlib.Core.Path.{_≡_};

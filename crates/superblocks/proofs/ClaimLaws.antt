@@ -13,7 +13,8 @@ use Rattle.base.proofs.Members.{member-between}
 use Rattle.tree.specs.Shape.{Shape, root, parentOf}
 use Rattle.tree.specs.Blocks.{blockAt, absent}
 use Rattle.tree.specs.Sides.{endOf, subblocks}
-use Rattle.tree.proofs.Nodes.{Node, sideOf, child-of-parent, parent-inner}
+use Rattle.tree.specs.Contracts.Invariant.{Node}
+use Rattle.tree.proofs.Nodes.{sideOf, child-of-parent, parent-inner}
 use Rattle.superblocks.specs.Supers.{nearSuper, SupersNear}
 
 -- ---- the test of a place

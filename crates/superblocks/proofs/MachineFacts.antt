@@ -5,9 +5,7 @@ use mathlib.Core.Path.{_≡_}
 use Rattle.tree.specs.Shape.{Shape, processes}
 use Rattle.tree.specs.Memory.{Memory, headOf}
 use Rattle.tree.specs.Sides.{Side}
-use Rattle.tree.proofs.Nodes.{Node}
-use Rattle.tree.proofs.Presence.{Present}
-use Rattle.tree.proofs.Sound.{Sound}
+use Rattle.tree.specs.Contracts.Invariant.{Node, Present, Sound}
 use Rattle.steps.specs.declared.Operation.{Operation}
 use Rattle.steps.specs.declared.Visit.{Visit}
 use Rattle.steps.specs.declared.After.{After}

@@ -8,8 +8,7 @@ use mathlib.Core.Bool.{false}
 use Rattle.tree.specs.Shape.{Shape, processes}
 use Rattle.tree.specs.Memory.{Memory, headOf, block}
 use Rattle.tree.specs.Sides.{Side, onLeft, onRight, childOf, endOf}
-use Rattle.tree.proofs.Nodes.{Node, Inner}
-use Rattle.tree.proofs.Presence.{Present}
+use Rattle.tree.specs.Contracts.Invariant.{Node, Inner, Present}
 use Rattle.steps.specs.declared.Operation.{Operation}
 use Rattle.steps.specs.declared.Visit.{Visit}
 use Rattle.steps.specs.declared.After.{After}

@@ -7,8 +7,8 @@ use Rattle.tree.specs.declared.Block.{Block}
 use Rattle.tree.specs.Shape.{Shape, processes, parentOf}
 use Rattle.tree.specs.Memory.{Memory}
 use Rattle.tree.specs.Sides.{childOf}
-use Rattle.tree.proofs.Nodes.{Node, sideOf, child-of-parent, parent-inner}
-use Rattle.tree.proofs.Writes.{zeros}
+use Rattle.tree.specs.Contracts.Invariant.{Node, zeros}
+use Rattle.tree.proofs.Nodes.{sideOf, child-of-parent, parent-inner}
 use Rattle.tree.proofs.Cleared.{cleared, cleared-head, cleared-block}
 use Rattle.steps.specs.declared.Operation.{Operation}
 use Rattle.steps.specs.declared.Step.{Step}

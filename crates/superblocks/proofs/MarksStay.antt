@@ -9,10 +9,9 @@ use Rattle.tree.specs.declared.Block.{Block}
 use Rattle.tree.specs.Shape.{Shape, processes}
 use Rattle.tree.specs.Memory.{Memory, headOf, block}
 use Rattle.tree.specs.Sides.{Side, onLeft, onRight, childOf, endOf}
-use Rattle.tree.proofs.Nodes.{Node, Inner, parent-of-child, child-node, child-below, inner-node}
-use Rattle.tree.proofs.Presence.{count, Present}
-use Rattle.tree.proofs.Writes.{zeros}
-use Rattle.tree.proofs.Sound.{Sound, present-low, end-below}
+use Rattle.tree.specs.Contracts.Invariant.{Node, Inner, count, Present, zeros, Sound}
+use Rattle.tree.proofs.Nodes.{parent-of-child, child-node, child-below, inner-node}
+use Rattle.tree.proofs.Sound.{present-low, end-below}
 use Rattle.tree.proofs.Growth.{Fresh, same-end}
 use Rattle.steps.specs.declared.Operation.{Operation}
 use Rattle.steps.specs.declared.Step.{Step}

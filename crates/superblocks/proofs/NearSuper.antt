@@ -11,9 +11,9 @@ use borrow.Author.Tests.{eq-eqb, ne-eqb, le-leb}
 use Rattle.tree.specs.Shape.{Shape}
 use Rattle.tree.specs.Sides.{Side, childOf, endOf}
 use Rattle.tree.specs.Memory.{Memory, block}
-use Rattle.tree.proofs.Nodes.{Inner, child-node, child-below, inner-node}
-use Rattle.tree.proofs.Presence.{Present, Written}
-use Rattle.tree.proofs.Sound.{Sound, end-below, below-head, present-low}
+use Rattle.tree.specs.Contracts.Invariant.{Inner, Present, Written, Sound}
+use Rattle.tree.proofs.Nodes.{child-node, child-below, inner-node}
+use Rattle.tree.proofs.Sound.{end-below, below-head, present-low}
 use Rattle.steps.specs.declared.Status.{Status}
 use Rattle.superblocks.specs.Supers.{nearSuper}
 use Rattle.superblocks.proofs.Marks.{super, Near, MarksHold}

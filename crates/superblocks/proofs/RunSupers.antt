@@ -10,7 +10,7 @@ use Rattle.base.proofs.Cases.{cases}
 use Rattle.base.proofs.Members.{members-between}
 use Rattle.record.specs.declared.StepRecord.{StepRecord}
 use Rattle.record.specs.StepRecords.{isStep, stepRecords}
-use Rattle.tree.specs.Shape.{Shape, root}
+use Rattle.tree.specs.Shape.{Shape, root, shapeFor}
 use Rattle.tree.specs.Sides.{subblocks}
 use Rattle.tree.specs.Memory.{block}
 use Rattle.tree.proofs.Presence.{present-count}
@@ -19,15 +19,15 @@ use Rattle.steps.proofs.Invariant.{Invariant}
 use Rattle.superblocks.proofs.Marks.{SuperInvariant, statuses}
 use Rattle.superblocks.proofs.MarksKept.{start-supers, begin-supers, step-supers}
 use Rattle.superblocks.proofs.NearSuper.{superblock-near}
-use Rattle.rules.specs.Refusals.{accepted, shapeFor, callRefusal}
-use Rattle.rules.specs.Run.{operationOf, takeRecord, play, run}
-use Rattle.rules.specs.History.{machineAfter}
+use Rattle.calls.specs.Refusals.{accepted, callRefusal}
+use Rattle.calls.specs.Run.{operationOf, takeRecord, play, run}
+use Rattle.calls.specs.History.{machineAfter}
 use Rattle.superblocks.specs.Supers.{SupersNear, RunSupers}
-use Rattle.rules.proofs.Legal.{Accepted, Legal, none, more, not-step}
-use Rattle.rules.proofs.Histories.{machine-snoc}
-use Rattle.rules.proofs.Played.{played-machine, played-legal}
-use Rattle.rules.proofs.Runs.{busy-status, runs}
-use Rattle.rules.proofs.Theorem.{tall-for, run-is, table-is}
+use Rattle.calls.proofs.Legal.{Accepted, Legal, none, more, not-step}
+use Rattle.calls.proofs.Histories.{machine-snoc}
+use Rattle.calls.proofs.Played.{played-machine, played-legal}
+use Rattle.calls.proofs.Runs.{busy-status, runs}
+use Rattle.calls.proofs.Theorem.{tall-for, run-is, table-is}
 
 -- ---- one record more
 record-supers : (s : Shape) → 1 ≤ s .height → (m : Machine) → Invariant s m → (r : StepRecord) → Accepted s m r → SuperInvariant s m → SuperInvariant s (takeRecord s m r)

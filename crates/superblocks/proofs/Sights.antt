@@ -12,10 +12,10 @@ use Rattle.tree.specs.Shape.{Shape, root, leafOf, leftOf, rightOf}
 use Rattle.tree.specs.Blocks.{absent}
 use Rattle.tree.specs.Memory.{Memory, headOf, block, write, setSuper, raise}
 use Rattle.tree.specs.Sides.{Side, onLeft, onRight, childOf}
-use Rattle.tree.proofs.Nodes.{Node}
-use Rattle.tree.proofs.Presence.{count, Present, absent-count}
-use Rattle.tree.proofs.Writes.{Sized, raise-cases, raise-past}
-use Rattle.tree.proofs.Sound.{Sound, present-low}
+use Rattle.tree.specs.Contracts.Invariant.{Node, count, Present, Sized, Sound}
+use Rattle.tree.proofs.Presence.{absent-count}
+use Rattle.tree.proofs.Writes.{raise-cases, raise-past}
+use Rattle.tree.proofs.Sound.{present-low}
 use Rattle.steps.specs.declared.Operation.{Operation}
 use Rattle.steps.specs.declared.Visit.{Visit}
 use Rattle.steps.specs.declared.After.{After}

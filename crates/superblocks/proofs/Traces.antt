@@ -12,10 +12,11 @@ use Rattle.tree.specs.declared.Block.{Block}
 use Rattle.tree.specs.Shape.{Shape, processes, root, leafOf, parentOf, leftOf, rightOf, lastPlace}
 use Rattle.tree.specs.Blocks.{absent}
 use Rattle.tree.specs.Memory.{Memory, headOf, block, write, writeIfAbsent, withSuper, setSuper, raise}
-use Rattle.tree.proofs.Nodes.{Node, inner-node, leaf-node}
-use Rattle.tree.proofs.Presence.{count, Present, absent-count}
-use Rattle.tree.proofs.Writes.{Sized, zeros, write-here, write-cases, raise-cases}
-use Rattle.tree.proofs.Sound.{Sound, NodeSound, place-count}
+use Rattle.tree.specs.Contracts.Invariant.{Node, count, Present, Sized, zeros, Sound, NodeSound}
+use Rattle.tree.proofs.Nodes.{inner-node, leaf-node}
+use Rattle.tree.proofs.Presence.{absent-count}
+use Rattle.tree.proofs.Writes.{write-here, write-cases, raise-cases}
+use Rattle.tree.proofs.Sound.{place-count}
 use Rattle.steps.specs.declared.Operation.{Operation}
 use Rattle.steps.specs.declared.Operation.the-variants.{Put, Take}
 use Rattle.steps.specs.declared.Visit.{Visit}

@@ -6,16 +6,15 @@ use mathlib.Core.Bool.{Bool, true}
 use mathlib.Core.List.{List, [], _∷_, _++_, map}
 use lib.Dec.{eqb}
 use Rattle.base.specs.Between.{between}
-use Rattle.tree.specs.Shape.{root}
+use Rattle.tree.specs.Shape.{root, shapeFor}
 use Rattle.tree.specs.Layout.{wordsNeeded}
 use Rattle.tree.specs.Blocks.{blockAt}
 use Rattle.tree.specs.Sides.{Side, onLeft, onRight, childOf, subblocks}
 use Rattle.tree.specs.Order.{lastRoot}
 use Rattle.tree.specs.Standing.{firstOf}
-use Rattle.rules.specs.Refusals.{shapeFor}
-use Rattle.rules.specs.Run.{run}
-use Rattle.rules.specs.All.{rules}
-use Rattle.rules.specs.KnownRuns.{beginPut, steps, lent}
+use Rattle.calls.specs.Run.{run}
+use Rattle.calls.specs.All.{rules}
+use Rattle.calls.specs.KnownRuns.{beginPut, steps, lent}
 use Rattle.superblocks.specs.Supers.{nearSuper}
 
 -- two processes of at most `most` operations, and what their records leave of block 1 of the root's child on a side: its

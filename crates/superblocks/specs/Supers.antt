@@ -7,12 +7,11 @@ use mathlib.Core.List.{List}
 use lib.ListN.{take}
 use lib.Dec.{leb, eqb}
 use Rattle.base.specs.Members.{All}
-use Rattle.tree.specs.Shape.{Shape, processes, root}
+use Rattle.tree.specs.Shape.{Shape, processes, root, shapeFor}
 use Rattle.tree.specs.Layout.{wordsNeeded}
 use Rattle.tree.specs.Blocks.{blockAt, absent}
 use Rattle.tree.specs.Sides.{Side, childOf, subblocks}
-use Rattle.rules.specs.Refusals.{shapeFor}
-use Rattle.rules.specs.Run.{RunLeaves}
+use Rattle.calls.specs.Run.{RunLeaves}
 
 -- super z is set, and place q is z or one place later
 unfoldable pub nearSuper : ℕ → ℕ → Bool

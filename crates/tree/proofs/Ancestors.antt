@@ -1,4 +1,4 @@
--- The nodes above a process's leaf. Used by proofs and by contracts of functions; no exported promise names it.
+-- The nodes above a process's leaf. Used by proofs.
 use Prim.Native.Nat.{ℕ, zero, suc, _*_, _-_, _^_, _≤_, _<_}
 use native.Mathlib.Omega.{arith}
 use native.Mathlib.Decide.{decLt, ℕ-discrete}
@@ -7,7 +7,8 @@ use mathlib.Core.Path.{_≡_, ap, _∙_}
 use lib.Pow.{pow-mono, pow-pos}
 use Rattle.tree.specs.Shape.{Shape, processes, parentOf, leafOf}
 use Rattle.tree.specs.Sides.{Side, childOf}
-use Rattle.tree.proofs.Nodes.{Node, Inner, sideOf, child-of-parent}
+use Rattle.tree.specs.Contracts.Invariant.{Node, Inner}
+use Rattle.tree.proofs.Nodes.{sideOf, child-of-parent}
 
 -- the node of height j above the leaf of process k
 abbrev pub ancestor : Shape → ℕ → ℕ → ℕ

@@ -9,9 +9,8 @@ use Rattle.tree.specs.Shape.{Shape, processes, leafOf}
 use Rattle.tree.specs.Layout.{blockWords, partStart, partWords, partOf, wordsNeeded}
 use Rattle.tree.specs.Blocks.{wordIn, blockAt}
 use Rattle.tree.specs.Memory.{Memory, headOf, block}
-use Rattle.tree.proofs.Presence.{count}
-use Rattle.tree.proofs.Writes.{zeros, block-zeros, Sized}
-use Rattle.tree.proofs.Sound.{Sound}
+use Rattle.tree.specs.Contracts.Invariant.{count, zeros, Sized, Sound}
+use Rattle.tree.proofs.Writes.{block-zeros}
 
 abbrev pub cleared : Shape → Memory
 cleared s = record { table = replicate (wordsNeeded s) 0; heads = replicate (2 * processes s) 1 }

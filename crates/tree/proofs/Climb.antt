@@ -10,8 +10,8 @@ use Rattle.tree.specs.Memory.{Memory, headOf, block}
 use Rattle.tree.specs.Order.{OpId, opened, inRoot, lastRoot}
 use Rattle.tree.specs.Standing.{times, standsIn, rootBlockOf}
 use Rattle.tree.specs.Sides.{endOf}
-use Rattle.tree.proofs.Presence.{Present, Written}
-use Rattle.tree.proofs.Sound.{Sound, below-head, end-below}
+use Rattle.tree.specs.Contracts.Invariant.{Present, Written, Sound}
+use Rattle.tree.proofs.Sound.{below-head, end-below}
 use Rattle.tree.proofs.Ancestors.{ancestor, sideAt, child-at, ancestor-node, ancestor-inner}
 use Rattle.tree.proofs.Reach.{reach, reach-zero, reach-suc, reach-rises}
 use Rattle.tree.proofs.OpenedBetween.{timesOpened, opened-inside}

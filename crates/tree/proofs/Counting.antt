@@ -19,8 +19,8 @@ use Rattle.tree.specs.Standing.{same, times}
 use Rattle.tree.proofs.Names.{times-append}
 use Rattle.tree.specs.Sides.{Side, onLeft, onRight, childOf, endOf}
 use Rattle.tree.proofs.Nodes.{inner-node, leaf-node, leaf-eq, parent-of-child, children-differ}
-use Rattle.tree.proofs.Presence.{Present}
-use Rattle.tree.proofs.Sound.{Follows, AddsOne, Sound, first-zeros, zero-end}
+use Rattle.tree.specs.Contracts.Invariant.{Present, Follows, AddsOne, Sound}
+use Rattle.tree.proofs.Sound.{first-zeros, zero-end}
 use Rattle.tree.proofs.Ancestors.{ancestor, sideAt, child-at}
 use Rattle.tree.proofs.Reach.{reach, reach-zero, reach-suc}
 use Rattle.tree.proofs.Levels.{Level, level-child, level-inner, level-leaf}

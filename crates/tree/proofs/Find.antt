@@ -13,8 +13,7 @@ use Rattle.tree.specs.Shape.{Shape, root, leafOf}
 use Rattle.tree.specs.Memory.{Memory, block}
 use Rattle.tree.specs.Order.{OpId, total, opened, inRoot, lastRoot, rootPuts}
 use Rattle.tree.specs.Sides.{Side, onLeft, onRight, childOf, endOf}
-use Rattle.tree.proofs.Presence.{Present}
-use Rattle.tree.proofs.Sound.{Sound}
+use Rattle.tree.specs.Contracts.Invariant.{Present, Sound}
 use Rattle.tree.proofs.Levels.{Level, level-child, level-inner}
 use Rattle.tree.proofs.Opening.{openedOn, opened-inner, opened-length, subblock-present}
 use Rattle.tree.proofs.LastRoot.{root-present, root-length, order-length}

@@ -1,4 +1,4 @@
--- How one step may make a memory grow, and that such growth keeps the memory invariant. Used by proofs and by contracts of functions; no exported promise names it.
+-- How one step may make a memory grow, and that such growth keeps the memory invariant. Used by proofs.
 use Prim.Native.Nat.{ℕ, zero, suc, _+_, _≤_, _<_}
 use native.Mathlib.Omega.{arith}
 use native.Mathlib.Decide.{decLt, decLe}
@@ -14,9 +14,9 @@ use Rattle.tree.specs.Memory.{Memory, headOf, block}
 use Rattle.tree.specs.Size.{rootSize}
 use Rattle.tree.specs.Order.{total}
 use Rattle.tree.specs.Sides.{Side, onLeft, onRight, childOf, endOf}
-use Rattle.tree.proofs.Nodes.{Node, Inner, child-node, inner-node, leaf-node}
-use Rattle.tree.proofs.Presence.{count, Present, Written}
-use Rattle.tree.proofs.Sound.{Follows, AddsOne, Joins, NodeSound, Sound, below-head, present-low, before-written}
+use Rattle.tree.specs.Contracts.Invariant.{Node, Inner, count, Present, Written, Follows, AddsOne, Joins, NodeSound, Sound}
+use Rattle.tree.proofs.Nodes.{child-node, inner-node, leaf-node}
+use Rattle.tree.proofs.Sound.{below-head, present-low, before-written}
 
 -- two blocks are equal but for super
 pub record Same (x y : Block) : Type 0 where

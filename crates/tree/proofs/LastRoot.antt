@@ -16,9 +16,10 @@ use Rattle.tree.specs.Shape.{Shape, processes, root, leafOf, lastPlace}
 use Rattle.tree.specs.Blocks.{absent}
 use Rattle.tree.specs.Memory.{Memory, headOf, block}
 use Rattle.tree.specs.Order.{OpId, total, inRoot, lastAmong, lastRoot}
-use Rattle.tree.proofs.Nodes.{Node, root-node}
-use Rattle.tree.proofs.Presence.{Present, Written, absent-count, present-count}
-use Rattle.tree.proofs.Sound.{NodeSound, Sound, place-count, written-low, first-zeros, zero-total}
+use Rattle.tree.specs.Contracts.Invariant.{Node, Present, Written, NodeSound, Sound}
+use Rattle.tree.proofs.Nodes.{root-node}
+use Rattle.tree.proofs.Presence.{absent-count, present-count}
+use Rattle.tree.proofs.Sound.{place-count, written-low, first-zeros, zero-total}
 use Rattle.tree.proofs.Levels.{level-root}
 use Rattle.tree.proofs.Opening.{opened-length, opened-all}
 

@@ -7,9 +7,7 @@ use mathlib.Core.Logic.{inl, inr}
 use Rattle.tree.specs.declared.Block.{Block}
 use Rattle.tree.specs.Shape.{Shape, processes}
 use Rattle.tree.specs.Memory.{Memory, headOf, block}
-use Rattle.tree.proofs.Nodes.{Node}
-use Rattle.tree.proofs.Presence.{Present, Written}
-use Rattle.tree.proofs.Sound.{Sound}
+use Rattle.tree.specs.Contracts.Invariant.{Node, Present, Written, Sound}
 use Rattle.tree.proofs.Growth.{Same, same-refl, Grows, heads-rise}
 use Rattle.tree.proofs.Ancestors.{ancestor}
 use Rattle.tree.proofs.Reach.{reach, reach-stays}

@@ -1,4 +1,4 @@
--- Nodes by height: those of height h in a tree of height H are numbered from 2^(H − h) up to its double. Used by proofs and by contracts of functions; no exported promise names it.
+-- Nodes by height: those of height h in a tree of height H are numbered from 2^(H − h) up to its double. Used by proofs.
 use Prim.Native.Nat.{ℕ, zero, suc, _*_, _-_, _^_, _≤_, _<_}
 use native.Mathlib.Omega.{arith}
 use native.Mathlib.Nat.{le-refl, pow-suc, sub-self}
@@ -6,7 +6,7 @@ use mathlib.Core.Path.{_≡_, ap, _∙_}
 use lib.Pow.{pow-mono, pow-pos}
 use Rattle.tree.specs.Shape.{Shape, processes, root, leftOf, rightOf, leafOf}
 use Rattle.tree.specs.Sides.{Side, onLeft, onRight, childOf}
-use Rattle.tree.proofs.Nodes.{Inner}
+use Rattle.tree.specs.Contracts.Invariant.{Inner}
 
 pub record Level (s : Shape) (h v : ℕ) : Type 0 where
   pub tall : h ≤ s .height

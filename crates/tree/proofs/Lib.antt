@@ -30,3 +30,5 @@ pub mod Find
 pub mod BlockStores
 pub mod LayoutSums
 pub mod NodeParts
+pub mod NodeReads
+pub mod Places

@@ -1,5 +1,5 @@
--- Nodes of the tree, inner nodes, and the nodes on the two sides of an inner one. Used by proofs and by contracts of functions; no exported promise names it.
-use Prim.Native.Nat.{ℕ, _*_, _%_, _≤_, _<_}
+-- Nodes of the tree, inner nodes, and the nodes on the two sides of an inner one. Used by proofs.
+use Prim.Native.Nat.{ℕ, _%_, _≤_, _<_}
 use native.Mathlib.Omega.{arith}
 use mathlib.Core.Path.{_≡_, refl}
 use mathlib.Core.Bool.{Bool, true, false}
@@ -8,14 +8,7 @@ use lib.Pow.{pow-pos}
 use borrow.Author.Tests.{eqb-true, eqb-false}
 use Rattle.tree.specs.Shape.{Shape, processes, leftOf, rightOf, parentOf, leafOf}
 use Rattle.tree.specs.Sides.{Side, onLeft, onRight, childOf}
-
-pub record Node (s : Shape) (v : ℕ) : Type 0 where
-  pub first : 1 ≤ v
-  pub last : v < 2 * processes s
-
-pub record Inner (s : Shape) (v : ℕ) : Type 0 where
-  pub first : 1 ≤ v
-  pub last : v < processes s
+use Rattle.tree.specs.Contracts.Invariant.{Node, Inner}
 
 -- the side on which a node is its parent's child
 abbrev sideBy : Bool → Side

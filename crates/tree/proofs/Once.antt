@@ -16,8 +16,7 @@ use Rattle.tree.specs.Shape.{Shape, processes, root, leafOf}
 use Rattle.tree.specs.Memory.{Memory}
 use Rattle.tree.specs.Order.{OpId, inRoot, lastRoot, rootOperations}
 use Rattle.tree.specs.Standing.{times, standsIn}
-use Rattle.tree.proofs.Presence.{Present}
-use Rattle.tree.proofs.Sound.{Sound}
+use Rattle.tree.specs.Contracts.Invariant.{Present, Sound}
 use Rattle.tree.proofs.Levels.{level-root}
 use Rattle.tree.proofs.Opening.{opened-zero}
 use Rattle.tree.proofs.Names.{times-append}

@@ -16,8 +16,7 @@ use Rattle.tree.specs.Memory.{Memory}
 use Rattle.tree.specs.Order.{OpId, opened}
 use Rattle.tree.specs.Standing.{times}
 use Rattle.tree.proofs.Nodes.{leaf-node}
-use Rattle.tree.proofs.Presence.{Present}
-use Rattle.tree.proofs.Sound.{Sound}
+use Rattle.tree.specs.Contracts.Invariant.{Present, Sound}
 use Rattle.tree.proofs.Ancestors.{ancestor}
 use Rattle.tree.proofs.Reach.{reach, reach-zero, reach-rises, reach-below}
 use Rattle.tree.proofs.Levels.{Level}

@@ -16,9 +16,8 @@ use Rattle.tree.specs.Order.{OpId, total, opened}
 use Rattle.tree.specs.Standing.{times}
 use Rattle.tree.proofs.Names.{other-process, times-append}
 use Rattle.tree.specs.Sides.{Side, onLeft, onRight, childOf}
-use Rattle.tree.proofs.Nodes.{Inner, parent-of-child}
-use Rattle.tree.proofs.Presence.{Present}
-use Rattle.tree.proofs.Sound.{Sound}
+use Rattle.tree.specs.Contracts.Invariant.{Inner, Present, Sound}
+use Rattle.tree.proofs.Nodes.{parent-of-child}
 use Rattle.tree.proofs.Ancestors.{ancestor}
 use Rattle.tree.proofs.Reach.{reach}
 use Rattle.tree.proofs.Levels.{Level, level-child, level-inner, level-leaf}

@@ -22,9 +22,9 @@ use Rattle.tree.specs.Memory.{Memory, block}
 use Rattle.tree.specs.Blocks.{blockAt}
 use Rattle.tree.specs.Order.{OpId, total, opened}
 use Rattle.tree.specs.Sides.{subblocks, Side, onLeft, onRight, childOf, endOf}
-use Rattle.tree.proofs.Nodes.{Node, Inner, inner-node, child-node, leaf-node}
-use Rattle.tree.proofs.Presence.{Present, Written}
-use Rattle.tree.proofs.Sound.{Follows, AddsOne, Sound, before-written, sums-at}
+use Rattle.tree.specs.Contracts.Invariant.{Node, Inner, Present, Written, Follows, AddsOne, Sound}
+use Rattle.tree.proofs.Nodes.{inner-node, child-node, leaf-node}
+use Rattle.tree.proofs.Sound.{before-written, sums-at}
 use Rattle.tree.proofs.Growth.{Same, same-total, same-end}
 use Rattle.tree.proofs.Later.{Later}
 use Rattle.tree.proofs.Levels.{Level, level-child, level-inner, level-leaf}

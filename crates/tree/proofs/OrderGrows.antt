@@ -15,8 +15,7 @@ use Rattle.tree.specs.Shape.{Shape, processes, root}
 use Rattle.tree.specs.Memory.{Memory}
 use Rattle.tree.specs.Order.{OpId, inRoot, lastRoot, placed, blockOrder, rootOrder, rootOperations}
 use Rattle.tree.specs.Standing.{times, standsIn, firstOf, rootBlockOf}
-use Rattle.tree.proofs.Presence.{Written}
-use Rattle.tree.proofs.Sound.{Sound}
+use Rattle.tree.specs.Contracts.Invariant.{Written, Sound}
 use Rattle.tree.proofs.Later.{Later, later-present, reach-later}
 use Rattle.tree.proofs.Levels.{level-root}
 use Rattle.tree.proofs.Opening.{opened-stays}

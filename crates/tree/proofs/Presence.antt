@@ -1,21 +1,16 @@
--- Presence of a block as a number: it has puts or takes. Used by proofs and by contracts of functions; no exported promise names it.
-use Prim.Native.Nat.{ℕ, _+_, _≤_}
+-- Presence of a block as a number: it has puts or takes. Used by proofs.
+use Prim.Native.Nat.{_≤_}
 use native.Mathlib.Omega.{arith}
 use native.Mathlib.Decide.{decLe}
 use mathlib.Core.Path.{_≡_, sym, _∙_}
-use mathlib.Core.Logic.{_⊎_}
 use mathlib.Core.Bool.{true, false, true≢false}
 use lib.Dec.{eqb}
 use borrow.Author.Tests.{eqb-true, eq-eqb}
 use Rattle.base.proofs.Cases.{and-true}
 use Rattle.tree.specs.declared.Block.{Block}
-use Rattle.tree.specs.Shape.{Shape}
 use Rattle.tree.specs.Blocks.{absent}
-use Rattle.tree.specs.Memory.{Memory, block}
-
--- the operations up to and including a block
-abbrev pub count : Block → ℕ
-count b = b .puts + b .takes
+use Rattle.tree.specs.Memory.{block}
+use Rattle.tree.specs.Contracts.Invariant.{count}
 
 pub absent-count : (b : Block) → absent b ≡ true → count b ≡ 0
 unfolding absent
@@ -31,10 +26,3 @@ present-count b h = on (decLe 1 (count b))
     on : Dec (1 ≤ count b) → 1 ≤ count b
     on (yes l) = l
     on (no l) = absurd (true≢false (sym (count-absent b (omega arith)) ∙ h))
-
--- place i of node v is present; it is present or place 0
-abbrev pub Present : Shape → Memory → ℕ → ℕ → Type 0
-Present s m v i = 1 ≤ count (block s m v i)
-
-abbrev pub Written : Shape → Memory → ℕ → ℕ → Type 0
-Written s m v i = (i ≡ 0) ⊎ Present s m v i

@@ -13,8 +13,7 @@ use Rattle.tree.specs.Order.{OpId, total, opened}
 use Rattle.tree.specs.Standing.{times, rankIn}
 use Rattle.tree.proofs.Names.{same-refl, times-append, rank-left, rank-right, rank-gather}
 use Rattle.tree.specs.Sides.{Side, onLeft, onRight, childOf, endOf}
-use Rattle.tree.proofs.Presence.{Present}
-use Rattle.tree.proofs.Sound.{Sound}
+use Rattle.tree.specs.Contracts.Invariant.{Present, Sound}
 use Rattle.tree.proofs.Levels.{Level}
 use Rattle.tree.proofs.Opening.{openedOn, opened-leaf, opened-inner}
 use Rattle.tree.proofs.OpenedOnce.{opened-once}

@@ -1,13 +1,12 @@
--- How many of a process's operations the first blocks of a node above its leaf hold. Used by proofs and by contracts of functions; no exported promise names it.
+-- How many of a process's operations the first blocks of a node above its leaf hold. Used by proofs.
 use Prim.Native.Nat.{ℕ, zero, suc, _≤_, _<_}
 use native.Mathlib.Omega.{arith}
 use mathlib.Core.Path.{_≡_, refl, ap, _∙_}
 use Rattle.tree.specs.Shape.{Shape, processes, leafOf}
 use Rattle.tree.specs.Memory.{Memory, headOf, block}
 use Rattle.tree.specs.Sides.{endOf}
-use Rattle.tree.proofs.Nodes.{Node}
-use Rattle.tree.proofs.Presence.{Written}
-use Rattle.tree.proofs.Sound.{Sound, below-head, first-zeros, zero-end, end-below, ends-rise}
+use Rattle.tree.specs.Contracts.Invariant.{Node, Written, Sound}
+use Rattle.tree.proofs.Sound.{below-head, first-zeros, zero-end, end-below, ends-rise}
 use Rattle.tree.proofs.Growth.{Same, same-end}
 use Rattle.tree.proofs.Ancestors.{ancestor, sideAt, child-at, ancestor-node, ancestor-inner}
 

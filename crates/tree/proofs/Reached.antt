@@ -6,8 +6,7 @@ use mathlib.Core.Path.{_≡_, refl, sym, subst}
 use Rattle.tree.specs.Shape.{Shape, processes, root, leafOf}
 use Rattle.tree.specs.Memory.{Memory, headOf}
 use Rattle.tree.proofs.Nodes.{leaf-node}
-use Rattle.tree.proofs.Presence.{Present, Written}
-use Rattle.tree.proofs.Sound.{Sound}
+use Rattle.tree.specs.Contracts.Invariant.{Present, Written, Sound}
 use Rattle.tree.proofs.Ancestors.{ancestor, ancestor-root}
 use Rattle.tree.proofs.Reach.{reach, reach-rises, reach-below}
 

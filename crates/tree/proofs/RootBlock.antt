@@ -17,7 +17,7 @@ use Rattle.tree.specs.Shape.{Shape}
 use Rattle.tree.specs.Memory.{Memory}
 use Rattle.tree.specs.Order.{OpId, inRoot, lastRoot, rootOperations}
 use Rattle.tree.specs.Standing.{times, standsIn, firstOf, rootBlockOf}
-use Rattle.tree.proofs.Sound.{Sound}
+use Rattle.tree.specs.Contracts.Invariant.{Sound}
 use Rattle.tree.proofs.Names.{times-append}
 use Rattle.tree.proofs.LastRoot.{root-written}
 use Rattle.tree.proofs.Operations.{root-times}

@@ -12,9 +12,7 @@ use Rattle.tree.specs.Shape.{Shape}
 use Rattle.tree.specs.Memory.{Memory, block}
 use Rattle.tree.specs.Order.{total, opened}
 use Rattle.tree.specs.Sides.{Side, onLeft, onRight, childOf, endOf}
-use Rattle.tree.proofs.Nodes.{Inner}
-use Rattle.tree.proofs.Presence.{Present}
-use Rattle.tree.proofs.Sound.{Sound}
+use Rattle.tree.specs.Contracts.Invariant.{Inner, Present, Sound}
 use Rattle.tree.proofs.Levels.{Level, level-child, level-inner}
 use Rattle.tree.proofs.Opening.{openedOn, subblocks-rise, subblock-present, opened-length}
 

@@ -13,17 +13,13 @@ use Rattle.base.proofs.Cases.{cases, both}
 use Rattle.base.proofs.Stores.{set-cases}
 use Rattle.tree.specs.declared.Block.{Block}
 use Rattle.tree.specs.Shape.{Shape, processes, lastPlace}
-use Rattle.tree.specs.Layout.{blockWords, partStart, partWords, partOf, wordsNeeded}
+use Rattle.tree.specs.Layout.{blockWords, partStart, partWords, partOf}
 use Rattle.tree.specs.Blocks.{wordIn, blockIn, withBlock, blockAt, withBlockAt}
 use Rattle.tree.specs.Memory.{Memory, headOf, block, write, raise}
 use Rattle.tree.proofs.Parts.{part-same, part-other, part-length}
 use Rattle.tree.proofs.BlockWrites.{block-same, block-other, block-length}
 use Rattle.tree.proofs.Sizes.{words-of, part-within}
-use Rattle.tree.proofs.Nodes.{Node}
-
--- all six words are zero
-unfoldable pub zeros : Block
-zeros = record { puts = 0; takes = 0; superblock = 0; left = 0; right = 0; size = 0 }
+use Rattle.tree.specs.Contracts.Invariant.{Node, Sized, zeros}
 
 -- a part in which a place's words read as zero has the zero block there
 pub block-zeros : (part : List ℕ) (i : ℕ) → ((j : ℕ) → wordIn part i j ≡ 0) → blockIn part i ≡ zeros
@@ -62,11 +58,6 @@ module _ (s : Shape) (t : List ℕ) (v i : ℕ) (b : Block) (fits : partStart s 
   put-length : length (withBlockAt s t v i b) ≡ length t
   unfolding withBlockAt
   put-length = part-length s t v (withBlock (partOf s t v) i b) fits sized
-
--- ---- a memory that has the words needed and a head for each node
-pub record Sized (s : Shape) (m : Memory) : Type 0 where
-  pub words : length (m .table) ≡ wordsNeeded s
-  pub heads : length (m .heads) ≡ 2 * processes s
 
 module _ (s : Shape) (m : Memory) (v i : ℕ) (b : Block) (sz : Sized s m) (node : Node s v) where
   fits : partStart s v + partWords s v ≤ length (m .table)

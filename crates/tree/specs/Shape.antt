@@ -1,12 +1,19 @@
 -- The tree: processes, nodes, heights and places.
 use Prim.Native.Nat.{ℕ, zero, suc, _+_, _*_, _^_, _/_}
-use lib.Dec.{ltb}
+use lib.Dec.{ltb, eqb}
 use Rattle.base.specs.Choice.{if_then_else_}
 
 -- the shape of a tree: its height H, and L, the most operations of one process
 pub record Shape : Type 0 where
   pub height : ℕ
   pub most : ℕ
+
+-- H, for p = 2 to the power H, and the tree for p processes of at most l operations
+unfoldable pub heightFor : ℕ → ℕ
+heightFor p = if eqb p 2 then 1 else if eqb p 4 then 2 else 3
+
+unfoldable pub shapeFor : ℕ → ℕ → Shape
+shapeFor p l = record { height = heightFor p; most = l }
 
 -- p, the number of processes: 2 to the power H
 unfoldable pub processes : Shape → ℕ

@@ -3,8 +3,21 @@ ghost use mathlib.Core.Path.{_≡_};
 ghost use mathlib.Core.List.{_++_};
 ghost use Prim.Native.Nat.{ℕ, _+_, _*_, _^_, _≤_, _<_};
 ghost use lib.ListN.{length, drop, replicate, getD};
-ghost use Rattle.tree.specs.Shape.{Shape, processes, heightIn, lastPlace};
+ghost use Rattle.tree.specs.Shape.{Shape, heightFor, processes, heightIn, lastPlace};
 ghost use Rattle.tree.specs.Layout.{partWords, partStart, wordsNeeded};
+
+// The height of the tree for p processes.
+pub fn height_for(p: u32) -> usize
+    ensures { λ r. ⌜ (r ≡ heightFor p) × (1 ≤ r) × (r ≤ 3) ⌝ }
+{
+    if p == 2 {
+        return 1;
+    }
+    if p == 4 {
+        return 2;
+    }
+    3
+}
 
 // 2 to the power k: with k = h, the number of processes.
 pub fn power(k: usize) -> usize

@@ -1,8 +1,10 @@
 // The ordering tree: its shape, where each node's blocks stand in the work table, and what a block opens to. This crate knows nothing of steps.
 
+pub mod access;
+pub mod bisect;
 pub mod blocks;
+pub mod heads;
 pub mod layout;
-pub mod search;
 pub mod table;
 
 // A block of a node: six words of the work table. `superblock` is the paper's super. `left` and `right` are the ends in the children; in a leaf, `left` holds the

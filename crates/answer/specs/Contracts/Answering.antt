@@ -7,7 +7,7 @@ use Rattle.record.specs.declared.AnswerRecord.{AnswerRecord}
 use Rattle.tree.specs.Shape.{Shape}
 use Rattle.tree.specs.Order.{lastRoot}
 use Rattle.steps.specs.declared.Process.{Process}
-use Rattle.steps.specs.Contracts.Settled.{Settles}
+use Rattle.tree.specs.Contracts.SoundTree.{SoundTree}
 
 -- the answer record of process k, which is q before its step Q
 abbrev pub recordOf : ℕ → Process → Reply → ℕ → AnswerRecord
@@ -15,7 +15,7 @@ recordOf k q reply block = record { process = k; reply = reply; steps = q .steps
 
 -- in a tree of shape s and the height given, root block b is present, and i is the number of a take there, from 1
 pub record TakenAs (s : Shape) (heads starts table : List ℕ) (height b i : ℕ) : Type 0 where
-  pub settles : Settles s starts heads table
+  pub settles : SoundTree s starts heads table
   pub tall : height ≡ s .height
   pub some : 1 ≤ b
   pub most : b ≤ lastRoot s table

@@ -4,15 +4,15 @@ use mathlib.Core.Path.{_≡_}
 use mathlib.Core.List.{List}
 use Rattle.tree.specs.Shape.{Shape, processes, leafOf}
 use Rattle.tree.specs.Memory.{Memory, block}
-use Rattle.tree.proofs.Presence.{Present}
+use Rattle.tree.specs.Contracts.Invariant.{Present}
 use Rattle.steps.specs.declared.Operation.{Operation}
 use Rattle.steps.specs.declared.Step.{Step}
 use Rattle.steps.specs.declared.Status.the-variants.{Busy}
 use Rattle.steps.specs.declared.Process.{Process}
 use Rattle.steps.specs.Machine.{Machine, processOf}
-use Rattle.steps.specs.Contracts.Ready.{Laid}
+use Rattle.tree.specs.Contracts.Access.{Laid}
 use Rattle.steps.proofs.Invariant.{Invariant}
-use Rattle.rules.proofs.Leaves.{IsBlockOf}
+use Rattle.calls.proofs.Leaves.{IsBlockOf}
 
 -- the machine of some table words, heads and processes
 abbrev pub machineOf : List ℕ → List ℕ → List Process → Machine

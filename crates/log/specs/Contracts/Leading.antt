@@ -9,10 +9,10 @@ use Rattle.base.specs.Choice.{if_then_else_}
 use Rattle.record.specs.declared.AnswerRecord.{AnswerRecord}
 use Rattle.record.specs.Bytes.{cut}
 use Rattle.record.specs.AnswerRecords.{answerSize, answerBytes, logBytes}
-use Rattle.rules.specs.declared.Verdict.{Verdict}
-use Rattle.rules.specs.declared.Verdict.the-variants.{Same, Differs}
-use Rattle.rules.specs.CheckLog.{sameBytes}
-use Rattle.rules.specs.LogVerdict.{recordAt}
+use Rattle.calls.specs.declared.Verdict.{Verdict}
+use Rattle.calls.specs.declared.Verdict.the-variants.{Same, Differs}
+use Rattle.calls.specs.CheckLog.{sameBytes}
+use Rattle.calls.specs.LogVerdict.{recordAt}
 
 -- the records at the beginning in which two logs are equal
 unfoldable pub leading : List (List ℕ) → List (List ℕ) → ℕ

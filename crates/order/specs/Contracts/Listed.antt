@@ -8,7 +8,7 @@ use Rattle.base.specs.Between.{between}
 use Rattle.record.specs.OrderRecords.{orderBytes}
 use Rattle.tree.specs.Shape.{Shape}
 use Rattle.tree.specs.Order.{placed, opened, blockOrder}
-use Rattle.rules.specs.ListOrder.{orderRecord}
+use Rattle.order.specs.OrderList.{orderRecord}
 use Rattle.order.specs.declared.Listing.{Listing}
 use Rattle.order.specs.declared.Subtree.{Subtree}
 
@@ -31,11 +31,6 @@ pub record Room (P : Shape → List ℕ → Type 0) (bytes : Shape → List ℕ)
   pub heads : List ℕ
   pub holds : P shape heads
   pub fits : at + length (bytes shape) ≤ size
-
--- xs is stored from an index on, and `next` is the index after it
-pub record Stored (before : List ℕ) (at : ℕ) (xs after : List ℕ) (next : ℕ) : Type 0 where
-  pub end : next ≡ at + length xs
-  pub bytes : after ≡ sets before at xs
 
 -- for all shapes and heads of which P holds, the bytes that the shape gives are stored
 abbrev pub Lists : (Shape → List ℕ → Type 0) → (Shape → List ℕ) → List ℕ → ℕ → List ℕ → ℕ → Type 0

@@ -7,10 +7,10 @@ use lib.Dec.{ltb}
 use Rattle.tree.specs.declared.Kind.{Kind}
 use Rattle.tree.specs.Shape.{Shape, processes, root}
 use Rattle.tree.specs.Order.{total, lastRoot}
-use Rattle.tree.proofs.Presence.{Present}
+use Rattle.tree.specs.Contracts.Invariant.{Present}
 use Rattle.tree.proofs.Levels.{Level}
-use Rattle.steps.specs.Contracts.Ready.{nodeBlock}
-use Rattle.steps.specs.Contracts.Settled.{Settles}
+use Rattle.tree.specs.Contracts.Access.{nodeBlock}
+use Rattle.tree.specs.Contracts.SoundTree.{SoundTree}
 use Rattle.order.specs.declared.Listing.{Listing}
 use Rattle.order.specs.declared.Subtree.{Subtree}
 
@@ -24,7 +24,7 @@ addsTo starts table κ v b = ltb (total κ (nodeBlock starts table v (b - 1))) (
 
 -- a table and heads are a sound memory of shape s, x has its number of processes, and y is a node of it with its height
 pub record Stands (starts table : List ℕ) (x : Listing) (y : Subtree) (s : Shape) (heads : List ℕ) : Type 0 where
-  pub settles : Settles s starts heads table
+  pub settles : SoundTree s starts heads table
   pub number : x .processes ≡ processes s
   pub level : Level s (y .height) (y .node)
 
@@ -41,12 +41,12 @@ pub record RangeOf (starts table : List ℕ) (x : Listing) (y : Subtree) (from t
 
 -- root block b is present in a tree of height h
 pub record RootOf (starts table : List ℕ) (h b : ℕ) (s : Shape) (heads : List ℕ) : Type 0 where
-  pub settles : Settles s starts heads table
+  pub settles : SoundTree s starts heads table
   pub height : h ≡ s .height
   pub present : Present s (record { table = table; heads = heads }) root b
 
 -- root block b is the last one in a tree of height h
 pub record TreeOf (starts table : List ℕ) (h b : ℕ) (s : Shape) (heads : List ℕ) : Type 0 where
-  pub settles : Settles s starts heads table
+  pub settles : SoundTree s starts heads table
   pub height : h ≡ s .height
   pub last : b ≡ lastRoot s table

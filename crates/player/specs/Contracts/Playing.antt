@@ -5,12 +5,11 @@ use mathlib.Core.Logic.{_⊎_}
 use mathlib.Core.Bool.{true}
 use mathlib.Core.List.{List}
 use lib.ListN.{length, replicate}
-use Rattle.tree.specs.Shape.{Shape, processes}
+use Rattle.tree.specs.Shape.{Shape, processes, shapeFor}
 use Rattle.tree.specs.Layout.{wordsNeeded}
-use Rattle.steps.specs.Contracts.Ready.{Laid}
+use Rattle.tree.specs.Contracts.Access.{Laid}
 use Rattle.steps.specs.Process.{processesAllowed, operationsAllowed}
-use Rattle.rules.specs.Refusals.{shapeFor}
-use Rattle.rules.specs.Run.{Played}
+use Rattle.calls.specs.Run.{Played}
 use Rattle.log.specs.Contracts.Leading.{leadingOf, written}
 use Rattle.player.specs.declared.Outcome.{Outcome}
 

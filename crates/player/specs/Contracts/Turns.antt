@@ -11,10 +11,10 @@ use Rattle.steps.specs.declared.Process.{Process}
 use Rattle.steps.specs.declared.Status.the-variants.{Idle, Busy}
 use Rattle.steps.specs.declared.Step.the-variants.{A, Q}
 use Rattle.steps.specs.Machine.{Machine, processOf, withProcess}
-use Rattle.rules.specs.declared.Refusal.{Refusal}
-use Rattle.rules.specs.Answer.{answerOf}
-use Rattle.rules.specs.Refusals.{accepted, recordRefusal}
-use Rattle.rules.specs.Run.{operationOf, takeRecord, recordAnswers}
+use Rattle.calls.specs.declared.Refusal.{Refusal}
+use Rattle.calls.specs.Answer.{answerOf}
+use Rattle.calls.specs.Refusals.{accepted, recordRefusal}
+use Rattle.calls.specs.Run.{operationOf, takeRecord, recordAnswers}
 
 -- what one record does: it is refused, or the process that it names moves on and is then as given, or it finishes its operation
 pub data Turn : Type 0 where

@@ -9,10 +9,11 @@ use Rattle.io.proofs.Counting.{counts}
 use Rattle.base.proofs.Cases.{both}
 use Rattle.record.specs.AnswerRecords.{answerSize}
 use Rattle.record.specs.StepRecords.{stepRecords}
-use Rattle.rules.specs.Refusals.{accepted, shapeFor, callRefusal}
-use Rattle.rules.specs.Run.{RunLeaves, runTurnedDown, runPlayed, run}
-use Rattle.rules.proofs.Played.{played-room}
-use Rattle.order.proofs.Storing.{stored-length}
+use Rattle.calls.specs.Refusals.{accepted, callRefusal}
+use Rattle.tree.specs.Shape.{shapeFor}
+use Rattle.calls.specs.Run.{RunLeaves, runTurnedDown, runPlayed, run}
+use Rattle.calls.proofs.Played.{played-room}
+use Rattle.base.proofs.Stored.{stored-length}
 use Rattle.queue.specs.declared.Ran.{Ran}
 use Rattle.queue.specs.Left.{runLeft}
 use Rattle.print.specs.Characters.{ascii}

@@ -4,13 +4,12 @@ use mathlib.Core.Path.{_≡_}
 use mathlib.Core.Bool.{true}
 use mathlib.Core.List.{List}
 use lib.ListN.{length}
-use Rattle.tree.specs.Shape.{Shape}
-use Rattle.tree.proofs.Writes.{Sized}
-use Rattle.tree.proofs.Sound.{Sound}
+use Rattle.tree.specs.Shape.{Shape, shapeFor}
+use Rattle.tree.specs.Contracts.Invariant.{Sized, Sound}
 use Rattle.steps.specs.Process.{processesAllowed, operationsAllowed}
-use Rattle.rules.specs.declared.Refusal.the-variants.{None}
-use Rattle.rules.specs.Refusals.{shapeFor}
-use Rattle.rules.specs.ListOrder.{ListLeaves, orderList, listRefusal, listed}
+use Rattle.calls.specs.declared.Refusal.the-variants.{None}
+use Rattle.calls.specs.ListOrder.{ListLeaves, listRefusal, listed}
+use Rattle.order.specs.OrderList.{orderList}
 
 -- p and l are allowed, and the table and the heads are a sound memory of their tree
 pub record Listing (p l : ℕ) (heads table : List ℕ) : Type 0 where

@@ -7,7 +7,7 @@ use lib.Dec.{eqb}
 use Rattle.base.specs.Choice.{if_then_else_}
 use Rattle.tree.specs.declared.Kind.{Kind}
 use Rattle.tree.specs.Order.{total}
-use Rattle.steps.specs.Contracts.Ready.{HasPart, HasPlace, nodePart, nodeBlock}
+use Rattle.tree.specs.Contracts.Access.{HasPart, HasPlace, nodePart, nodeBlock}
 use Rattle.search.specs.Contracts.Searched.{Reaches, First}
 
 -- the ends of v's parent towards v reach `place` below the parent's head

@@ -9,14 +9,14 @@ use Rattle.tree.specs.Shape.{Shape}
 use Rattle.tree.specs.Blocks.{blockAt}
 use Rattle.tree.specs.Order.{OpId, opened}
 use Rattle.tree.proofs.Levels.{Level}
-use Rattle.steps.specs.Contracts.Ready.{HasPlace, nodeBlock}
-use Rattle.steps.specs.Contracts.Settled.{Settles}
+use Rattle.tree.specs.Contracts.Access.{HasPlace, nodeBlock}
+use Rattle.tree.specs.Contracts.SoundTree.{SoundTree}
 use Rattle.search.specs.declared.find.Descent.{Descent}
 use Rattle.search.specs.Contracts.Numbered.{HasValue}
 
 -- put number n of node v, counted from 1 over the node's blocks from place 1 on, is in block b of v, a node of height h
 pub record FindsAs (s : Shape) (heads starts table : List ℕ) (h v b n : ℕ) : Type 0 where
-  pub settles : Settles s starts heads table
+  pub settles : SoundTree s starts heads table
   pub level : Level s h v
   pub past : blockAt s table v (b - 1) .puts < n
   pub upto : n ≤ blockAt s table v b .puts

@@ -6,11 +6,11 @@ use lib.ListN.{getD}
 use Rattle.tree.specs.Shape.{Shape, root, leafOf}
 use Rattle.tree.specs.Blocks.{blockAt}
 use Rattle.tree.specs.Order.{OpId, lastRoot, rootPuts}
-use Rattle.steps.specs.Contracts.Settled.{Settles}
+use Rattle.tree.specs.Contracts.SoundTree.{SoundTree}
 
 -- in a tree of shape s and the height given, put number n, from 1 in root order, is in the root blocks up to `last`, which is present
 pub record NumberedAs (s : Shape) (heads starts table : List ℕ) (height last n : ℕ) : Type 0 where
-  pub settles : Settles s starts heads table
+  pub settles : SoundTree s starts heads table
   pub tall : height ≡ s .height
   pub some : 1 ≤ last
   pub most : last ≤ lastRoot s table

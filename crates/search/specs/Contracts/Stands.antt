@@ -9,12 +9,12 @@ use Rattle.tree.specs.Memory.{Memory, headOf}
 use Rattle.tree.specs.Order.{total, inRoot, lastRoot}
 use Rattle.tree.specs.Standing.{rootBlockOf, rankIn}
 use Rattle.tree.proofs.Reach.{reach}
-use Rattle.steps.specs.Contracts.Settled.{Settles}
+use Rattle.tree.specs.Contracts.SoundTree.{SoundTree}
 use Rattle.search.specs.declared.Standing.{Standing}
 
 -- in a tree of shape s, the root blocks below the root's head hold operation `serial` of process k, whose leaf is `leaf`
 pub record StandsAs (s : Shape) (k : ℕ) (starts heads table : List ℕ) (leaf serial : ℕ) : Type 0 where
-  pub settles : Settles s starts heads table
+  pub settles : SoundTree s starts heads table
   pub process : k < processes s
   pub own : leaf ≡ leafOf s k
   pub first : 1 ≤ serial

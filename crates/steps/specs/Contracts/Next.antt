@@ -11,7 +11,7 @@ use Rattle.steps.specs.declared.Status.the-variants.{Idle, Busy}
 use Rattle.steps.specs.declared.Step.{Step}
 use Rattle.steps.specs.declared.Step.the-variants.{A, V1, V2, V3, R1, R2, R3, R4, R5, C1, C2, C3, C4, Q}
 use Rattle.steps.specs.Rules.{step, go}
-use Rattle.steps.specs.Contracts.Ready.{Begins}
+use Rattle.tree.specs.Contracts.Access.{Begins}
 
 -- the parts of the nodes whose blocks a step looks at begin and end where they do in a tree of shape s; A, which knows its leaf from its process, is told it
 abbrev pub Placed : Shape → List ℕ → Step → Type 0

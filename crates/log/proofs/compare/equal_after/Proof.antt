@@ -11,8 +11,8 @@ use borrow.Author.Tests.{eq-eqb, ne-eqb}
 use Rattle.record.specs.declared.AnswerRecord.{AnswerRecord}
 use Rattle.record.specs.AnswerRecords.{answerSize, answerBytes}
 use Rattle.record.proofs.Lengths.{answer-length}
-use Rattle.rules.specs.CheckLog.{sameBytes}
-use Rattle.rules.specs.LogVerdict.{recordAt}
+use Rattle.calls.specs.CheckLog.{sameBytes}
+use Rattle.calls.specs.LogVerdict.{recordAt}
 use Rattle.log.specs.Contracts.Leading.{countAfter}
 use Rattle.log.proofs.Cuts.{no-record}
 use Rattle.log.proofs.compare.equal_after.Statement.{statement}

@@ -11,7 +11,7 @@ use lib.ListN.{length, getD, take, drop, length-drop, drop-of-length-le}
 use lib.Seq.{drop-cons, getD-take, getD-drop, length-take-le}
 use borrow.Author.Needs.{needs}
 use borrow.Author.Tests.{eq-eqb, ne-eqb}
-use Rattle.rules.specs.CheckLog.{sameBytes}
+use Rattle.calls.specs.CheckLog.{sameBytes}
 use Rattle.log.proofs.compare.same_sixteen.Statement.{statement}
 use Rattle.log.proofs.compare.same_sixteen.Tie as tie
 

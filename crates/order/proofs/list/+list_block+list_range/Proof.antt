@@ -11,7 +11,8 @@ use Rattle.tree.specs.Shape.{leftOf, rightOf}
 use Rattle.order.specs.declared.Subtree.{Subtree}
 use Rattle.order.specs.Contracts.Opens.{RangeOf}
 use Rattle.order.specs.Contracts.Listed.{Lists, blockRecords, gathered}
-use Rattle.order.proofs.Storing.{stored-none, room-first, room-second, lists-both, gathered-none, gathered-room, gathered-more}
+use Rattle.base.proofs.Stored.{stored-none}
+use Rattle.order.proofs.Storing.{room-first, room-second, lists-both, gathered-none, gathered-room, gathered-more}
 use Rattle.order.proofs.Subblocks.{stands-low, block-first, block-place, range-block, block-parts}
 use Rattle.order.proofs.LeafRecords.{leaf-room, leaf-lists}
 use Rattle.order.proofs.list.list_block.Reads as list-block
@@ -21,7 +22,7 @@ use Rattle.order.proofs.list.list_range.Reads as list-range
 use Rattle.order.proofs.list.list_range.Kinds as list-range-kinds
 use Rattle.order.proofs.list.+list_block+list_range.Lts-list_range as list-range-lts
 use Rattle.order.proofs.list.list_leaf.Reads as list-leaf-reads
-use Rattle.steps.proofs.nodes.block_at.Reads as block-at-reads
+use Rattle.tree.proofs.access.block_at.Reads as block-at-reads
 use Rattle.order.proofs.list.child.Reads as child-reads
 use Rattle.order.proofs.list.+list_block+list_range.{statement}
 use Rattle.order.proofs.list.+list_block+list_range.Tie.{close}

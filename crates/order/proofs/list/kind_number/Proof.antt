@@ -1,6 +1,6 @@
 -- `list::kind_number` meets its contract. By cases.
 use borrow.Author.Needs.{needs}
-use Rattle.rules.specs.ListOrder.{kindNumber}
+use Rattle.order.specs.OrderList.{kindNumber}
 use Rattle.order.proofs.list.kind_number.Statement.{statement}
 use Rattle.order.proofs.list.kind_number.Tie as tie
 

@@ -1,7 +1,7 @@
 -- `list::list_leaf` meets its contract. Assumes nothing.
 use native.Mathlib.Omega.{arith}
 use Rattle.record.proofs.Lengths.{order-record-length}
-use Rattle.order.proofs.Storing.{stored-none, stored-all}
+use Rattle.base.proofs.Stored.{stored-none, stored-all}
 use Rattle.order.proofs.Subblocks.{block-first, block-small, block-place}
 use Rattle.order.proofs.LeafRecords.{kind-small, leaf-process, leaf-small, leaf-none, leaf-one}
 use borrow.Author.Needs.{needs}

@@ -6,7 +6,8 @@ use lib.ListN.{length}
 use borrow.Author.Needs.{needs}
 use Rattle.order.specs.Contracts.Opens.{TreeOf}
 use Rattle.order.specs.Contracts.Listed.{rootRecords, gathered, Lists}
-use Rattle.order.proofs.Storing.{stored-none, gathered-none, gathered-room, gathered-more}
+use Rattle.base.proofs.Stored.{stored-none}
+use Rattle.order.proofs.Storing.{gathered-none, gathered-room, gathered-more}
 use Rattle.order.proofs.WholeList.{tree-root, tree-room, tree-stored}
 use Rattle.order.proofs.list.write_order.Statement.{statement}
 use Rattle.order.proofs.list.write_order.Tie as tie

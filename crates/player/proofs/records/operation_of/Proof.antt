@@ -1,6 +1,6 @@
 -- `records::operation_of` meets its contract. Assumes nothing.
 use borrow.Author.Needs.{needs}
-use Rattle.rules.specs.Run.{operationOf}
+use Rattle.calls.specs.Run.{operationOf}
 use Rattle.player.proofs.records.operation_of.Statement.{statement}
 use Rattle.player.proofs.records.operation_of.Tie as tie
 

@@ -1,7 +1,7 @@
 -- `line::put_last` meets its contract. Assumes nothing.
 use native.Mathlib.Omega.{arith}
 use borrow.Author.Needs.{needs}
-use Rattle.order.proofs.Storing.{stored-then}
+use Rattle.base.proofs.Stored.{stored-then}
 use Rattle.print.specs.Characters.{ascii}
 use Rattle.print.specs.Lines.{lastLine}
 use Rattle.print.proofs.Lengths.{last-length}

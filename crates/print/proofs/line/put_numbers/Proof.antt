@@ -1,7 +1,7 @@
 -- `line::put_numbers` meets its contract. Assumes nothing.
 use native.Mathlib.Omega.{arith}
 use borrow.Author.Needs.{needs}
-use Rattle.order.proofs.Storing.{stored-then}
+use Rattle.base.proofs.Stored.{stored-then}
 use Rattle.print.specs.Lines.{numberFields}
 use Rattle.print.proofs.Lengths.{numbers-length}
 use Rattle.print.proofs.line.put_numbers.Statement.{statement}

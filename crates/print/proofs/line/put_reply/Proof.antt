@@ -4,7 +4,7 @@ use mathlib.Core.Path.{ap}
 use lib.ListN.{length}
 use borrow.Author.Needs.{needs}
 use Rattle.record.specs.declared.Reply.{Reply}
-use Rattle.order.proofs.Storing.{stored-none}
+use Rattle.base.proofs.Stored.{stored-none}
 use Rattle.print.specs.Characters.{ascii}
 use Rattle.print.specs.Lines.{replyField}
 use Rattle.print.proofs.line.put_reply.Statement.{statement}

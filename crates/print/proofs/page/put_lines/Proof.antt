@@ -5,8 +5,8 @@ use mathlib.Core.Path.{_≡_, ap}
 use lib.ListN.{length}
 use borrow.Author.Needs.{needs}
 use Rattle.record.specs.declared.AnswerRecord.{AnswerRecord}
-use Rattle.order.specs.Contracts.Listed.{Stored}
-use Rattle.order.proofs.Storing.{stored-none, stored-length, stored-then}
+use Rattle.base.specs.Contracts.Stored.{Stored}
+use Rattle.base.proofs.Stored.{stored-none, stored-length, stored-then}
 use Rattle.print.specs.Lines.{answerLine}
 use Rattle.print.specs.Printed.{answerLines}
 use Rattle.print.proofs.AnswerLines.{lines-none, lines-more, next-most, lines-most}

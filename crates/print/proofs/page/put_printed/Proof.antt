@@ -1,7 +1,7 @@
 -- `page::put_printed` meets its contract. Assumes nothing.
 use native.Mathlib.Omega.{arith}
 use borrow.Author.Needs.{needs}
-use Rattle.order.proofs.Storing.{stored-then}
+use Rattle.base.proofs.Stored.{stored-then}
 use Rattle.print.specs.Printed.{printed}
 use Rattle.print.proofs.AnswerLines.{text-most}
 use Rattle.print.proofs.page.put_printed.Statement.{statement}

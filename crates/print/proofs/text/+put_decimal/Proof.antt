@@ -6,7 +6,7 @@ use lib.ListN.{length}
 use borrow.Author.Needs.{needs}
 use borrow.Fn.Kinds.{In}
 use borrow.Fn.PlainCycle.{Measures, is, falls, and}
-use Rattle.order.proofs.Storing.{stored-then}
+use Rattle.base.proofs.Stored.{stored-then}
 use Rattle.print.proofs.Digits.{decimal-one, decimal-more, more-length}
 use Rattle.print.proofs.text.put_decimal.Reads as put-decimal
 use Rattle.print.proofs.text.put_decimal.Kinds as put-decimal-kinds

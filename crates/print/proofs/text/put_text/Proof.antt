@@ -7,7 +7,7 @@ use mathlib.Core.List.{List, [], _∷_}
 use lib.ListN.{length, getD, take, set}
 use lib.Seq.{sets, length-sets, length-take-le, take-suc, take-all}
 use borrow.Author.Needs.{needs}
-use Rattle.record.proofs.Stores.{runs}
+use Rattle.base.proofs.Stores.{runs}
 use Rattle.print.proofs.text.put_text.Statement.{statement}
 use Rattle.print.proofs.text.put_text.Tie as tie
 

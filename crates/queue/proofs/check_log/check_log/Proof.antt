@@ -4,8 +4,8 @@ use mathlib.Core.Path.{refl, ap, sym, _∙_}
 use mathlib.Core.Logic.{inl}
 use borrow.Author.Needs.{needs}
 use borrow.Author.Tests.{not-true, not-false}
-use Rattle.rules.specs.Refusals.{accepted}
-use Rattle.rules.proofs.CallAccepted.{check-call}
+use Rattle.calls.specs.Refusals.{accepted}
+use Rattle.calls.proofs.CallAccepted.{check-call}
 use Rattle.queue.proofs.Accepted.{accepted-narrow, accepted-heads, accepted-callable}
 use Rattle.queue.proofs.CheckLaws.{with-judges, check-down, check-few, check-refused, check-compared}
 use Rattle.queue.proofs.check_log.check_log.Statement.{statement}

@@ -1,7 +1,7 @@
 -- `exports::checked` meets its contract. Assumes nothing.
 use mathlib.Core.Path.{refl}
 use borrow.Author.Needs.{needs}
-use Rattle.rules.specs.CheckLog.{verdictRefusal, verdictNumber, verdictIndex, checked}
+use Rattle.calls.specs.CheckLog.{verdictRefusal, verdictNumber, verdictIndex, checked}
 use Rattle.queue.proofs.exports.checked.Statement.{statement}
 use Rattle.queue.proofs.exports.checked.Tie as tie
 

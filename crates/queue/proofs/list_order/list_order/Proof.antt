@@ -7,8 +7,8 @@ use lib.ListN.{length-append}
 use lib.Seq.{length-take-le, take-at}
 use borrow.Author.Needs.{needs}
 use borrow.Author.Tests.{not-true, not-false}
-use Rattle.rules.specs.Refusals.{accepted}
-use Rattle.rules.proofs.CallAccepted.{accepted-operations, accepted-enough}
+use Rattle.calls.specs.Refusals.{accepted}
+use Rattle.calls.proofs.CallAccepted.{accepted-operations, accepted-enough}
 use Rattle.refusals.proofs.Limits.{allowed-most, needed-for}
 use Rattle.queue.proofs.Accepted.{accepted-narrow, accepted-heads, accepted-callable}
 use Rattle.queue.proofs.ListLaws.{list-down, list-refused, list-listing, list-left}

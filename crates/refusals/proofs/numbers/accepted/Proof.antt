@@ -1,6 +1,6 @@
 -- `numbers::accepted` meets its contract. Assumes nothing.
 use borrow.Author.Needs.{needs}
-use Rattle.rules.specs.Refusals.{accepted}
+use Rattle.calls.specs.Refusals.{accepted}
 use Rattle.refusals.proofs.numbers.accepted.Statement.{statement}
 use Rattle.refusals.proofs.numbers.accepted.Tie as tie
 

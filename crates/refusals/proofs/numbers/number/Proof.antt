@@ -1,6 +1,6 @@
 -- `numbers::number` meets its contract. Assumes nothing.
 use borrow.Author.Needs.{needs}
-use Rattle.rules.specs.Refusals.{refusalNumber}
+use Rattle.calls.specs.Refusals.{refusalNumber}
 use Rattle.refusals.proofs.numbers.number.Statement.{statement}
 use Rattle.refusals.proofs.numbers.number.Tie as tie
 

@@ -3,7 +3,7 @@ use native.Mathlib.Omega.{arith}
 use mathlib.Core.Path.{sym, _∙_}
 use borrow.Author.Tests.{lt-ltb, le-ltb, eq-eqb, ne-eqb, not-false}
 use Rattle.record.specs.StepRecords.{stepSize}
-use Rattle.rules.specs.Refusals.{torn, callRefusal}
+use Rattle.calls.specs.Refusals.{torn, callRefusal}
 use Rattle.refusals.proofs.Limits.{allowed-most, needed-for, call-from}
 use borrow.Author.Needs.{needs}
 use Rattle.refusals.proofs.sooner.of_call.Statement.{statement}

@@ -1,8 +1,8 @@
 -- `sooner::of_check` meets its contract. Assumes nothing.
 use borrow.Author.Tests.{eq-eqb, ne-eqb, not-true, not-false}
 use Rattle.record.specs.AnswerRecords.{answerSize}
-use Rattle.rules.specs.Refusals.{torn}
-use Rattle.rules.specs.CheckLog.{checkRefusal}
+use Rattle.calls.specs.Refusals.{torn}
+use Rattle.calls.specs.CheckLog.{checkRefusal}
 use borrow.Author.Needs.{needs}
 use Rattle.refusals.proofs.sooner.of_check.Statement.{statement}
 use Rattle.refusals.proofs.sooner.of_check.Tie as tie

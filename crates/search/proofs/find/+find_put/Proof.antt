@@ -9,7 +9,7 @@ use Rattle.search.proofs.find.find_put.Kinds as find-put-kinds
 use Rattle.search.proofs.find.+find_put.Lts-find_put as find-put-lts
 use Rattle.search.proofs.find.descend.Reads as descend-reads
 use Rattle.search.proofs.places.first_place.Reads as first-place-reads
-use Rattle.steps.proofs.nodes.block_at.Reads as block-at-reads
+use Rattle.tree.proofs.access.block_at.Reads as block-at-reads
 use Rattle.search.proofs.find.+find_put.{statement}
 use Rattle.search.proofs.find.+find_put.Tie.{close}
 

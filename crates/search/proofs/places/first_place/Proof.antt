@@ -1,5 +1,5 @@
 -- `places::first_place` meets its contract. Assumes nothing.
-use Rattle.steps.specs.Contracts.Ready.{nodePart}
+use Rattle.tree.specs.Contracts.Access.{nodePart}
 use borrow.Author.Needs.{needs}
 use Rattle.search.proofs.places.first_place.Statement.{statement}
 use Rattle.search.proofs.places.first_place.Tie as tie

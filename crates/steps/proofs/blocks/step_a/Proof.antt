@@ -2,7 +2,7 @@
 use mathlib.Core.Path.{refl}
 use Rattle.tree.specs.Memory.{headOf, block, write}
 use Rattle.steps.specs.Rules.{step, go}
-use Rattle.steps.proofs.NodeReads.{node-read, node-written}
+use Rattle.tree.proofs.NodeReads.{node-read, node-written}
 use borrow.Author.Needs.{needs}
 use Rattle.steps.proofs.blocks.step_a.Statement.{statement}
 use Rattle.steps.proofs.blocks.step_a.Tie as tie

@@ -4,7 +4,7 @@ use Rattle.tree.specs.Shape.{leftOf, rightOf}
 use Rattle.tree.specs.Memory.{block}
 use Rattle.steps.specs.Rules.{built, step, go}
 use Rattle.steps.specs.Contracts.Next.{Placed}
-use Rattle.steps.proofs.NodeReads.{node-read}
+use Rattle.tree.proofs.NodeReads.{node-read}
 use Rattle.steps.proofs.Told.{other, busy}
 use borrow.Author.Needs.{needs}
 use Rattle.steps.proofs.blocks.step_c3.Statement.{statement}

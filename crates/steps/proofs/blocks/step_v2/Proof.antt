@@ -3,7 +3,7 @@ use mathlib.Core.Path.{refl, sym, _∙_, subst}
 use Rattle.tree.specs.Memory.{block, write, setSuper}
 use Rattle.steps.specs.Rules.{step, go}
 use Rattle.steps.specs.Contracts.Next.{Placed}
-use Rattle.steps.proofs.NodeReads.{node-read, node-written}
+use Rattle.tree.proofs.NodeReads.{node-read, node-written}
 use Rattle.steps.proofs.Told.{other, busy}
 use borrow.Author.Needs.{needs}
 use Rattle.steps.proofs.blocks.step_v2.Statement.{statement}

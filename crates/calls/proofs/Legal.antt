@@ -1,0 +1,120 @@
+-- Legal lists of records, which no record is refused in, and the answers that they give: only proofs use this, and no exported promise names it.
+use Prim.Native.Nat.{ℕ, _*_, _≤_, _<_}
+use native.Mathlib.Omega.{arith}
+use mathlib.Core.Path.{_≡_, refl}
+use mathlib.Core.Bool.{Bool, true, false, not, _&&_, _||_, true≢false}
+use mathlib.Core.List.{List, [], _∷_, _++_}
+use lib.ListN.{length}
+use lib.Dec.{ltb, leb, eqb}
+use borrow.Author.Tests.{leb-false, ltb-false, not-false}
+use Rattle.base.specs.Choice.{if_then_else_}
+use Rattle.base.proofs.Cases.{cases, or-false}
+use Rattle.record.specs.declared.StepRecord.{StepRecord}
+use Rattle.record.specs.declared.AnswerRecord.{AnswerRecord}
+use Rattle.record.specs.StepRecords.{isStep, isBegin, isBeginPut, illFormed}
+use Rattle.record.specs.AnswerRecords.{answerSize}
+use Rattle.tree.specs.Shape.{Shape, processes}
+use Rattle.steps.specs.declared.Process.{Process}
+use Rattle.steps.specs.declared.Status.{Status}
+use Rattle.steps.specs.declared.Status.the-variants.{Idle, Busy}
+use Rattle.steps.specs.Machine.{Machine, processOf, isIdle, isQ, atQ}
+use Rattle.calls.specs.declared.Refusal.{Refusal}
+use Rattle.calls.specs.declared.Refusal.the-variants.{IllFormed, BeginWhileBusy, StepWhileIdle, BegunAll, AnswersFull}
+use Rattle.calls.specs.Answer.{answersFrom, answersOf}
+use Rattle.calls.specs.Refusals.{refusalNumber, accepted, beginsWhileBusy, stepsWhileIdle, beginsAfterAll, finishesWithoutRoom, recordRefusal}
+use Rattle.calls.specs.Run.{recordAnswers}
+use Rattle.calls.specs.History.{machineAfter}
+
+-- what is known of a record that is not refused on machine m, whatever the room for answers
+pub record Accepted (s : Shape) (m : Machine) (r : StepRecord) : Type 0 where
+  pub process-low : r .process < processes s
+  pub idle : isBegin r ≡ true → processOf m (r .process) .status ≡ Idle
+  pub within : isBegin r ≡ true → processOf m (r .process) .begun < s .most
+  pub busy : isStep r ≡ true → isIdle (processOf m (r .process) .status) ≡ false
+
+-- records each of which is accepted after those before it
+pub data Legal (s : Shape) : List StepRecord → Type 0 where
+  none : Legal s []
+  more : {rs : List StepRecord} {r : StepRecord} → Legal s rs → Accepted s (machineAfter s rs) r → Legal s (rs ++ (r ∷ []))
+
+-- the answers that records give which follow others, one after the other
+unfoldable pub answersAfter : Shape → List StepRecord → List StepRecord → List AnswerRecord
+answersAfter s before [] = []
+answersAfter s before (r ∷ rs) = recordAnswers s (machineAfter s before) r ++ answersAfter s (before ++ (r ∷ [])) rs
+
+unfoldable pub answersAlong : Shape → List StepRecord → List AnswerRecord
+answersAlong s rs = answersAfter s [] rs
+
+-- ---- a record that is not refused
+
+-- a record either steps or begins
+pub not-step : (r : StepRecord) → isStep r ≡ false → isBegin r ≡ true
+unfolding isBegin
+not-step r e = rw e
+
+pub not-begin : (r : StepRecord) → isStep r ≡ true → isBegin r ≡ false
+unfolding isBegin
+not-begin r e = rw e
+
+-- a test that would refuse failed, and the next ones refuse nothing
+passed : (b : Bool) (n rest : Refusal) → accepted n ≡ false → accepted (if b then n else rest) ≡ true → (b ≡ false) × (accepted rest ≡ true)
+passed true n rest z h = absurd (true≢false (cc))
+passed false n rest z h = (refl, h)
+
+-- the tests of a record, all failed
+record Unrefused (s : Shape) (room : ℕ) (q : Process) (r : StepRecord) : Type 0 where
+  formed : illFormed (processes s) r ≡ false
+  begins-idle : beginsWhileBusy q r ≡ false
+  steps-busy : stepsWhileIdle q r ≡ false
+  begins-within : beginsAfterAll s q r ≡ false
+  has-room : finishesWithoutRoom room q r ≡ false
+
+unrefused : (s : Shape) (room : ℕ) (q : Process) (r : StepRecord) → accepted (recordRefusal s room q r) ≡ true → Unrefused s room q r
+unfolding recordRefusal accepted refusalNumber
+unrefused s room q r h =
+    let a = passed (illFormed (processes s) r) IllFormed _ refl h in
+    let b = passed (beginsWhileBusy q r) BeginWhileBusy _ refl (a .1) in
+    let c = passed (stepsWhileIdle q r) StepWhileIdle _ refl (b .1) in
+    let d = passed (beginsAfterAll s q r) BegunAll _ refl (c .1) in
+    let e = passed (finishesWithoutRoom room q r) AnswersFull _ refl (d .1) in
+    record { formed = a .0; begins-idle = b .0; steps-busy = c .0; begins-within = d .0; has-room = e .0 }
+
+formed-low : (p : ℕ) (r : StepRecord) → illFormed p r ≡ false → r .process < p
+unfolding illFormed
+formed-low p r h =
+    leb-false p (r .process)
+    (or-false (leb p (r .process)) (ltb 2 (r .kind))
+    (or-false (leb p (r .process) || ltb 2 (r .kind)) (not (eqb (r .zeros) 0))
+    (or-false (leb p (r .process) || ltb 2 (r .kind) || not (eqb (r .zeros) 0)) (not (isBeginPut r) && not (eqb (r .value) 0)) h .0) .0) .0)
+
+idle-status : (x : Status) → isIdle x ≡ true → x ≡ Idle
+unfolding isIdle
+idle-status Idle e = refl
+idle-status (Busy o n) e = absurd (true≢false (cc))
+
+pub accept : (s : Shape) (room : ℕ) (m : Machine) (r : StepRecord) → accepted (recordRefusal s room (processOf m (r .process)) r) ≡ true → Accepted s m r
+unfolding beginsWhileBusy stepsWhileIdle beginsAfterAll
+accept s room m r h =
+    let q : Process = processOf m (r .process) in
+    let u : Unrefused s room q r = unrefused s room q r h in
+    record {
+      process-low = formed-low (processes s) r (u .formed);
+      idle = λ e. idle-status (q .status) (not-false (isIdle (q .status)) (rw e at (u .begins-idle)));
+      within = λ e. leb-false (s .most) (q .begun) (rw e at (u .begins-within));
+      busy = λ e. rw e at (u .steps-busy);
+    }
+
+-- the answers that it gives have room
+status-room : (s : Shape) (room : ℕ) (m : Machine) (k : ℕ) (x : Status) → atQ x && ltb room answerSize ≡ false → answerSize * length (answersFrom s m k x) ≤ room
+unfolding atQ answersFrom answerSize
+status-room s room m k Idle e = omega arith
+status-room s room m k (Busy o n) e =
+    cases (λ (l : List AnswerRecord). 16 * length l ≤ room) (isQ n) (λ z. omega (arith, ltb-false room 16 (rw z at e))) (λ z. omega arith)
+
+pub answers-room : (s : Shape) (room : ℕ) (m : Machine) (r : StepRecord) → accepted (recordRefusal s room (processOf m (r .process)) r) ≡ true
+    → answerSize * length (recordAnswers s m r) ≤ room
+unfolding finishesWithoutRoom recordAnswers answersOf answerSize
+answers-room s room m r h =
+    let q : Process = processOf m (r .process) in
+    let u : Unrefused s room q r = unrefused s room q r h in
+    cases (λ (l : List AnswerRecord). 16 * length l ≤ room) (isStep r) (λ z. status-room s room m (r .process) (q .status) (rw z at (u .has-room))) (λ z. omega arith)

@@ -1,0 +1,91 @@
+-- THE theorem: demand 3 holds of what Run leaves, for every p, L, list of bytes, table and answer buffer; and of every list of records, for general H.
+use Prim.Native.Nat.{ℕ, _*_, _≤_}
+use native.Mathlib.Omega.{arith}
+use native.Mathlib.Nat.{le-refl}
+use mathlib.Core.Path.{_≡_, refl, ap, sym, _∙_, subst}
+use mathlib.Core.Bool.{true}
+use mathlib.Core.List.{List}
+use lib.ListN.{length, take, drop}
+use lib.Seq.{take-at}
+use lib.Dec.{eqb}
+use Rattle.base.proofs.Cases.{both}
+use Rattle.record.specs.declared.StepRecord.{StepRecord}
+use Rattle.record.specs.declared.AnswerRecord.{AnswerRecord}
+use Rattle.record.specs.StepRecords.{stepRecords}
+use Rattle.record.specs.AnswerRecords.{answerSize, logBytes}
+use Rattle.record.proofs.Lengths.{log-length}
+use Rattle.tree.specs.Shape.{Shape, heightFor, shapeFor}
+use Rattle.tree.specs.Layout.{wordsNeeded}
+use Rattle.steps.specs.Machine.{Machine}
+use Rattle.calls.specs.Refusals.{accepted, callRefusal}
+use Rattle.calls.specs.Run.{Played, play, runPlayed, run}
+use Rattle.calls.specs.History.{machineAfter, history}
+use Rattle.calls.specs.Demand3.{Kept, Demand3, RunKeeps}
+use Rattle.calls.proofs.Played.{played-machine, played-answers, played-legal}
+use Rattle.calls.proofs.Runs.{Run, runs}
+use Rattle.calls.proofs.Holds.{kept}
+
+-- ---- general H: every list of records, to its end or up to its first refusal
+module _ (s : Shape) (tall : 1 ≤ s .height) (room : ℕ) (rs : List StepRecord) where
+  abbrev g : Played
+  g = play s room rs
+
+  abbrev took : List StepRecord
+  took = take (g .taken) rs
+
+  agreed : Run s took
+  agreed = runs s tall (played-legal s room rs)
+
+  pub played-kept : Kept s (history s took) (logBytes (g .answers)) (g .machine .memory .table)
+  played-kept =
+      subst (λ (x : Machine). Kept s (history s took) (logBytes (g .answers)) (x .memory .table)) (sym (played-machine s room rs))
+      (subst (λ (l : List AnswerRecord). Kept s (history s took) (logBytes l) (machineAfter s took .memory .table)) (sym (played-answers s room rs)) (kept agreed tall))
+
+  played-words : length (g .machine .memory .table) ≡ wordsNeeded s
+  played-words = ap (λ (x : Machine). length (x .memory .table)) (played-machine s room rs) ∙ agreed .invariant .sized .words
+
+-- ---- p and L
+-- the tree for p processes has a root above its leaves
+pub tall-for : (p l : ℕ) → 1 ≤ shapeFor p l .height
+unfolding shapeFor heightFor
+tall-for p l =
+    both (λ (x : ℕ). 1 ≤ x) (eqb p 2) (le-refl _) (both (λ (x : ℕ). 1 ≤ x) (eqb p 4) (omega arith) (omega arith))
+
+-- every list of bytes, and every room for answers
+pub demand3-played : (p l room : ℕ) (bytes : List ℕ)
+    → Demand3 p l (take (play (shapeFor p l) room (stepRecords bytes) .taken) (stepRecords bytes)) (logBytes (play (shapeFor p l) room (stepRecords bytes) .answers))
+    (play (shapeFor p l) room (stepRecords bytes) .machine .memory .table)
+demand3-played p l room bytes = played-kept (shapeFor p l) (tall-for p l) room (stepRecords bytes)
+
+-- ---- what Run leaves in the buffers
+module _ (p l : ℕ) (records table answers : List ℕ) (taken : accepted (callRefusal p l (length table) (length records)) ≡ true) where
+  abbrev s : Shape
+  s = shapeFor p l
+
+  abbrev played : Played
+  played = play (shapeFor p l) (length answers) (stepRecords records)
+
+  pub run-is : run p l records table answers ≡ runPlayed s played table answers
+  unfolding run
+  run-is = rw taken
+
+  log-is : take (answerSize * runPlayed s played table answers .answered) (runPlayed s played table answers .answers) ≡ logBytes (played .answers)
+  unfolding runPlayed
+  log-is = take-at (logBytes (played .answers)) (drop (answerSize * length (played .answers)) answers) (answerSize * length (played .answers)) (log-length (played .answers))
+
+  pub table-is : take (wordsNeeded s) (runPlayed s played table answers .table) ≡ played .machine .memory .table
+  unfolding runPlayed
+  table-is =
+      take-at (played .machine .memory .table) (drop (wordsNeeded s) table) (wordsNeeded s) (played-words s (tall-for p l) (length answers) (stepRecords records))
+
+  taken-is : runPlayed s played table answers .taken ≡ played .taken
+  unfolding runPlayed
+  taken-is = refl
+
+  -- of a call that is not turned down
+  pub demand3-run : RunKeeps p l records (run p l records table answers)
+  demand3-run =
+      subst (RunKeeps p l records) (sym run-is)
+      (subst (λ (n : ℕ). Demand3 p l (take n (stepRecords records)) (take (answerSize * runPlayed s played table answers .answered) (runPlayed s played table answers .answers)) (take (wordsNeeded (shapeFor p l)) (runPlayed s played table answers .table))) (sym taken-is)
+      (subst (λ (x : List ℕ). Demand3 p l (take (played .taken) (stepRecords records)) x (take (wordsNeeded (shapeFor p l)) (runPlayed s played table answers .table))) (sym log-is)
+      (subst (Demand3 p l (take (played .taken) (stepRecords records)) (logBytes (played .answers))) (sym table-is) (demand3-played p l (length answers) records))))

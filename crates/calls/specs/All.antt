@@ -1,0 +1,20 @@
+-- One name for all definitions of document 01, for proofs by computation: what unfolds it unfolds them.
+use Rattle.record.specs.All.{records}
+use Rattle.tree.specs.All.{trees}
+use Rattle.steps.specs.All.{stepRules}
+use Rattle.calls.specs.Answer.{margin, putNumber, valueOf, byMargin, takeReply, replyOf, answerOf, answersFrom, answersOf}
+use Rattle.calls.specs.Refusals.{refusalNumber, accepted, torn, callRefusal, beginsWhileBusy, stepsWhileIdle, beginsAfterAll, finishesWithoutRoom, recordRefusal}
+use Rattle.tree.specs.Shape.{heightFor, shapeFor}
+use Rattle.calls.specs.Run.{operationOf, takeRecord, recordAnswers, atStart, taking, refusing, playRecord, play, runTurnedDown, runPlayed, run}
+use Rattle.order.specs.OrderList.{kindNumber, orderRecord, orderList}
+use Rattle.calls.specs.ListOrder.{playAll, listRefusal, listed, listPlayed, listOrder}
+use Rattle.calls.specs.CheckLog.{sameBytes, compared, checkRefusal, verdictNumber, verdictIndex, verdictRefusal, checked, verdictOn, checkPlayed, checkLog}
+use Rattle.calls.specs.LogVerdict.{logOfRules, recordAt}
+use Rattle.calls.specs.PlainQueue.{fed, answers}
+use Rattle.calls.specs.History.{machineAfter, doesQ, begins, operation, event, eventsAfter, history, isOpening, isOwnStep, isFinish, isOpened, isFinished, finishedBefore, ownSteps, does}
+use Rattle.calls.specs.Demand3.{queueAfter, queueAnswer, queueRecord, finishing, stepLimit}
+use Rattle.calls.specs.Linearizable.{response, precedes}
+
+unfoldable pub rules : Unit {0}
+unfolding records trees stepRules margin putNumber valueOf byMargin takeReply replyOf answerOf answersFrom answersOf refusalNumber accepted heightFor shapeFor torn callRefusal beginsWhileBusy stepsWhileIdle beginsAfterAll finishesWithoutRoom recordRefusal operationOf takeRecord recordAnswers atStart taking refusing playRecord play runTurnedDown runPlayed run kindNumber orderRecord orderList playAll listRefusal listed listPlayed listOrder sameBytes compared checkRefusal verdictNumber verdictIndex verdictRefusal checked verdictOn checkPlayed checkLog logOfRules recordAt fed answers machineAfter doesQ begins operation event eventsAfter history isOpening isOwnStep isFinish isOpened isFinished finishedBefore ownSteps does queueAfter queueAnswer queueRecord finishing stepLimit response precedes
+rules = tt

@@ -1,0 +1,150 @@
+-- The known runs M1 to M11, as rows, and one theorem over the rows.
+use Prim.Native.Nat.{ℕ, zero, suc, _-_}
+use mathlib.Core.Path.{_≡_, refl}
+use mathlib.Core.List.{List, [], _∷_, _++_, map}
+use lib.ListN.{length, replicate}
+use lib.IntN.{ℤ, pos, negsuc}
+use Rattle.record.specs.declared.Reply.{Reply}
+use Rattle.record.specs.declared.Reply.the-variants.{Done, Value, Nothing}
+use Rattle.record.specs.declared.AnswerRecord.{AnswerRecord}
+use Rattle.record.specs.Bytes.{bytesOf}
+use Rattle.record.specs.StepRecords.{stepRecords}
+use Rattle.record.specs.AnswerRecords.{logBytes}
+use Rattle.tree.specs.declared.Kind.the-variants.{Puts, Takes}
+use Rattle.tree.specs.Shape.{Shape, leafOf, shapeFor}
+use Rattle.tree.specs.Order.{OpId, inRoot}
+use Rattle.tree.specs.Memory.{Memory, headOf}
+use Rattle.calls.specs.Answer.{margin}
+use Rattle.calls.specs.Run.{RunLeaves, play, run}
+use Rattle.calls.specs.All.{rules}
+
+-- ---- what a row is made of
+
+-- the bytes of a begin put of x by process k, of a begin take, and of n steps
+unfoldable pub beginPut : ℕ → ℕ → List ℕ
+beginPut x k = k ∷ 1 ∷ 0 ∷ 0 ∷ bytesOf 4 x
+
+unfoldable pub beginTake : ℕ → List ℕ
+beginTake k = k ∷ 2 ∷ 0 ∷ 0 ∷ bytesOf 4 0
+
+unfoldable pub steps : ℕ → ℕ → List ℕ
+steps zero k = []
+steps (suc n) k = k ∷ 0 ∷ 0 ∷ 0 ∷ bytesOf 4 0 ++ steps n k
+
+-- an operation, by process and serial
+unfoldable pub op : ℕ → ℕ → OpId
+op k n = record { process = k; serial = n }
+
+-- an answer: process, serial, own steps, root block and reply, as the printing program has them
+unfoldable pub answer : ℕ → ℕ → ℕ → ℕ → Reply → AnswerRecord
+answer k n own b r = record { process = k; reply = r; steps = own; serial = n; block = b }
+
+-- what a row may say of what a run leaves
+pub data Fact : Type 0 where
+  -- root block b has these puts and these takes
+  holds : ℕ → List OpId → List OpId → Fact
+  -- the i-th take of root block b has this margin
+  takeMargin : ℕ → ℕ → ℤ → Fact
+  -- the leaf of process k has this head
+  leafHead : ℕ → ℕ → Fact
+
+-- a call of Run and what it must leave: p, L, the words of the table, the bytes of the answer buffer and the records; the number returned, the records taken, the answers
+-- written, the whole answer buffer, and facts
+pub record Row : Type 0 where
+  pub p : ℕ
+  pub most : ℕ
+  pub words : ℕ
+  pub room : ℕ
+  pub records : List ℕ
+  pub number : ℕ
+  pub taken : ℕ
+  pub answered : ℕ
+  pub answers : List ℕ
+  pub facts : List Fact
+
+-- the buffers are lent with no byte and no word zero, and what is not written stays so
+unfoldable pub lent : ℕ → List ℕ
+lent n = replicate n 255
+
+unfoldable pub row : ℕ → ℕ → ℕ → ℕ → List ℕ → ℕ → ℕ → List AnswerRecord → List Fact → Row
+row p l words room records number taken log facts =
+    record {
+      p = p;
+      most = l;
+      words = words;
+      room = room;
+      records = records;
+      number = number;
+      taken = taken;
+      answered = length log;
+      answers = logBytes log ++ lent (room - length (logBytes log));
+      facts = facts;
+    }
+
+-- ---- the known runs
+
+pub knownRuns : List Row
+knownRuns =
+    -- M1 no records
+    row 2 24 594 64 [] 0 0 [] []
+    -- M2 the worked run of the printing program
+    ∷ row 4 24 1770 64 (beginPut 7 0 ++ steps 27 0 ++ beginTake 1 ++ steps 27 1) 0 56 (answer 0 1 27 1 Done ∷ answer 1 1 27 2 (Value 7) ∷ []) []
+    -- M3 block 1 holds both, steps 15 and 13, the take gets 5 at margin 0
+    ∷ row 2 24 594 64 (beginPut 5 0 ++ beginTake 1 ++ steps 4 0 ++ steps 4 1 ++ steps 11 0 ++ steps 9 1) 0 30
+    (answer 0 1 15 1 Done ∷ answer 1 1 13 1 (Value 5) ∷ [])
+    (holds 1 (op 0 1 ∷ []) (op 1 1 ∷ []) ∷ takeMargin 1 1 (pos 0) ∷ [])
+    -- M4 a take alone: 15 steps, none at margin −1
+    ∷ row 2 24 594 64 (beginTake 0 ++ steps 15 0) 0 16 (answer 0 1 15 1 Nothing ∷ []) (takeMargin 1 1 (negsuc 0) ∷ [])
+    -- M5 the take gets 10
+    ∷ row 4 24 1770 64 (beginPut 10 1 ++ steps 16 1 ++ beginPut 20 0 ++ steps 27 0 ++ steps 9 1 ++ beginTake 2 ++ steps 27 2) 0 82
+    (answer 0 1 27 1 Done ∷ answer 1 1 25 1 Done ∷ answer 2 1 27 2 (Value 10) ∷ []) []
+    -- M6 both in block 1, the leaf head of 0 is 2
+    ∷ row 2 24 594 64 (beginPut 9 0 ++ steps 1 0 ++ beginPut 8 1 ++ steps 18 1 ++ steps 12 0) 0 33
+    (answer 1 1 18 1 Done ∷ answer 0 1 13 1 Done ∷ [])
+    (holds 1 (op 0 1 ∷ op 1 1 ∷ []) [] ∷ leafHead 0 2 ∷ [])
+    -- M7 L = 1: the second begin is refused with 8, 16 taken
+    ∷ row 2 1 42 64 (beginPut 1 0 ++ steps 15 0 ++ beginPut 2 0) 8 16 (answer 0 1 15 1 Done ∷ []) []
+    -- M8 the first record a step: 7
+    ∷ row 2 24 594 64 (steps 1 0) 7 0 [] []
+    -- M9 L = 2, two begins: 6, 1 taken
+    ∷ row 2 2 78 64 (beginPut 1 0 ++ beginPut 2 0) 6 1 [] []
+    -- M10 15 answer bytes: 9, 15 taken
+    ∷ row 2 24 594 15 (beginPut 1 0 ++ steps 15 0) 9 15 [] []
+    -- M11 L = 1: 41 words refuse with 3, 42 do
+    ∷ row 2 1 41 64 (beginPut 1 0 ++ steps 15 0) 3 0 [] []
+    ∷ row 2 1 42 64 (beginPut 1 0 ++ steps 15 0) 0 16 (answer 0 1 15 1 Done ∷ []) []
+    ∷ []
+
+-- ---- the theorem
+
+-- the fact of the same kind that is so of a table and of heads
+unfoldable pub found : Shape → Memory → Fact → Fact
+found s m (holds b xs ys) = holds b (inRoot s (m .table) Puts b) (inRoot s (m .table) Takes b)
+found s m (takeMargin b i z) = takeMargin b i (margin s (m .table) b i)
+found s m (leafHead k h) = leafHead k (headOf m (leafOf s k))
+
+-- the memory after a row's records: the table that Run leaves, and the heads
+unfoldable pub memoryAfter : Row → RunLeaves → Memory
+memoryAfter r e =
+    record { table = e .table; heads = play (shapeFor (r .p) (r .most)) (r .room) (stepRecords (r .records)) .machine .memory .heads }
+
+-- a row with what the definitions give in the place of what it says
+unfoldable pub recomputed : Row → Row
+recomputed r =
+    let e = run (r .p) (r .most) (r .records) (lent (r .words)) (lent (r .room)) in
+    record {
+      p = r .p;
+      most = r .most;
+      words = length (e .table);
+      room = length (e .answers);
+      records = r .records;
+      number = e .refusal;
+      taken = e .taken;
+      answered = e .answered;
+      answers = e .answers;
+      facts = map (found (shapeFor (r .p) (r .most)) (memoryAfter r e)) (r .facts);
+    }
+
+pub knownRunsHold : map recomputed knownRuns ≡ knownRuns
+unfolding rules beginPut beginTake steps op answer lent row knownRuns found memoryAfter recomputed
+knownRunsHold = refl

@@ -1,0 +1,69 @@
+-- What each call turns down: the refusals, their numbers, and the order of the tests.
+use Prim.Native.Nat.{ℕ, _%_}
+use mathlib.Core.Bool.{Bool, not, _&&_}
+use lib.Dec.{ltb, leb, eqb}
+use Rattle.base.specs.Choice.{if_then_else_}
+use Rattle.record.specs.declared.StepRecord.{StepRecord}
+use Rattle.record.specs.StepRecords.{stepSize, isStep, isBegin, illFormed}
+use Rattle.record.specs.AnswerRecords.{answerSize}
+use Rattle.tree.specs.Shape.{Shape, processes}
+use Rattle.tree.specs.Layout.{wordsNeeded}
+use Rattle.steps.specs.declared.Process.{Process}
+use Rattle.steps.specs.Process.{processesAllowed, operationsAllowed}
+use Rattle.steps.specs.Machine.{isIdle, atQ}
+use Rattle.calls.specs.declared.Refusal.{Refusal}
+use Rattle.calls.specs.declared.Refusal.the-variants.{None, Processes, Operations, TableShort, RecordsTorn, IllFormed, BeginWhileBusy, StepWhileIdle, BegunAll, AnswersFull, OutputShort, LogTorn}
+
+-- the paper's number of a refusal, 0 for none
+unfoldable pub refusalNumber : Refusal → ℕ
+refusalNumber None = 0
+refusalNumber Processes = 1
+refusalNumber Operations = 2
+refusalNumber TableShort = 3
+refusalNumber RecordsTorn = 4
+refusalNumber IllFormed = 5
+refusalNumber BeginWhileBusy = 6
+refusalNumber StepWhileIdle = 7
+refusalNumber BegunAll = 8
+refusalNumber AnswersFull = 9
+refusalNumber OutputShort = 10
+refusalNumber LogTorn = 11
+
+unfoldable pub accepted : Refusal → Bool
+accepted n = eqb (refusalNumber n) 0
+
+-- some bytes are not whole records of `size` bytes
+unfoldable pub torn : ℕ → ℕ → Bool
+torn size bytes = not (eqb (bytes % size) 0)
+
+-- a call with p, l, a work table of so many words and so many bytes of records, before its first record: 1, 2, 3, 4
+unfoldable pub callRefusal : ℕ → ℕ → ℕ → ℕ → Refusal
+callRefusal p l words bytes =
+    if not (processesAllowed p) then Processes
+    else if not (operationsAllowed l) then Operations
+    else if ltb words (wordsNeeded (shapeFor p l)) then TableShort
+    else if torn stepSize bytes then RecordsTorn
+    else None
+
+-- the tests of a record: q is its process, `room` the answer bytes left
+unfoldable pub beginsWhileBusy : Process → StepRecord → Bool
+beginsWhileBusy q r = isBegin r && not (isIdle (q .status))
+
+unfoldable pub stepsWhileIdle : Process → StepRecord → Bool
+stepsWhileIdle q r = isStep r && isIdle (q .status)
+
+unfoldable pub beginsAfterAll : Shape → Process → StepRecord → Bool
+beginsAfterAll s q r = isBegin r && leb (s .most) (q .begun)
+
+unfoldable pub finishesWithoutRoom : ℕ → Process → StepRecord → Bool
+finishesWithoutRoom room q r = isStep r && atQ (q .status) && ltb room answerSize
+
+-- a record: 5, 6, 7, 8, 9
+unfoldable pub recordRefusal : Shape → ℕ → Process → StepRecord → Refusal
+recordRefusal s room q r =
+    if illFormed (processes s) r then IllFormed
+    else if beginsWhileBusy q r then BeginWhileBusy
+    else if stepsWhileIdle q r then StepWhileIdle
+    else if beginsAfterAll s q r then BegunAll
+    else if finishesWithoutRoom room q r then AnswersFull
+    else None

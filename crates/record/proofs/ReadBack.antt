@@ -1,0 +1,42 @@
+-- Answer records whose fields fit their bytes are read as they were written.
+use Prim.Native.Nat.{ℕ, zero, suc, _/_, _^_, _<_}
+use native.Mathlib.Nat.{pow-succ'}
+use native.Mathlib.Omega.{arith}
+use mathlib.Core.Path.{_≡_, refl, ap}
+use Rattle.record.specs.declared.Reply.{Reply}
+use Rattle.record.specs.declared.Reply.the-variants.{Done, Value, Nothing}
+use Rattle.record.specs.declared.AnswerRecord.{AnswerRecord}
+use Rattle.record.specs.Bytes.{bytesOf, numberOf}
+use Rattle.record.specs.AnswerRecords.{replyKind, replyValue, answerBytes}
+use Rattle.record.specs.ReadAnswers.{replyFor, answerRecord}
+
+-- the fields fit their bytes
+pub record Fitting (a : AnswerRecord) : Type 0 where
+  pub process : a .process < 2 ^ 8
+  pub steps : a .steps < 2 ^ 16
+  pub value : replyValue (a .reply) < 2 ^ 32
+  pub serial : a .serial < 2 ^ 32
+  pub block : a .block < 2 ^ 32
+
+number-back : (n x : ℕ) → x < 256 ^ n → numberOf (bytesOf n x) ≡ x
+unfolding bytesOf numberOf
+number-back zero x h = omega arith
+number-back (suc n) x h = omega (arith, number-back n (x / 256) (omega (arith, pow-succ' 256 n)))
+
+reply-back : (x : Reply) → replyValue x < 2 ^ 32 → replyFor (numberOf (bytesOf 1 (replyKind x))) (numberOf (bytesOf 4 (replyValue x))) ≡ x
+unfolding replyFor replyKind replyValue bytesOf numberOf
+reply-back Done h = refl
+reply-back (Value v) h = ap Value (number-back 4 v h)
+reply-back Nothing h = refl
+
+pub record-back : (a : AnswerRecord) → Fitting a → answerRecord (answerBytes a) ≡ a
+unfolding answerRecord answerBytes bytesOf numberOf
+record-back a f =
+    λ i.
+    record {
+      process = number-back 1 (a .process) (f .process) i;
+      reply = reply-back (a .reply) (f .value) i;
+      steps = number-back 2 (a .steps) (f .steps) i;
+      serial = number-back 4 (a .serial) (f .serial) i;
+      block = number-back 4 (a .block) (f .block) i;
+    }

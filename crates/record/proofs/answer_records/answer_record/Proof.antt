@@ -1,0 +1,77 @@
+-- `answer_records::answer_record` meets its contract. Each field is read where it stands in the whole slice, which is a part of the part that the definition reads. Assumes nothing.
+use native.Mathlib.Omega.{arith}
+use lib.ListN.{drop}
+use lib.Seq.{take-take}
+use borrow.Author.Needs.{needs}
+use Rattle.record.proofs.Numbers.{part-of-part}
+use Rattle.record.specs.ReadAnswers.{answerRecord}
+use Rattle.record.proofs.answer_records.answer_record.Statement.{statement}
+use Rattle.record.proofs.answer_records.answer_record.Tie as tie
+
+add-byte-at : tie.Need-add-byte-at
+add-byte-at c = search needs
+
+byte-at-requires : tie.Need-byte-at-requires
+byte-at-requires c κs = search needs
+
+add-word-at : tie.Need-add-word-at
+add-word-at c = search needs
+
+word-at-requires : tie.Need-word-at-requires
+word-at-requires c κs = search needs
+
+byte-at-requires-2 : tie.Need-byte-at-requires-2
+byte-at-requires-2 c κs = search needs
+
+reply-for-requires : tie.Need-reply-for-requires
+reply-for-requires c κs = search needs
+
+add-half-at : tie.Need-add-half-at
+add-half-at c = search needs
+
+half-at-requires : tie.Need-half-at-requires
+half-at-requires c κs = search needs
+
+add-word-at-2 : tie.Need-add-word-at-2
+add-word-at-2 c = search needs
+
+word-at-requires-2 : tie.Need-word-at-requires-2
+word-at-requires-2 c κs = search needs
+
+add-word-at-3 : tie.Need-add-word-at-3
+add-word-at-3 c = search needs
+
+word-at-requires-3 : tie.Need-word-at-requires-3
+word-at-requires-3 c κs = search needs
+
+returns : tie.Need-returns
+unfolding answerRecord
+returns c =
+    let start = c .before .before .before .before .before .before .before .before .args in
+    let b = start .answers .now in
+    cc (
+      take-take 1 16 (drop (start .at) b) (omega arith),
+      part-of-part 1 1 16 (start .at) b (omega arith),
+      part-of-part 2 2 16 (start .at) b (omega arith),
+      part-of-part 4 4 16 (start .at) b (omega arith),
+      part-of-part 4 8 16 (start .at) b (omega arith),
+      part-of-part 4 12 16 (start .at) b (omega arith),
+    )
+
+pub answer-record-spec : {M : Type 1} → statement M
+answer-record-spec =
+    tie.close
+    (tie.spec
+    add-byte-at
+    byte-at-requires
+    add-word-at
+    word-at-requires
+    byte-at-requires-2
+    reply-for-requires
+    add-half-at
+    half-at-requires
+    add-word-at-2
+    word-at-requires-2
+    add-word-at-3
+    word-at-requires-3
+    returns)

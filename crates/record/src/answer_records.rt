@@ -1,0 +1,72 @@
+// Answer records, written as their bytes and read from them.
+ghost use mathlib.Core.Path.{_≡_};
+ghost use Prim.Native.Nat.{_+_, _≤_, _<_};
+ghost use lib.ListN.{length, take, drop};
+ghost use lib.Seq.{sets};
+ghost use Rattle.record.specs.AnswerRecords.{replyKind, replyValue, answerBytes};
+ghost use Rattle.record.specs.ReadAnswers.{replyFor, answerRecord};
+use crate::AnswerRecord;
+use crate::Reply;
+use crate::bytes;
+
+pub fn reply_kind(x: Reply) -> u32
+    ensures { λ r. ⌜ r ≡ replyKind x ⌝ }
+{
+    match x {
+        Reply::Done => 1,
+        Reply::Value(_) => 2,
+        Reply::Nothing => 3,
+    }
+}
+
+pub fn reply_value(x: Reply) -> u32
+    ensures { λ r. ⌜ r ≡ replyValue x ⌝ }
+{
+    match x {
+        Reply::Done => 0,
+        Reply::Value(v) => v,
+        Reply::Nothing => 0,
+    }
+}
+
+// Stores an answer record in the sixteen bytes from an index on. The caller shows that the process and the steps fit their bytes.
+pub fn put_answer(out: &mut [u8], at: usize, a: AnswerRecord)
+    requires { ⌜ (at + 16 ≤ length (now out)) × (a .process < 256) × (a .steps < 65536) ⌝ }
+    ensures { λ _. ⌜ now (out .exit) ≡ sets (now (out .entry)) at (answerBytes a) ⌝ }
+{
+    // A field that is an enum is copied before it is passed on.
+    let reply = a.reply;
+    bytes::put_head(out, at, a.process, reply_kind(reply), a.steps);
+    bytes::put_word(out, at + 4, reply_value(reply));
+    bytes::put_word(out, at + 8, a.serial);
+    bytes::put_word(out, at + 12, a.block);
+}
+
+// The reply that a kind and a value stand for.
+fn reply_for(kind: u32, value: u32) -> Reply
+    ensures { λ r. ⌜ r ≡ replyFor kind value ⌝ }
+{
+    if kind == 1 {
+        return Reply::Done;
+    }
+    if kind == 2 {
+        return Reply::Value(value);
+    }
+    Reply::Nothing
+}
+
+// The record in the sixteen bytes from an index on.
+pub fn answer_record(answers: &[u8], at: usize) -> AnswerRecord
+    requires { ⌜ at + 16 ≤ length (now answers) ⌝ }
+    ensures { λ r. ⌜ r ≡ answerRecord (take 16 (drop at (now (answers .entry)))) ⌝ }
+{
+    let kind = bytes::byte_at(answers, at + 1);
+    let value = bytes::word_at(answers, at + 4);
+    AnswerRecord {
+        process: bytes::byte_at(answers, at),
+        reply: reply_for(kind, value),
+        steps: bytes::half_at(answers, at + 2),
+        serial: bytes::word_at(answers, at + 8),
+        block: bytes::word_at(answers, at + 12),
+    }
+}

@@ -1,0 +1,49 @@
+-- `heads::raise` meets its contract. Assumes nothing.
+use borrow.Author.Tests.{eq-eqb, ne-eqb}
+use Rattle.tree.specs.Memory.{headOf, raise}
+use borrow.Author.Needs.{needs}
+use Rattle.tree.proofs.heads.raise.Statement.{statement}
+use Rattle.tree.proofs.heads.raise.Tie as tie
+
+head-of-requires : tie.Need-head-of-requires
+head-of-requires c κs = search needs
+
+add-heads : tie.Need-add-heads
+add-heads c = search needs
+
+wide-requires : tie.Need-wide-requires
+wide-requires c κs = search needs
+
+mul-heads : tie.Need-mul-heads
+mul-heads c = search needs
+
+slice-write-heads : tie.Need-slice-write-heads
+slice-write-heads c = search needs
+
+same-length : tie.Need-same-length
+same-length c = search needs
+
+returns : tie.Need-returns
+unfolding headOf raise
+returns c = rw (← c .before .before .head-of .ensures, eq-eqb _ _ (c .before .if1 .taken), c .wide .ensures)
+
+same-length-2 : tie.Need-same-length-2
+same-length-2 c = search needs
+
+returns-2 : tie.Need-returns-2
+unfolding headOf raise
+returns-2 c = rw (← c .before .head-of .ensures, ne-eqb _ _ (c .if1 .left))
+
+pub raise-spec : {M : Type 1} → statement M
+raise-spec =
+    tie.close
+    (tie.spec
+    head-of-requires
+    add-heads
+    wide-requires
+    mul-heads
+    slice-write-heads
+    same-length
+    returns
+    same-length-2
+    returns-2)

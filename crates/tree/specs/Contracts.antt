@@ -1,0 +1,4 @@
+-- What contracts of functions say in their own terms. Proofs use it; no exported promise names it.
+pub mod Access
+pub mod Invariant
+pub mod SoundTree

@@ -1,0 +1,82 @@
+// Blocks by node number. Node v's part is the table's words from starts[v] to starts[v + 1].
+use crate::Block;
+use crate::blocks;
+use crate::heads::wide;
+use crate::table;
+ghost use mathlib.Core.Path.{_≡_};
+ghost use Prim.Native.Nat.{_<_};
+ghost use lib.ListN.{getD};
+ghost use Rattle.base.specs.Choice.{if_then_else_};
+ghost use Rattle.tree.specs.Blocks.{wordIn, absent as absentOf};
+ghost use Rattle.tree.specs.Memory.{withSuper};
+ghost use Rattle.tree.specs.Contracts.Access.{HasPart, HasPlace, nodePart, nodeBlock, withNodeBlock};
+
+// Where node v's part begins, which is where that of the node before it ends.
+pub fn start_of(starts: &[usize; 17], v: u32) -> usize
+    requires { ⌜ v < 17 ⌝ }
+    ensures { λ r. ⌜ r ≡ getD (now (starts .entry)) v 0 ⌝ }
+{
+    starts[wide(v)]
+}
+
+// Node v's block at place i, which it has.
+pub fn block_at(words: &[u32], starts: &[usize; 17], v: u32, i: u32) -> Block
+    requires { ⌜ HasPlace (now starts) (now words) v i ⌝ }
+    ensures { λ r. ⌜ r ≡ nodeBlock (now (starts .entry)) (now (words .entry)) v i ⌝ }
+{
+    let from = start_of(starts, v);
+    let to = start_of(starts, v + 1);
+    blocks::block_in(&words[from..to], wide(i))
+}
+
+// One word of node v's block at any place. One past the last it is 0: there a child is looked at whose places are all filled.
+fn word_at(words: &[u32], starts: &[usize; 17], v: u32, i: u32, word: usize) -> u32
+    requires { ⌜ HasPart (now starts) (now words) v × (word < 6) ⌝ }
+    ensures { λ r. ⌜ r ≡ wordIn (nodePart (now (starts .entry)) (now (words .entry)) v) i word ⌝ }
+{
+    let from = start_of(starts, v);
+    let to = start_of(starts, v + 1);
+    blocks::word_or_zero(&words[from..to], 6 * wide(i) + word)
+}
+
+// Whether node v's block at place i is absent.
+pub fn absent_at(words: &[u32], starts: &[usize; 17], v: u32, i: u32) -> bool
+    requires { ⌜ HasPart (now starts) (now words) v ⌝ }
+    ensures { λ r. ⌜ r ≡ absentOf (nodeBlock (now (starts .entry)) (now (words .entry)) v i) ⌝ }
+{
+    word_at(words, starts, v, i, 0) == 0 && word_at(words, starts, v, i, 1) == 0
+}
+
+// Block b at place i of node v.
+pub fn write_at(words: &mut [u32], starts: &[usize; 17], v: u32, i: u32, b: Block)
+    requires { ⌜ HasPlace (now starts) (now words) v i ⌝ }
+    ensures { λ _. ⌜ now (words .exit) ≡ withNodeBlock (now (starts .entry)) (now (words .entry)) v i b ⌝ }
+{
+    let from = start_of(starts, v);
+    let to = start_of(starts, v + 1);
+    table::node_write(words, from, to, wide(i), b);
+}
+
+// The superblock of node v's block at place i set to x, if it is 0.
+pub fn set_super_at(words: &mut [u32], starts: &[usize; 17], v: u32, i: u32, x: u32)
+    requires { ⌜ HasPlace (now starts) (now words) v i ⌝ }
+    ensures { λ _. ⌜ now (words .exit) ≡
+        withNodeBlock (now (starts .entry)) (now (words .entry)) v i (withSuper (nodeBlock (now (starts .entry)) (now (words .entry)) v i) x) ⌝ }
+{
+    let from = start_of(starts, v);
+    let to = start_of(starts, v + 1);
+    table::node_set_super(words, from, to, wide(i), x);
+}
+
+// Block b at place i of node v, if none is there: the first of several processes to come here writes. Whether this one did.
+pub fn write_if_absent(words: &mut [u32], starts: &[usize; 17], v: u32, i: u32, b: Block) -> bool
+    requires { ⌜ HasPlace (now starts) (now words) v i ⌝ }
+    ensures { λ r. ⌜ r ≡ absentOf (nodeBlock (now (starts .entry)) (now (words .entry)) v i) ⌝ }
+    ensures { λ r. ⌜ now (words .exit) ≡ (if r then withNodeBlock (now (starts .entry)) (now (words .entry)) v i b else now (words .entry)) ⌝ }
+{
+    let empty = blocks::absent(block_at(words, starts, v, i));
+    if empty {
+        write_at(words, starts, v, i, b);
+    }
+    empty
+}

@@ -1,0 +1,31 @@
+// The heads of the nodes: read, and raised.
+ghost use mathlib.Core.Path.{_≡_};
+ghost use mathlib.Core.List.{[]};
+ghost use Prim.Native.Nat.{_<_};
+ghost use lib.ListN.{length, getD};
+ghost use Rattle.tree.specs.Memory.{raise as raiseOf};
+
+// A register as an index. Every index goes through here, so that no other place has a cast to prove.
+pub fn wide(x: u32) -> usize
+    ensures { λ r. ⌜ r ≡ x ⌝ }
+{
+    x as usize
+}
+
+// The head of v.
+pub fn head_of(heads: &[u32], v: u32) -> u32
+    requires { ⌜ v < length (now heads) ⌝ }
+    ensures { λ r. ⌜ r ≡ getD (now (heads .entry)) v 1 ⌝ }
+{
+    heads[wide(v)]
+}
+
+// The head of v raised from h to h + 1. If it is no longer h, another process has raised it already, and it stays.
+pub fn raise(heads: &mut [u32], v: u32, h: u32)
+    requires { ⌜ (v < length (now heads)) × (h < 65536) ⌝ }
+    ensures { λ _. ⌜ now (heads .exit) ≡ raiseOf (record { table = []; heads = now (heads .entry) }) v h .heads ⌝ }
+{
+    if head_of(heads, v) == h {
+        heads[wide(v)] = h + 1;
+    }
+}
