@@ -10,7 +10,6 @@ use lib.ListN.{length, take, drop, take-append-drop, length-append, length-drop}
 use lib.Seq.{take-at, take-append-add, drop-append-add, length-take-le}
 use lib.Dec.{eqb}
 use borrow.Author.Tests.{eqb-true, not-false}
-use Rattle.base.specs.Choice.{if_then_else_}
 use Rattle.base.proofs.Cases.{cases, contradiction}
 use Rattle.record.specs.declared.AnswerRecord.{AnswerRecord}
 use Rattle.record.specs.Bytes.{cut}

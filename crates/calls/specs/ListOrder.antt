@@ -1,23 +1,19 @@
 -- List the order: the order records of the root order that a list of step records leaves.
 use Prim.Native.Nat.{ℕ, _*_}
-use mathlib.Core.List.{List, [], _++_, flatMap}
+use mathlib.Core.List.{List, [], _++_}
 use lib.ListN.{length, drop}
 use lib.Dec.{ltb}
 use Rattle.base.specs.Choice.{if_then_else_}
 use Rattle.record.specs.declared.StepRecord.{StepRecord}
-use Rattle.record.specs.declared.OrderRecord.{OrderRecord}
 use Rattle.record.specs.StepRecords.{stepRecords}
 use Rattle.record.specs.AnswerRecords.{answerSize}
-use Rattle.record.specs.OrderRecords.{orderBytes}
-use Rattle.tree.specs.declared.Kind.{Kind}
-use Rattle.tree.specs.declared.Kind.the-variants.{Puts, Takes}
 use Rattle.tree.specs.Shape.{Shape, shapeFor}
 use Rattle.tree.specs.Layout.{wordsNeeded}
-use Rattle.tree.specs.Order.{Placed, rootOrder}
 use Rattle.calls.specs.declared.Refusal.{Refusal}
 use Rattle.calls.specs.declared.Refusal.the-variants.{None, OutputShort}
 use Rattle.calls.specs.Refusals.{refusalNumber, accepted, callRefusal}
 use Rattle.calls.specs.Run.{Played, play}
+use Rattle.order.specs.OrderList.{orderList}
 
 -- the records played as Run plays them, with room for the answer of each: without an answer buffer no record is refused with 9
 unfoldable pub playAll : Shape → List StepRecord → Played

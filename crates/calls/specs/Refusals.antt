@@ -6,7 +6,7 @@ use Rattle.base.specs.Choice.{if_then_else_}
 use Rattle.record.specs.declared.StepRecord.{StepRecord}
 use Rattle.record.specs.StepRecords.{stepSize, isStep, isBegin, illFormed}
 use Rattle.record.specs.AnswerRecords.{answerSize}
-use Rattle.tree.specs.Shape.{Shape, processes}
+use Rattle.tree.specs.Shape.{Shape, processes, shapeFor}
 use Rattle.tree.specs.Layout.{wordsNeeded}
 use Rattle.steps.specs.declared.Process.{Process}
 use Rattle.steps.specs.Process.{processesAllowed, operationsAllowed}

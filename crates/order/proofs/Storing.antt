@@ -2,10 +2,9 @@
 use Prim.Native.Nat.{ℕ, _+_, _≤_, _<_}
 use native.Mathlib.Omega.{arith}
 use native.Mathlib.Numerals.{add-one}
-use mathlib.Core.Path.{_≡_, refl, ap, sym, _∙_}
+use mathlib.Core.Path.{_≡_}
 use mathlib.Core.List.{List, [], _++_}
 use lib.ListN.{length, length-append}
-use lib.Seq.{sets, length-sets}
 use Rattle.base.proofs.Gather.{gather-none, gather-last, gather-split}
 use Rattle.base.proofs.Stored.{stored-then, next-room}
 use Rattle.tree.specs.Shape.{Shape}

@@ -35,8 +35,8 @@ fn adds(table: &[u32], starts: &[usize; 17], kind: Kind, leaf: u32, b: u32) -> b
     requires { ⌜ (1 ≤ b) × HasPlace (now starts) (now table) leaf (b - 1) × HasPlace (now starts) (now table) leaf b ⌝ }
     ensures { λ r. ⌜ r ≡ addsTo (now (starts .entry)) (now (table .entry)) kind leaf b ⌝ }
 {
-    let before = blocks::total(kind, nodes::block_at(table, starts, leaf, b - 1));
-    let here = blocks::total(kind, nodes::block_at(table, starts, leaf, b));
+    let before = blocks::total(kind, access::block_at(table, starts, leaf, b - 1));
+    let here = blocks::total(kind, access::block_at(table, starts, leaf, b));
     before < here
 }
 
@@ -63,7 +63,7 @@ fn list_leaf(
             serial: b,
             block: list.block,
         };
-        orders::put_order(out, at, record);
+        order_records::put_order(out, at, record);
         return at + 8;
     }
     at
@@ -98,8 +98,8 @@ fn list_block(
     if top.height == 0 {
         return list_leaf(table, starts, list, top.node, b, out, at);
     }
-    let old = nodes::block_at(table, starts, top.node, b - 1);
-    let new = nodes::block_at(table, starts, top.node, b);
+    let old = access::block_at(table, starts, top.node, b - 1);
+    let new = access::block_at(table, starts, top.node, b);
     let left = child(top, 2 * top.node);
     let right = child(top, 2 * top.node + 1);
     let next = list_range(table, starts, list, left, old.left, new.left, out, at);

@@ -1,6 +1,6 @@
 // The last root block, and how long the list of the root order is.
-use steps::heads;
 use tree::access;
+use tree::heads;
 ghost use mathlib.Core.Path.{_≡_};
 ghost use mathlib.Core.List.{List};
 ghost use Prim.Native.Nat.{ℕ, _≤_};
@@ -18,7 +18,7 @@ pub fn last_root(heads: &[u32], table: &[u32], starts: &[usize; 17]) -> u32
         r ≡ lastRoot s (now (table .entry))) ⌝ }
 {
     let head = heads::head_of(heads, 1);
-    if nodes::absent_at(table, starts, 1, head) {
+    if access::absent_at(table, starts, 1, head) {
         return head - 1;
     }
     head
@@ -30,6 +30,6 @@ pub fn list_length(table: &[u32], starts: &[usize; 17], last: u32) -> usize
     ensures { λ r. ⌜ (r ≤ 32000) × ((s : Shape) (heads : List ℕ) → SoundTree s (now (starts .entry)) heads (now (table .entry)) →
         last ≡ lastRoot s (now (table .entry)) → r ≡ length (orderList s (now (table .entry)))) ⌝ }
 {
-    let block = nodes::block_at(table, starts, 1, last);
+    let block = access::block_at(table, starts, 1, last);
     8 * (heads::wide(block.puts) + heads::wide(block.takes))
 }

@@ -6,7 +6,6 @@ use tree::heads::wide;
 use tree::layout::height_for;
 use tree::layout::words_needed;
 ghost use mathlib.Core.Path.{_≡_};
-ghost use Rattle.tree.specs.Shape.{heightFor};
 ghost use Rattle.calls.specs.Refusals.{callRefusal};
 ghost use Rattle.calls.specs.CheckLog.{checkRefusal};
 

@@ -39,7 +39,7 @@ fn first_in(part: &[u32], word: usize, last: usize, x: u32, guess: u32) -> usize
     if is_first(part, word, last, x, i + 1) {
         return i + 1;
     }
-    search::first_reaching(part, word, last, x)
+    bisect::first_reaching(part, word, last, x)
 }
 
 // The first place of node v.

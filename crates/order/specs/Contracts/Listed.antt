@@ -1,9 +1,7 @@
 -- Blocks as order records: what the functions that write them store, and the room that they need.
 use Prim.Native.Nat.{ℕ, _+_, _≤_}
-use mathlib.Core.Path.{_≡_}
 use mathlib.Core.List.{List, flatMap}
 use lib.ListN.{length}
-use lib.Seq.{sets}
 use Rattle.base.specs.Between.{between}
 use Rattle.record.specs.OrderRecords.{orderBytes}
 use Rattle.tree.specs.Shape.{Shape}
@@ -11,6 +9,7 @@ use Rattle.tree.specs.Order.{placed, opened, blockOrder}
 use Rattle.order.specs.OrderList.{orderRecord}
 use Rattle.order.specs.declared.Listing.{Listing}
 use Rattle.order.specs.declared.Subtree.{Subtree}
+use Rattle.base.specs.Contracts.Stored.{Stored}
 
 -- the order records of y's block b
 unfoldable pub blockRecords : List ℕ → Listing → Subtree → ℕ → Shape → List ℕ

@@ -1,15 +1,11 @@
 -- What a step needs of the memory to be played safely.
 use Prim.Native.Nat.{ℕ, _+_, _*_, _-_, _/_, _≤_, _<_}
-use mathlib.Core.Path.{_≡_}
-use mathlib.Core.List.{List, _++_}
-use lib.ListN.{length, getD, take, drop}
-use Rattle.tree.specs.declared.Block.{Block}
-use Rattle.tree.specs.Shape.{Shape, processes}
-use Rattle.tree.specs.Layout.{partStart}
-use Rattle.tree.specs.Blocks.{blockIn, withBlock}
+use mathlib.Core.List.{List}
+use lib.ListN.{length, getD}
 use Rattle.steps.specs.declared.Visit.{Visit}
 use Rattle.steps.specs.declared.Step.{Step}
 use Rattle.steps.specs.declared.Step.the-variants.{A, V1, V2, V3, R1, R2, R3, R4, R5, C1, C2, C3, C4, Q}
+use Rattle.tree.specs.Contracts.Access.{HasPart, HasPlace, nodeBlock}
 
 -- the children of w's node have heads
 pub record Children (heads : List ℕ) (w : Visit) : Type 0 where
