@@ -29,7 +29,7 @@ use Rattle.search.specs.declared.Standing.{Standing}
 use Rattle.search.specs.Contracts.Stands.{StandsAs, InBlock, OfKind, StandsAt}
 use Rattle.answer.specs.Contracts.Playing.{machineOf, Plays}
 use Rattle.answer.specs.Contracts.Answering.{recordOf, TakenAs}
-use Rattle.answer.proofs.PlaysLaws.{steps-small}
+use Rattle.answer.proofs.PlaysLaws.{steps-small, plays-tree}
 
 -- the height of the tree for so many processes
 height-by : (H : ℕ) → 1 ≤ H → H ≤ 3 → heightFor (2 ^ H) ≡ H
@@ -55,15 +55,7 @@ module _ {s : Shape} {ps : List Process} {starts heads table : List ℕ} {k : �
   height-is = rw (← width) (height-by (s .height) (plays .inner) (plays .tall))
 
   settles : SoundTree s starts heads table
-  settles =
-      record {
-        inner = plays .inner;
-        tall = plays .tall;
-        few = plays .few;
-        laid = plays .laid;
-        sized = plays .keeps .sized;
-        sound = plays .keeps .sound;
-      }
+  settles = plays-tree s ps starts heads table k q plays
 
   module _ {o : Operation} (status : q .status ≡ Busy o Q) where
     -- what the invariant says at Q: the root's blocks below its head hold the operation

@@ -5,6 +5,7 @@ use mathlib.Core.Path.{_≡_, ap, _∙_}
 use mathlib.Core.Bool.{false}
 use mathlib.Core.List.{List}
 use Rattle.tree.specs.Shape.{Shape, leafOf}
+use Rattle.tree.specs.Contracts.SoundTree.{SoundTree}
 use Rattle.steps.specs.declared.Operation.{Operation}
 use Rattle.steps.specs.declared.Step.{Step}
 use Rattle.steps.specs.declared.Status.the-variants.{Busy}
@@ -24,7 +25,19 @@ module _ (s : Shape) (ps : List Process) (starts heads table : List ℕ) (k : �
   pub begun-small : q .begun ≤ 500
   begun-small = omega (arith, plays .keeps .process k (plays .low) .within, ap (λ (x : Process). x .begun) (plays .here), plays .few)
 
+  -- its memory is a sound tree
+  pub plays-tree : SoundTree s starts heads table
+  plays-tree =
+      record {
+        inner = plays .inner;
+        tall = plays .tall;
+        few = plays .few;
+        laid = plays .laid;
+        sized = plays .keeps .sized;
+        sound = plays .keeps .sound;
+      }
+
   -- a busy process that is not at Q can take its step
   pub plays-ready : (o : Operation) (n : Step) → q .status ≡ Busy o n → isQ n ≡ false → Ready starts heads table (leafOf s k) n
   plays-ready o n e z =
-      ready s (machineOf table heads ps) (plays .keeps) (plays .tall) (plays .few) starts (plays .laid) k (plays .low) o n (ap (λ (x : Process). x .status) (plays .here) ∙ e) z
+      ready s (machineOf table heads ps) (plays .keeps) starts plays-tree k (plays .low) o n (ap (λ (x : Process). x .status) (plays .here) ∙ e) z

@@ -20,11 +20,10 @@ use Rattle.tree.specs.Order.{total, lastRoot}
 use Rattle.tree.proofs.Sound.{totals-rise}
 use Rattle.tree.proofs.LastRoot.{node-root, root-sound, root-written}
 use Rattle.tree.specs.Contracts.Access.{HasPlace, nodeBlock}
-use Rattle.tree.proofs.Places.{places-most}
 use Rattle.calls.specs.Answer.{margin, putNumber, valueOf, takeReply}
 use Rattle.calls.proofs.RootQueue.{size-within}
 use Rattle.search.specs.Contracts.Numbered.{NumberedAs, ValueAt}
-use Rattle.search.proofs.Words.{node-reads, written-place}
+use Rattle.tree.proofs.Places.{places-most, node-reads, written-place}
 use Rattle.answer.specs.Contracts.Answering.{TakenAs}
 use Rattle.answer.proofs.Margins.{margin-below, by-below, by-rest}
 
@@ -35,7 +34,7 @@ module _ {s : Shape} {heads starts table : List ℕ} {height b i : ℕ} (h : Tak
   root-place : (j : ℕ) → j ≤ lastRoot s table → HasPlace starts table 1 j
   unfolding root
   root-place j l =
-      written-place s starts heads table (h .settles) root j (node-root s) (root-written s m (h .settles .sound) j l)
+      written-place (h .settles) root j (node-root s) (root-written s m (h .settles .sound) j l)
 
   pub place-before : HasPlace starts table 1 (b - 1)
   place-before = root-place (b - 1) (omega (arith, h .most))
@@ -45,7 +44,7 @@ module _ {s : Shape} {heads starts table : List ℕ} {height b i : ℕ} (h : Tak
 
   root-reads : (j : ℕ) → nodeBlock starts table 1 j ≡ blockAt s table root j
   unfolding root block
-  root-reads j = node-reads s starts heads table (h .settles) root j (node-root s)
+  root-reads j = node-reads (h .settles) root j (node-root s)
 
   -- x and y are the block before and the block itself
   module _ {x y : Block} (ex : x ≡ nodeBlock starts table 1 (b - 1)) (ey : y ≡ nodeBlock starts table 1 b) where

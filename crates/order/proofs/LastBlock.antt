@@ -2,7 +2,6 @@
 -- list's records.
 use Prim.Native.Nat.{ℕ, _*_, _-_, _≤_, _<_}
 use native.Mathlib.Omega.{arith}
-use native.Mathlib.Nat.{le-refl}
 use native.Mathlib.Decide.{ℕ-discrete}
 use mathlib.Core.Path.{_≡_, ap, sym, _∙_}
 use mathlib.Core.Logic.{inl, inr}
@@ -11,7 +10,7 @@ use mathlib.Core.List.{List}
 use lib.ListN.{length, getD}
 use Rattle.tree.specs.Shape.{Shape, root}
 use Rattle.tree.specs.Blocks.{absent}
-use Rattle.tree.specs.Memory.{Memory, headOf, block}
+use Rattle.tree.specs.Memory.{Memory, memoryOf, headOf, block}
 use Rattle.tree.specs.Order.{lastRoot}
 use Rattle.tree.specs.Contracts.Invariant.{Node, count, Present, Written}
 use Rattle.tree.proofs.Nodes.{root-node}
@@ -20,7 +19,7 @@ use Rattle.tree.proofs.LastRoot.{root-sound, last-written, last-most, last-head
 use Rattle.tree.specs.Contracts.Access.{HasPart, HasPlace, nodeBlock}
 use Rattle.tree.specs.Contracts.SoundTree.{SoundTree}
 use Rattle.order.specs.OrderList.{orderList}
-use Rattle.order.proofs.Reading.{memory, node-head, node-part, node-reads, node-small, written-place}
+use Rattle.tree.proofs.Places.{node-headed, node-part, node-reads, node-small, written-place}
 use Rattle.order.proofs.RootRecords.{list-count}
 
 module _ {s : Shape} {starts heads table : List ℕ} (q : SoundTree s starts heads table) where
@@ -29,23 +28,23 @@ module _ {s : Shape} {starts heads table : List ℕ} (q : SoundTree s starts hea
   node = root-node s
 
   pub root-head : 1 < length heads
-  root-head = node-head q 1 node
+  root-head = node-headed q 1 node
 
   pub root-part : HasPart starts table 1
   root-part = node-part q 1 node
 
   pub root-small : (i : ℕ) → count (nodeBlock starts table 1 i) ≤ 4000
-  root-small = node-small q 1 node
+  root-small i = node-small q 1 i node
 
-  root-reads : (i : ℕ) → nodeBlock starts table 1 i ≡ block s (memory heads table) root i
+  root-reads : (i : ℕ) → nodeBlock starts table 1 i ≡ block s (memoryOf table heads) root i
   unfolding root
-  root-reads = node-reads q 1 node
+  root-reads i = node-reads q 1 i node
 
   -- ---- the last block
   pub last-at-head : absent (nodeBlock starts table 1 (getD heads 1 1)) ≡ false → getD heads 1 1 ≡ lastRoot s table
   unfolding root headOf
   last-at-head e =
-      let m : Memory = memory heads table in
+      let m : Memory = memoryOf table heads in
       let h : ℕ = headOf m root in
       omega (arith, last-head s m (q .sound), last-most s m (q .sound) h (present-count (block s m root h) (ap absent (sym (root-reads h)) ∙ e)))
 
@@ -54,7 +53,7 @@ module _ {s : Shape} {starts heads table : List ℕ} (q : SoundTree s starts hea
   last-before-head e = on (ℕ-discrete (lastRoot s table) h) (last-written s m (q .sound))
     where
       m : Memory
-      m = memory heads table
+      m = memoryOf table heads
 
       h : ℕ
       h = headOf m root
@@ -72,7 +71,7 @@ module _ {s : Shape} {starts heads table : List ℕ} (q : SoundTree s starts hea
 
   pub last-place : HasPlace starts table 1 (lastRoot s table)
   unfolding root
-  last-place = written-place q 1 node (lastRoot s table) (last-written s (memory heads table) (q .sound)) (lastRoot s table) (le-refl _)
+  last-place = written-place q 1 (lastRoot s table) node (last-written s (memoryOf table heads) (q .sound))
 
   pub last-counts : length (orderList s table) ≡ 8 * count (nodeBlock starts table 1 (lastRoot s table))
-  last-counts = rw (root-reads (lastRoot s table)) (list-count s (memory heads table) (q .sound))
+  last-counts = rw (root-reads (lastRoot s table)) (list-count s (memoryOf table heads) (q .sound))

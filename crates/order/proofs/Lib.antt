@@ -1,5 +1,4 @@
 pub mod Storing
-pub mod Reading
 pub mod Subblocks
 pub mod LeafRecords
 pub mod RootRecords

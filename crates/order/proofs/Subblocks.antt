@@ -10,7 +10,7 @@ use Rattle.base.proofs.Gather.{flatMap-append, flatMap-twice}
 use Rattle.record.specs.OrderRecords.{orderBytes}
 use Rattle.tree.specs.declared.Block.{Block}
 use Rattle.tree.specs.Shape.{Shape, processes}
-use Rattle.tree.specs.Memory.{block}
+use Rattle.tree.specs.Memory.{block, memoryOf}
 use Rattle.tree.specs.Order.{OpId, placed, opened}
 use Rattle.tree.specs.Sides.{Side, onLeft, onRight, childOf, endOf}
 use Rattle.tree.specs.Contracts.Invariant.{Node, Inner, Present}
@@ -23,7 +23,7 @@ use Rattle.order.specs.declared.Subtree.{Subtree}
 use Rattle.order.specs.Contracts.Opens.{Stands, BlockOf, RangeOf}
 use Rattle.order.specs.Contracts.Listed.{blockRecords, gathered}
 use Rattle.order.proofs.Storing.{Parts}
-use Rattle.order.proofs.Reading.{memory, node-low, node-reads, written-small, written-place}
+use Rattle.tree.proofs.Places.{node-low, node-reads, written-small, places-upto}
 
 level-node : (s : Shape) (h v : ℕ) → Level s h v → Node s v
 unfolding processes
@@ -44,8 +44,8 @@ module _ {starts table : List ℕ} {x : Listing} {y : Subtree} {s : Shape} {head
   pub stands-low : y .node < 16
   stands-low = node-low (g .settles) (y .node) stands-node
 
-  pub stands-reads : (i : ℕ) → nodeBlock starts table (y .node) i ≡ block s (memory heads table) (y .node) i
-  stands-reads = node-reads (g .settles) (y .node) stands-node
+  pub stands-reads : (i : ℕ) → nodeBlock starts table (y .node) i ≡ block s (memoryOf table heads) (y .node) i
+  stands-reads i = node-reads (g .settles) (y .node) i stands-node
 
 module _ {starts table : List ℕ} {x : Listing} {y : Subtree} {b : ℕ} {s : Shape} {heads : List ℕ} (g : BlockOf starts table x y b s heads) where
   node : Node s (y .node)
@@ -55,16 +55,16 @@ module _ {starts table : List ℕ} {x : Listing} {y : Subtree} {b : ℕ} {s : Sh
   pub block-first : 1 ≤ b
   block-first = on b (g .present)
     where
-      on : (i : ℕ) → Present s (memory heads table) (y .node) i → 1 ≤ i
+      on : (i : ℕ) → Present s (memoryOf table heads) (y .node) i → 1 ≤ i
       on zero f = absurd (omega (arith, g .stands .settles .sound .node (y .node) node .first))
       on (suc i) f = omega arith
 
   pub block-small : b ≤ 4000
-  block-small = written-small (g .stands .settles) (y .node) node b (inr (g .present))
+  block-small = written-small (g .stands .settles) (y .node) b node (inr (g .present))
 
   -- the node has the block's place and those before it
   pub block-place : (i : ℕ) → i ≤ b → HasPlace starts table (y .node) i
-  block-place = written-place (g .stands .settles) (y .node) node b (inr (g .present))
+  block-place = places-upto (g .stands .settles) (y .node) b node (inr (g .present))
 
   -- ---- above the leaves
   module _ (above : y .height ≡ 0 → ⊥) where
@@ -78,7 +78,7 @@ module _ {starts table : List ℕ} {x : Listing} {y : Subtree} {b : ℕ} {s : Sh
     higher : Level s (suc (y .height - 1)) (y .node)
     higher = let e : suc (y .height - 1) ≡ y .height = omega arith in rw e (g .stands .level)
 
-    later : Present s (memory heads table) (y .node) (suc (b - 1))
+    later : Present s (memoryOf table heads) (y .node) (suc (b - 1))
     later = rw whole (g .present)
 
     -- the subblocks on a side are present
@@ -95,7 +95,7 @@ module _ {starts table : List ℕ} {x : Listing} {y : Subtree} {b : ℕ} {s : Sh
 
     -- what they open to
     abbrev openedAt : Side → List OpId
-    openedAt = openedOn s (memory heads table) (x .kind) (y .height - 1) (y .node) (b - 1)
+    openedAt = openedOn s (memoryOf table heads) (x .kind) (y .height - 1) (y .node) (b - 1)
 
     side : (d : Side) → flatMap (bytesOf x) (openedAt d) ≡ gathered (blockRecords table x (child d y)) (endAt d (b - 1)) (endAt d b) s
     unfolding blockRecords gathered
@@ -110,7 +110,7 @@ module _ {starts table : List ℕ} {x : Listing} {y : Subtree} {b : ℕ} {s : Sh
     sides =
         let e : y .height ≡ suc (y .height - 1) = omega arith in
         ap₂ (λ (h i : ℕ). flatMap (bytesOf x) (opened s table (x .kind) h (y .node) i)) e (sym whole)
-        ∙ ap (flatMap (bytesOf x)) (opened-inner s (memory heads table) (x .kind) (y .height - 1) (y .node) (b - 1))
+        ∙ ap (flatMap (bytesOf x)) (opened-inner s (memoryOf table heads) (x .kind) (y .height - 1) (y .node) (b - 1))
         ∙ flatMap-append (bytesOf x) (openedAt onLeft) (openedAt onRight)
         ∙ ap₂ _++_ (side onLeft) (side onRight)
 

@@ -22,7 +22,8 @@ use Rattle.tree.specs.Contracts.SoundTree.{SoundTree}
 use Rattle.search.specs.Contracts.Searched.{Reaches, First}
 use Rattle.search.specs.Contracts.Climbing.{Ascends, FirstAbove, Beside, besideOf}
 use Rattle.search.proofs.Holding.{CountsAs, HoldsAs}
-use Rattle.search.proofs.Words.{wordOf, side-cases, side-word, part-fits, node-part, node-headed, written-place, end-word}
+use Rattle.search.proofs.Words.{wordOf, side-cases, side-word, part-fits, end-word}
+use Rattle.tree.proofs.Places.{node-part, node-headed, written-place}
 use Rattle.search.proofs.ChildReads.{end-place, end-total}
 use Rattle.search.proofs.Rooted.{end-reaches}
 use Rattle.search.proofs.NumbersUp.{besideTotal, number-low, number-high, number-rank}
@@ -71,12 +72,12 @@ module _ (s : Shape) (k i j : ℕ) (starts heads table : List ℕ) (place : ℕ)
       let last : Written s m up (headOf m up - 1) = below-head n _ (omega (arith, n .head)) in
       record {
         known = small side;
-        fits = part-fits starts table up (headOf m up - 1) (written-place s starts heads table sets up _ up-node last);
-        start = rw (end-word s starts heads table sets side up 0 up-node, first-zeros n, zero-end side) (h .some);
+        fits = part-fits starts table up (headOf m up - 1) (written-place sets up _ up-node last);
+        start = rw (end-word sets side up 0 up-node, first-zeros n, zero-end side) (h .some);
         rises = λ a b l u.
-            rw (end-word s starts heads table sets side up a up-node, end-word s starts heads table sets side up b up-node)
+            rw (end-word sets side up a up-node, end-word sets side up b up-node)
             (ends-rise sound side up inner a b l (below-head n b (omega (arith, n .head))));
-        reached = rw (end-word s starts heads table sets side up (headOf m up - 1) up-node)
+        reached = rw (end-word sets side up (headOf m up - 1) up-node)
             (end-reaches s m sound k kp i (h .stands .rooted) j low place (h .some) (h .below) (h .past));
       }
     where
@@ -89,9 +90,9 @@ module _ (s : Shape) (k i j : ℕ) (starts heads table : List ℕ) (place : ℕ)
   ascends e =
       rw e
       (record {
-        here = written-place s starts heads table sets here place here-node (inr (sound .node here here-node .filled place (h .some) (h .below)));
-        above = node-part s starts heads table sets up up-node;
-        headed = node-headed s starts heads table sets up up-node;
+        here = written-place sets here place here-node (inr (sound .node here here-node .filled place (h .some) (h .below)));
+        above = node-part sets up up-node;
+        headed = node-headed sets up up-node;
         head = sound .node up up-node .head;
         ends = rw (side-word here) ends;
       })
@@ -102,10 +103,10 @@ module _ (s : Shape) (k i j : ℕ) (starts heads table : List ℕ) (place : ℕ)
       (suc b))
     where
       past : endTowards s m k j b < place
-      past = let e : suc b - 1 ≡ b = omega arith in rw (e, end-word s starts heads table sets side up b up-node) at (found .past)
+      past = let e : suc b - 1 ≡ b = omega arith in rw (e, end-word sets side up b up-node) at (found .past)
 
       upto : place ≤ endTowards s m k j (suc b)
-      upto = rw (end-word s starts heads table sets side up (suc b) up-node) at (found .upto)
+      upto = rw (end-word sets side up (suc b) up-node) at (found .upto)
 
       below : suc b < headOf m up
       below = omega (arith, found .most)
@@ -117,7 +118,7 @@ module _ (s : Shape) (k i j : ℕ) (starts heads table : List ℕ) (place : ℕ)
       up-written a l = below-head (sound .node up up-node) a (omega (arith, below))
 
       up-place : (a : ℕ) → a ≤ suc b → HasPlace starts table up a
-      up-place a l = written-place s starts heads table sets up a up-node (up-written a l)
+      up-place a l = written-place sets up a up-node (up-written a l)
 
       besides : Beside starts table here (suc b)
       unfolding parentOf leftOf rightOf

@@ -13,14 +13,14 @@ use Rattle.tree.proofs.Sound.{below-head, end-below}
 use Rattle.tree.proofs.SideTotals.{endTotal}
 use Rattle.tree.specs.Contracts.Access.{HasPlace, nodeBlock}
 use Rattle.tree.specs.Contracts.SoundTree.{SoundTree}
-use Rattle.search.proofs.Words.{node-reads, written-place}
+use Rattle.tree.proofs.Places.{node-reads, written-place}
 
 module _ (s : Shape) (starts heads table : List ℕ) (sets : SoundTree s starts heads table) (v : ℕ) (inner : Inner s v) (d : Side) (a : ℕ) where
   abbrev m : Memory
   m = record { table = table; heads = heads }
 
   pub end-read : endOf d (nodeBlock starts table v a) ≡ endOf d (block s (record { table = table; heads = heads }) v a)
-  end-read = ap (endOf d) (node-reads s starts heads table sets v a (inner-node s v inner))
+  end-read = ap (endOf d) (node-reads sets v a (inner-node s v inner))
 
   -- an end is below the child's head
   pub end-written : Written s (record { table = table; heads = heads }) v a
@@ -28,8 +28,8 @@ module _ (s : Shape) (starts heads table : List ℕ) (sets : SoundTree s starts 
   end-written w = below-head (sets .sound .node (childOf d v) (child-node s d v inner)) _ (end-below (sets .sound) d v inner a w)
 
   pub end-place : Written s (record { table = table; heads = heads }) v a → HasPlace starts table (childOf d v) (endOf d (nodeBlock starts table v a))
-  end-place w = rw end-read (written-place s starts heads table sets (childOf d v) _ (child-node s d v inner) (end-written w))
+  end-place w = rw end-read (written-place sets (childOf d v) _ (child-node s d v inner) (end-written w))
 
   pub end-total : (κ : Kind)
       → total κ (nodeBlock starts table (childOf d v) (endOf d (nodeBlock starts table v a))) ≡ endTotal s (record { table = table; heads = heads }) κ v a d
-  end-total κ = rw end-read (ap (total κ) (node-reads s starts heads table sets (childOf d v) _ (child-node s d v inner)))
+  end-total κ = rw end-read (ap (total κ) (node-reads sets (childOf d v) _ (child-node s d v inner)))

@@ -24,11 +24,10 @@ use Rattle.tree.proofs.SideTotals.{childTotal, endTotal}
 use Rattle.tree.proofs.Find.{find-left, find-right, find-on}
 use Rattle.tree.specs.Contracts.Access.{HasPart, nodePart, nodeBlock}
 use Rattle.tree.specs.Contracts.SoundTree.{SoundTree}
-use Rattle.tree.proofs.Places.{processes-most, small}
 use Rattle.search.specs.declared.find.Descent.{Descent}
 use Rattle.search.specs.Contracts.Searched.{Reaches, First}
 use Rattle.search.specs.Contracts.Descending.{FindsAs, FoundIn, Descends, descentOf}
-use Rattle.search.proofs.Words.{node-reads, written-place}
+use Rattle.tree.proofs.Places.{processes-most, node-reads, node-small, written-place}
 use Rattle.search.proofs.ChildReads.{end-written, end-place, end-total}
 use Rattle.search.proofs.NumbersUp.{besideTotal, child-rises, ends-total, sum-before, sum-here}
 use Rattle.search.proofs.PutSearch.{search-ready, search-finds}
@@ -113,7 +112,7 @@ module _ (s : Shape) (heads starts table : List ℕ) (h v a n : ℕ) (f : FindsA
   read-total d x = end-total s starts heads table sets v inner d x Puts
 
   small-puts : (u i : ℕ) → Node s u → nodeBlock starts table u i .puts ≤ 4000
-  small-puts u i nu = omega (arith, small s (sets .tall) (sets .few) m (sets .sized) sound starts (sets .laid) u i nu)
+  small-puts u i nu = omega (arith, node-small sets u i nu)
 
   pub descends : Descends starts table v (suc a) n
   unfolding leftOf rightOf total
@@ -122,8 +121,8 @@ module _ (s : Shape) (heads starts table : List ℕ) (h v a n : ℕ) (f : FindsA
       record {
         some = omega arith;
         low = omega (arith, node .last, processes-most s (sets .tall) (sets .few));
-        here = written-place s starts heads table sets v (suc a) node (inr has);
-        before = rw e (written-place s starts heads table sets v a node before);
+        here = written-place sets v (suc a) node (inr has);
+        before = rw e (written-place sets v a node before);
         left = end-place s starts heads table sets v inner onLeft (suc a) (inr has);
         right = rw e (end-place s starts heads table sets v inner onRight a before);
         small = omega (
@@ -142,7 +141,7 @@ module _ (s : Shape) (heads starts table : List ℕ) (h v a n : ℕ) (f : FindsA
   unfolding descentOf leftOf rightOf total
   descent-is =
       let e : suc a - 1 ≡ a = omega arith in
-      rw (e, read-total onLeft (suc a), read-total onRight a, node-reads s starts heads table sets v (suc a) node)
+      rw (e, read-total onLeft (suc a), read-total onRight a, node-reads sets v (suc a) node)
 
   pub lower : Lower s m h v a n (descentOf starts table v (suc a) n .node) (descentOf starts table v (suc a) n .last) (descentOf starts table v (suc a) n .number)
   lower =

@@ -21,7 +21,7 @@ use Rattle.search.specs.declared.find.Descent.{Descent}
 use Rattle.search.specs.Contracts.Searched.{Reaches, First}
 use Rattle.search.specs.Contracts.Numbered.{NumberedAs, ValueAt}
 use Rattle.search.specs.Contracts.Descending.{FindsAs, FoundIn, Descends, descentOf}
-use Rattle.search.proofs.Words.{node-reads, written-place}
+use Rattle.tree.proofs.Places.{node-reads, written-place}
 use Rattle.search.proofs.PutSearch.{level-node, search-ready, search-finds}
 use Rattle.search.proofs.Descents.{descends, lower, lower-ready, lower-finds, lower-found}
 
@@ -67,7 +67,7 @@ module _ {s : Shape} {heads starts table : List ℕ} {h v b n : ℕ} (f : FindsA
 
   -- whatever the node, the block is there
   pub find-place : HasPlace starts table v b
-  find-place = written-place s starts heads table (f .settles) v b node (inr present)
+  find-place = written-place (f .settles) v b node (inr present)
 
 -- a leaf's block that adds a put has its value
 leaf-value : (s : Shape) (heads starts table : List ℕ) (k a n : ℕ) → k < processes s → FindsAs s heads starts table 0 (leafOf s k) (suc a) n
@@ -83,7 +83,7 @@ leaf-value s heads starts table k a n kp f = λ z.
     let sound = f .settles .sound in
     let one = at-most-one Puts _ _ (sound .node (leafOf s k) leaf .follows a has) (sound .adds k kp a has) in
     let i : n - 1 - blockAt s table (leafOf s k) (suc a - 1) .puts ≡ 0 = rw e (omega arith) in
-    rw (i, find-leaf s m Puts k a z (omega arith)) (ap (λ (b : Block). b .left) (node-reads s starts heads table (f .settles) (leafOf s k) (suc a) leaf))
+    rw (i, find-leaf s m Puts k a z (omega arith)) (ap (λ (b : Block). b .left) (node-reads (f .settles) (leafOf s k) (suc a) leaf))
 
 pub leaf-found : (s : Shape) (heads starts table : List ℕ) (h v b n : ℕ) → FindsAs s heads starts table h v b n → h ≡ 0
     → FoundIn s table h v b n (nodeBlock starts table v b .left)

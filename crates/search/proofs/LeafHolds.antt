@@ -21,7 +21,7 @@ use Rattle.tree.specs.Contracts.Access.{HasPlace, nodeBlock}
 use Rattle.tree.specs.Contracts.SoundTree.{SoundTree}
 use Rattle.search.specs.Contracts.Stands.{StandsAs}
 use Rattle.search.proofs.Holding.{CountsAs, Reached, Counted}
-use Rattle.search.proofs.Words.{node-reads, written-place}
+use Rattle.tree.proofs.Places.{node-reads, written-place}
 
 module _ (s : Shape) (k : ℕ) (starts heads table : List ℕ) (leaf i : ℕ) (h : StandsAs s k starts heads table leaf i) where
   abbrev m : Memory
@@ -45,7 +45,7 @@ module _ (s : Shape) (k : ℕ) (starts heads table : List ℕ) (leaf i : ℕ) (h
   present = sets .sound .node (leafOf s k) node .filled i (h .first) below
 
   pub leaf-place : HasPlace starts table leaf i
-  leaf-place = rw (h .own) (written-place s starts heads table sets (leafOf s k) i node (inr present))
+  leaf-place = rw (h .own) (written-place sets (leafOf s k) i node (inr present))
 
   follows : Follows (block s m (leafOf s k) (i - 1)) (block s m (leafOf s k) i)
   follows =
@@ -88,5 +88,5 @@ module _ (s : Shape) (k : ℕ) (starts heads table : List ℕ) (leaf i : ℕ) (h
   pub leaf-counted : (κ : Kind) → Counted s k i starts heads table κ leaf i (total κ (nodeBlock starts table leaf i))
   unfolding leaf-reached
   leaf-counted κ =
-      let e : nodeBlock starts table leaf i ≡ block s m (leafOf s k) i = rw (h .own) (node-reads s starts heads table sets (leafOf s k) i node) in
+      let e : nodeBlock starts table leaf i ≡ block s m (leafOf s k) i = rw (h .own) (node-reads sets (leafOf s k) i node) in
       record { at = leaf-reached; counts = rw e (leaf-counts κ) }

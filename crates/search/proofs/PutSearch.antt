@@ -16,7 +16,8 @@ use Rattle.tree.specs.Contracts.Access.{HasPart, nodePart}
 use Rattle.tree.specs.Contracts.SoundTree.{SoundTree}
 use Rattle.search.specs.Contracts.Searched.{Reaches, First}
 use Rattle.search.specs.Contracts.Descending.{FindsAs}
-use Rattle.search.proofs.Words.{part-fits, node-part, written-place, puts-word}
+use Rattle.search.proofs.Words.{part-fits, puts-word}
+use Rattle.tree.proofs.Places.{node-part, written-place}
 
 pub level-node : (s : Shape) (h v : ℕ) → Level s h v → Node s v
 level-node s zero v l = let k = level-leaf s v l in rw (k .2) (leaf-node s (k .0) (k .1))
@@ -41,15 +42,15 @@ module _ (s : Shape) (heads starts table : List ℕ) (sets : SoundTree s starts 
   pub search-ready : (last n : ℕ) → Written s (record { table = table; heads = heads }) v last → 1 ≤ n
       → n ≤ total Puts (block s (record { table = table; heads = heads }) v last) → HasPart starts table v × Reaches (nodePart starts table v) 0 last n
   search-ready last n w some upto = (
-    node-part s starts heads table sets v node,
+    node-part sets v node,
     record {
       known = omega arith;
-      fits = part-fits starts table v last (written-place s starts heads table sets v last node w);
-      start = omega (arith, puts-word s starts heads table sets v 0 node, ap (total Puts) (first-zeros (sets .sound .node v node)) ∙ zero-total Puts);
+      fits = part-fits starts table v last (written-place sets v last node w);
+      start = omega (arith, puts-word sets v 0 node, ap (total Puts) (first-zeros (sets .sound .node v node)) ∙ zero-total Puts);
       rises = λ a b l u.
-          rw (puts-word s starts heads table sets v a node, puts-word s starts heads table sets v b node)
+          rw (puts-word sets v a node, puts-word sets v b node)
           (totals-rise (sets .sound .node v node) Puts a b l (earlier b last u w));
-      reached = rw (puts-word s starts heads table sets v last node) upto;
+      reached = rw (puts-word sets v last node) upto;
     },
   )
 
@@ -60,6 +61,6 @@ module _ (s : Shape) (heads starts table : List ℕ) (sets : SoundTree s starts 
       record {
         settles = sets;
         level = level;
-        past = rw (puts-word s starts heads table sets v (b - 1) node) at (f .past);
-        upto = rw (puts-word s starts heads table sets v b node) at (f .upto);
+        past = rw (puts-word sets v (b - 1) node) at (f .past);
+        upto = rw (puts-word sets v b node) at (f .upto);
       }

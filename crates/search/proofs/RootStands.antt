@@ -19,7 +19,7 @@ use Rattle.tree.specs.Contracts.Access.{HasPlace, nodeBlock}
 use Rattle.tree.specs.Contracts.SoundTree.{SoundTree}
 use Rattle.search.specs.Contracts.Stands.{OfKind, InBlock, StandsAt}
 use Rattle.search.proofs.Holding.{CountsAs, HoldsAs}
-use Rattle.search.proofs.Words.{node-reads, written-place}
+use Rattle.tree.proofs.Places.{node-reads, written-place}
 
 module _ (s : Shape) (k i : ℕ) (starts heads table : List ℕ) (place : ℕ) (h : HoldsAs s k i (s .height) starts heads table place) where
   abbrev m : Memory
@@ -39,7 +39,7 @@ module _ (s : Shape) (k i : ℕ) (starts heads table : List ℕ) (place : ℕ) (
 
   pub root-place : HasPlace starts table root (place - 1)
   root-place =
-      written-place s starts heads table sets root (place - 1) (node-root s)
+      written-place sets root (place - 1) (node-root s)
       (below-head (root-sound s m (sets .sound)) (place - 1) (omega (arith, rw top at (h .below))))
 
   pub root-block : InBlock s table k i place
@@ -55,7 +55,7 @@ module _ (s : Shape) (k i : ℕ) (starts heads table : List ℕ) (place : ℕ) (
   module _ (κ : Kind) (number : ℕ) (counts : CountsAs s k i (s .height) table κ place number) where
     root-reads : total κ (nodeBlock starts table root (place - 1)) ≡ total κ (blockAt s table root (place - 1))
     unfolding block
-    root-reads = ap (total κ) (node-reads s starts heads table sets root (place - 1) (node-root s))
+    root-reads = ap (total κ) (node-reads sets root (place - 1) (node-root s))
 
     pub root-low : total κ (nodeBlock starts table root (place - 1)) ≤ number
     root-low = omega (arith, root-reads, rw top at (counts .low))

@@ -1,5 +1,5 @@
--- What the words of a node's part are in a settled memory: the ends and the puts of its blocks. Used by proofs; no exported promise names it.
-use Prim.Native.Nat.{ℕ, _+_, _*_, _%_, _≤_, _<_}
+-- What the words of a node's part are in a sound tree: the ends and the puts of its blocks. Used by proofs; no exported promise names it.
+use Prim.Native.Nat.{ℕ, _+_, _*_, _%_, _≤_}
 use native.Mathlib.Omega.{arith}
 use native.Mathlib.Decide.{ℕ-discrete}
 use mathlib.Core.Path.{_≡_, refl, ap, _∙_}
@@ -9,15 +9,14 @@ use borrow.Author.Tests.{eq-eqb, ne-eqb}
 use Rattle.tree.specs.declared.Kind.the-variants.{Puts}
 use Rattle.tree.specs.Shape.{Shape}
 use Rattle.tree.specs.Blocks.{wordIn, blockIn}
-use Rattle.tree.specs.Memory.{Memory, block}
+use Rattle.tree.specs.Memory.{Memory, memoryOf, block}
 use Rattle.tree.specs.Order.{total}
 use Rattle.tree.specs.Sides.{Side, onLeft, onRight, endOf}
-use Rattle.tree.specs.Contracts.Invariant.{Node, Written}
+use Rattle.tree.specs.Contracts.Invariant.{Node}
 use Rattle.tree.proofs.Nodes.{sideOf}
-use Rattle.tree.proofs.Sound.{place-count}
-use Rattle.tree.specs.Contracts.Access.{HasPart, HasPlace, nodePart, nodeBlock}
+use Rattle.tree.specs.Contracts.Access.{HasPlace, nodePart, nodeBlock}
 use Rattle.tree.specs.Contracts.SoundTree.{SoundTree}
-use Rattle.tree.proofs.Places.{headed, has-part, has-place, reads}
+use Rattle.tree.proofs.Places.{node-reads}
 
 -- the word of a block that has its end on a side
 abbrev pub wordOf : Side → ℕ
@@ -40,28 +39,13 @@ pub part-fits : (starts table : List ℕ) (v i : ℕ) → HasPlace starts table 
 unfolding nodePart
 part-fits starts table v i h = simp (length-take, length-drop) (omega arith)
 
-module _ (s : Shape) (starts heads table : List ℕ) (sets : SoundTree s starts heads table) where
+module _ {s : Shape} {starts heads table : List ℕ} (sound : SoundTree s starts heads table) where
   abbrev memory : Memory
-  memory = record { table = table; heads = heads }
-
-  pub node-part : (v : ℕ) → Node s v → HasPart starts table v
-  node-part = has-part s (sets .tall) (sets .few) memory (sets .sized) (sets .sound) starts (sets .laid)
-
-  pub node-headed : (v : ℕ) → Node s v → v < length heads
-  node-headed = headed s (sets .tall) (sets .few) memory (sets .sized) (sets .sound) starts (sets .laid)
-
-  pub node-reads : (v i : ℕ) → Node s v → nodeBlock starts table v i ≡ block s memory v i
-  node-reads = reads s (sets .tall) (sets .few) memory (sets .sized) (sets .sound) starts (sets .laid)
-
-  -- a written place is the node's
-  pub written-place : (v i : ℕ) → Node s v → Written s memory v i → HasPlace starts table v i
-  written-place v i n w =
-      has-place s (sets .tall) (sets .few) memory (sets .sized) (sets .sound) starts (sets .laid) v i n
-      (omega (arith, place-count (sets .sound .node v n) i w, sets .sound .node v n .within i))
+  memory = memoryOf table heads
 
   pub end-word : (d : Side) (v i : ℕ) → Node s v → wordIn (nodePart starts table v) i (wordOf d) ≡ endOf d (block s memory v i)
   unfolding nodeBlock blockIn
-  end-word d v i n = word d ∙ ap (endOf d) (node-reads v i n)
+  end-word d v i n = word d ∙ ap (endOf d) (node-reads sound v i n)
     where
       word : (d : Side) → wordIn (nodePart starts table v) i (wordOf d) ≡ endOf d (nodeBlock starts table v i)
       word onLeft = refl
@@ -69,4 +53,4 @@ module _ (s : Shape) (starts heads table : List ℕ) (sets : SoundTree s starts 
 
   pub puts-word : (v i : ℕ) → Node s v → wordIn (nodePart starts table v) i 0 ≡ total Puts (block s memory v i)
   unfolding nodeBlock blockIn total
-  puts-word v i n = ap (total Puts) (node-reads v i n)
+  puts-word v i n = ap (total Puts) (node-reads sound v i n)

@@ -6,7 +6,6 @@ use mathlib.Core.Path.{_≡_, subst}
 use mathlib.Core.Logic.{inl, inr}
 use mathlib.Core.Bool.{false, true≢false}
 use mathlib.Core.List.{List}
-use lib.ListN.{length}
 use lib.Dec.{eqb}
 use Rattle.base.proofs.Cases.{both}
 use Rattle.tree.specs.declared.Kind.the-variants.{Puts, Takes}
@@ -15,7 +14,7 @@ use Rattle.tree.specs.Memory.{Memory, headOf, block}
 use Rattle.tree.specs.Size.{rootSize}
 use Rattle.tree.specs.Order.{total}
 use Rattle.tree.specs.Sides.{onLeft, onRight, childOf}
-use Rattle.tree.specs.Contracts.Invariant.{Node, Inner, count, Present, Written, Sized, zeros, Sound}
+use Rattle.tree.specs.Contracts.Invariant.{Node, Inner, Written, zeros, Sound}
 use Rattle.tree.proofs.Nodes.{child-node, inner-node, leaf-node}
 use Rattle.tree.proofs.Heights.{leaf-places, node-places}
 use Rattle.tree.proofs.Sound.{below-head, before-written, place-count, first-zeros}
@@ -28,9 +27,9 @@ use Rattle.steps.specs.declared.Status.{Status}
 use Rattle.steps.specs.declared.Status.the-variants.{Busy}
 use Rattle.steps.specs.Rules.{blockOf}
 use Rattle.steps.specs.Machine.{Machine, processOf, isQ}
-use Rattle.tree.specs.Contracts.Access.{Laid, HasPart, HasPlace, nodeBlock}
 use Rattle.steps.specs.Contracts.Ready.{Children, Adds, Builds, Ready}
-use Rattle.tree.proofs.Places.{processes-most, places-most, headed as node-headed, has-part as node-part, has-place as node-place, reads as node-reads, small as node-small, below as place-below, present as place-present}
+use Rattle.tree.specs.Contracts.SoundTree.{SoundTree}
+use Rattle.tree.proofs.Places.{processes-most, places-most, node-headed, node-part, node-place, node-reads, node-small, below-within, present-within}
 use Rattle.steps.proofs.Stages.{Stage, stage, stageOf, made}
 use Rattle.steps.proofs.Progress.{LeafOpen, EndOk, HandOk, OwnLeaf, Way}
 use Rattle.steps.proofs.Builds.{new-sums, totals-grow}
@@ -49,130 +48,101 @@ size-most s m sound v iv (suc i) (inr f) =
     rw (sound .joins v iv i f .sized)
     (both (λ (x : ℕ). x ≤ block s m v (suc i) .puts) (eqb v 1) (omega arith) (omega arith))
 
-module _ (s : Shape) (tall : s .height ≤ 3) (few : s .most ≤ 500) where
-  module _ (m : Memory) (sz : Sized s m) (sound : Sound s m) (starts : List ℕ) (laid : Laid s starts (m .heads)) where
-    abbrev headed : (v : ℕ) → Node s v → v < length (m .heads)
-    headed = node-headed s tall few m sz sound starts laid
+module _ (s : Shape) (m : Memory) (starts : List ℕ) (q : SoundTree s starts (m .heads) (m .table)) where
+  abbrev sound : Sound s m
+  sound = q .sound
 
-    abbrev has-part : (v : ℕ) → Node s v → HasPart starts (m .table) v
-    has-part = node-part s tall few m sz sound starts laid
+  children : (w : Visit) → Inner s (w .node) → Children (m .heads) w
+  children w iv = record { low = omega (arith, iv .last, processes-most s (q .tall) (q .few)); both = omega (arith, q .sized .heads, iv .last) }
 
-    abbrev has-place : (v i : ℕ) → Node s v → i ≤ lastPlace s v → HasPlace starts (m .table) v i
-    has-place = node-place s tall few m sz sound starts laid
+  adds : (k b : ℕ) → k < processes s → b ≤ s .most → LeafOpen s m k b → Adds starts (m .heads) (m .table) (leafOf s k)
+  unfolding headOf
+  adds k b kp h o =
+      let n = leaf-node s k kp in
+      let x = node-small q (leafOf s k) (headOf m (leafOf s k) - 1) n in
+      record {
+        node = node-headed q (leafOf s k) n;
+        head = omega (arith, o .some, o .head);
+        here = node-place q (leafOf s k) (headOf m (leafOf s k)) n (omega (arith, o .head, leaf-places s k kp));
+        puts = omega arith;
+        takes = omega arith;
+      }
 
-    abbrev reads : (v i : ℕ) → Node s v → nodeBlock starts (m .table) v i ≡ block s m v i
-    reads = node-reads s tall few m sz sound starts laid
+  module _ (w : Visit) (iv : Inner s (w .node)) (first : 1 ≤ w .head) (last : w .head ≤ headOf m (w .node)) where
+    abbrev node : Node s (w .node)
+    node = inner-node s (w .node) iv
 
-    abbrev small : (v i : ℕ) → Node s v → count (nodeBlock starts (m .table) v i) ≤ 4000
-    small = node-small s tall few m sz sound starts laid
+    abbrev left : Node s (2 * w .node)
+    left = omega (arith, iv .first, iv .last)
 
-    abbrev below : (v i : ℕ) → Node s v → i < headOf m v → i ≤ lastPlace s v
-    below = place-below s tall few m sz sound starts laid
+    abbrev right : Node s (2 * w .node + 1)
+    right = omega (arith, iv .first, iv .last)
 
-    abbrev present : (v i : ℕ) → Node s v → Present s m v i → i ≤ lastPlace s v
-    present = place-present s tall few m sz sound starts laid
-
-    children : (w : Visit) → Inner s (w .node) → Children (m .heads) w
-    children w iv = record { low = omega (arith, iv .last, processes-most s tall few); both = omega (arith, sz .heads, iv .last) }
-
-    adds : (k b : ℕ) → k < processes s → b ≤ s .most → LeafOpen s m k b → Adds starts (m .heads) (m .table) (leafOf s k)
-    unfolding headOf
-    adds k b kp h o =
-        let n = leaf-node s k kp in
-        let x = small (leafOf s k) (headOf m (leafOf s k) - 1) n in
+    builds : (l r : ℕ) → EndOk s m w onLeft l → EndOk s m w onRight r → Builds starts (m .table) w l r
+    unfolding leftOf rightOf total blockOf
+    builds l r lo ro =
+        let x = node-small q (2 * w .node) l left in
+        let y = node-small q (2 * w .node + 1) r right in
+        let z = node-small q (w .node) (w .head - 1) node in
+        let rise = totals-grow s m sound w iv first last l r lo ro in
+        let sums = new-sums s m sound w iv first last l r lo ro in
         record {
-          node = headed (leafOf s k) n;
-          head = omega (arith, o .some, o .head);
-          here = has-place (leafOf s k) (headOf m (leafOf s k)) n (omega (arith, o .head, leaf-places s k kp));
+          head = first;
+          before = node-place q (w .node) (w .head - 1) node (below-within q (w .node) (w .head - 1) node (omega arith));
+          left = node-place q (2 * w .node) l left (below-within q (2 * w .node) l left (lo .below));
+          right = node-place q (2 * w .node + 1) r right (below-within q (2 * w .node + 1) r right (ro .below));
           puts = omega arith;
           takes = omega arith;
+          size = rw (node-reads q (w .node) (w .head - 1) node) (omega (arith, size-most s m sound (w .node) iv (w .head - 1) (below-head (sound .node (w .node) node) (w .head - 1) (omega arith)), sound .node (w .node) node .within (w .head - 1), places-most s (q .tall) (q .few) (w .node)));
+          putsRise = rw (node-reads q (w .node) (w .head - 1) node, node-reads q (2 * w .node) l left, node-reads q (2 * w .node + 1) r right) (omega (arith, rise Puts, sums Puts));
+          takesRise = rw (node-reads q (w .node) (w .head - 1) node, node-reads q (2 * w .node) l left, node-reads q (2 * w .node + 1) r right) (omega (arith, rise Takes, sums Takes));
         }
 
-    module _ (w : Visit) (iv : Inner s (w .node)) (first : 1 ≤ w .head) (last : w .head ≤ headOf m (w .node)) where
-      abbrev node : Node s (w .node)
-      node = inner-node s (w .node) iv
+    made-place : (n : Built) → HandOk s m w (made n) → w .head ≤ lastPlace s (w .node)
+    unfolding total
+    made-place n h =
+        let x = h .1 .sums Puts in
+        let y = h .1 .sums Takes in
+        omega (
+          arith,
+          place-count (sound .node (w .node) node) (w .head - 1) (below-head (sound .node (w .node) node) (w .head - 1) (omega arith)),
+          h .0 .more,
+          node-places s (w .node) (iv .first) (iv .last),
+          sound .node (childOf onLeft (w .node)) (child-node s onLeft (w .node) iv) .within (blockOf n .left),
+          sound .node (childOf onRight (w .node)) (child-node s onRight (w .node) iv) .within (blockOf n .right),
+        )
 
-      abbrev left : Node s (2 * w .node)
-      left = omega (arith, iv .first, iv .last)
-
-      abbrev right : Node s (2 * w .node + 1)
-      right = omega (arith, iv .first, iv .last)
-
-      builds : (l r : ℕ) → EndOk s m w onLeft l → EndOk s m w onRight r → Builds starts (m .table) w l r
-      unfolding leftOf rightOf total blockOf
-      builds l r lo ro =
-          let x = small (2 * w .node) l left in
-          let y = small (2 * w .node + 1) r right in
-          let z = small (w .node) (w .head - 1) node in
-          let rise = totals-grow s m sound w iv first last l r lo ro in
-          let sums = new-sums s m sound w iv first last l r lo ro in
-          record {
-            head = first;
-            before = has-place (w .node) (w .head - 1) node (below (w .node) (w .head - 1) node (omega arith));
-            left = has-place (2 * w .node) l left (below (2 * w .node) l left (lo .below));
-            right = has-place (2 * w .node + 1) r right (below (2 * w .node + 1) r right (ro .below));
-            puts = omega arith;
-            takes = omega arith;
-            size = rw (reads (w .node) (w .head - 1) node) (omega (arith, size-most s m sound (w .node) iv (w .head - 1) (below-head (sound .node (w .node) node) (w .head - 1) (omega arith)), sound .node (w .node) node .within (w .head - 1), places-most s tall few (w .node)));
-            putsRise = rw (reads (w .node) (w .head - 1) node, reads (2 * w .node) l left, reads (2 * w .node + 1) r right) (omega (arith, rise Puts, sums Puts));
-            takesRise = rw (reads (w .node) (w .head - 1) node, reads (2 * w .node) l left, reads (2 * w .node + 1) r right) (omega (arith, rise Takes, sums Takes));
-          }
-
-      made-place : (n : Built) → HandOk s m w (made n) → w .head ≤ lastPlace s (w .node)
-      unfolding total
-      made-place n h =
-          let x = h .1 .sums Puts in
-          let y = h .1 .sums Takes in
-          omega (
-            arith,
-            place-count (sound .node (w .node) node) (w .head - 1) (below-head (sound .node (w .node) node) (w .head - 1) (omega arith)),
-            h .0 .more,
-            node-places s (w .node) (iv .first) (iv .last),
-            sound .node (childOf onLeft (w .node)) (child-node s onLeft (w .node) iv) .within (blockOf n .left),
-            sound .node (childOf onRight (w .node)) (child-node s onRight (w .node) iv) .within (blockOf n .right),
-          )
-
-    -- a step of process k, in its operation b
-    module _ (hold : ℕ → Stage) (k : ℕ) (kp : k < processes s) (b : ℕ) (within : b ≤ s .most) where
-      next : (n : Step) → isQ n ≡ false → OwnLeaf s m k b (stage n) → Way s m hold k b (stage n) → StepNodes s n → Ready starts (m .heads) (m .table) (leafOf s k) n
-      unfolding isQ headOf
-      next A q own way nodes = adds k b kp within own
-      next (V1 a w v h) q own way nodes = omega (arith, headed v (way .node))
-      next (V2 a w v h x) q own way nodes = (headed v (way .node), has-place v h (way .node) (present v h (way .node) (way .present)))
-      next (V3 a w v h) q own way nodes = (headed v (way .node), omega (arith, present v h (way .node) (way .present), places-most s tall few v))
-      next (R1 z v) q own way nodes = headed v (inner-node s v nodes)
-      next (R2 w) q own way nodes = children w nodes
-      next (R3 w c) q own way nodes = (children w nodes, has-part (2 * w .node) (omega arith))
-      next (R4 w) q own way nodes = children w nodes
-      next (R5 w c) q own way nodes = (children w nodes, has-part (2 * w .node + 1) (omega arith))
-      next (C1 w) q own way nodes = (children w nodes, sound .node (2 * w .node) (omega arith) .head)
-      next (C2 w l) q own way nodes = (children w nodes, sound .node (2 * w .node + 1) (omega arith) .head)
-      next (C3 w l r) q own way nodes =
-          (children w nodes, builds w nodes (way .refreshing .first) (way .refreshing .last) l r (way .hand .0) (way .hand .1))
-      next (C4 w n) q own way nodes =
-          let node = inner-node s (w .node) nodes in (
-            headed (w .node) node,
-            has-place (w .node) (w .head) node (made-place w nodes (way .refreshing .first) (way .refreshing .last) n (way .hand)),
-          )
-      next Q q own way nodes = absurd (true≢false q)
+  -- a step of process k, in its operation b
+  module _ (hold : ℕ → Stage) (k : ℕ) (kp : k < processes s) (b : ℕ) (within : b ≤ s .most) where
+    next : (n : Step) → isQ n ≡ false → OwnLeaf s m k b (stage n) → Way s m hold k b (stage n) → StepNodes s n → Ready starts (m .heads) (m .table) (leafOf s k) n
+    unfolding isQ headOf
+    next A more own way nodes = adds k b kp within own
+    next (V1 a w v h) more own way nodes = omega (arith, node-headed q v (way .node))
+    next (V2 a w v h x) more own way nodes = (node-headed q v (way .node), node-place q v h (way .node) (present-within q v h (way .node) (way .present)))
+    next (V3 a w v h) more own way nodes = (node-headed q v (way .node), omega (arith, present-within q v h (way .node) (way .present), places-most s (q .tall) (q .few) v))
+    next (R1 z v) more own way nodes = node-headed q v (inner-node s v nodes)
+    next (R2 w) more own way nodes = children w nodes
+    next (R3 w c) more own way nodes = (children w nodes, node-part q (2 * w .node) (omega arith))
+    next (R4 w) more own way nodes = children w nodes
+    next (R5 w c) more own way nodes = (children w nodes, node-part q (2 * w .node + 1) (omega arith))
+    next (C1 w) more own way nodes = (children w nodes, sound .node (2 * w .node) (omega arith) .head)
+    next (C2 w l) more own way nodes = (children w nodes, sound .node (2 * w .node + 1) (omega arith) .head)
+    next (C3 w l r) more own way nodes =
+        (children w nodes, builds w nodes (way .refreshing .first) (way .refreshing .last) l r (way .hand .0) (way .hand .1))
+    next (C4 w n) more own way nodes =
+        let node = inner-node s (w .node) nodes in (
+          node-headed q (w .node) node,
+          node-place q (w .node) (w .head) node (made-place w nodes (way .refreshing .first) (way .refreshing .last) n (way .hand)),
+        )
+    next Q more own way nodes = absurd (true≢false more)
 
 -- of a machine whose invariant holds
-pub ready :
-    (s : Shape) (m : Machine)
-    → Invariant s m
-    → s .height ≤ 3
-    → s .most ≤ 500
-    → (starts : List ℕ)
-    → Laid s starts (m .memory .heads)
-    → (k : ℕ)
-    → k < processes s
-    → (o : Operation) (n : Step)
-    → processOf m k .status ≡ Busy o n
-    → isQ n ≡ false
+pub ready : (s : Shape) (m : Machine) → Invariant s m → (starts : List ℕ) → SoundTree s starts (m .memory .heads) (m .memory .table)
+    → (k : ℕ) → k < processes s → (o : Operation) (n : Step) → processOf m k .status ≡ Busy o n → isQ n ≡ false
     → Ready starts (m .memory .heads) (m .memory .table) (leafOf s k) n
-ready s m inv tall few starts laid k kp o n e q =
+ready s m inv starts tree k kp o n e more =
     let p = inv .process k kp in
     let own = subst (λ (x : Status). OwnLeaf s (m .memory) k (processOf m k .begun) (stageOf x)) e (p .leaf) in
     let way = subst (λ (x : Status). Way s (m .memory) (holding m) k (processOf m k .begun) (stageOf x)) e (p .way) in
-    next s tall few (m .memory) (inv .sized) (inv .sound) starts laid (holding m) k kp (processOf m k .begun) (p .within) n q own way
+    next s (m .memory) starts tree (holding m) k kp (processOf m k .begun) (p .within) n more own way
     (step-nodes s (m .memory) (holding m) k kp (processOf m k .begun) n way)

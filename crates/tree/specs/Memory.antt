@@ -13,6 +13,9 @@ pub record Memory : Type 0 where
   pub table : List ℕ
   pub heads : List ℕ
 
+abbrev pub memoryOf : List ℕ → List ℕ → Memory
+memoryOf table heads = record { table = table; heads = heads }
+
 -- a node's head, first 1
 unfoldable pub headOf : Memory → ℕ → ℕ
 headOf m v = getD (m .heads) v 1
