@@ -27,6 +27,7 @@ use Rattle.tree.proofs.Places.{node-part, node-headed, written-place}
 use Rattle.search.proofs.ChildReads.{end-place, end-total}
 use Rattle.search.proofs.Rooted.{end-reaches}
 use Rattle.search.proofs.NumbersUp.{besideTotal, number-low, number-high, number-rank}
+use Rattle.tree.specs.Layout.{blockWords}
 
 -- Block b of the parent of v, the node of height j, holds the operation that v's block `place` holds. Its number there is larger by what is beside it.
 pub record Above (s : Shape) (k i j : ℕ) (starts heads table : List ℕ) (v place b : ℕ) : Type 0 where
@@ -81,7 +82,7 @@ module _ (s : Shape) (k i j : ℕ) (starts heads table : List ℕ) (place : ℕ)
             (end-reaches s m sound k kp i (h .stands .rooted) j low place (h .some) (h .below) (h .past));
       }
     where
-      small : (d : Side) → wordOf d < 6
+      small : (d : Side) → wordOf d < blockWords
       small onLeft = omega arith
       small onRight = omega arith
 

@@ -8,7 +8,8 @@ use lib.ListN.{length, length-take, length-drop}
 use borrow.Author.Tests.{eq-eqb, ne-eqb}
 use Rattle.tree.specs.declared.Kind.the-variants.{Puts}
 use Rattle.tree.specs.Shape.{Shape}
-use Rattle.tree.specs.Blocks.{wordIn, blockIn}
+use Rattle.tree.specs.Layout.{blockWords}
+use Rattle.tree.specs.Blocks.{putsWord, leftWord, rightWord, wordIn, blockIn}
 use Rattle.tree.specs.Memory.{Memory, memoryOf, block}
 use Rattle.tree.specs.Order.{total}
 use Rattle.tree.specs.Sides.{Side, onLeft, onRight, endOf}
@@ -20,8 +21,8 @@ use Rattle.tree.proofs.Places.{node-reads}
 
 -- the word of a block that has its end on a side
 abbrev pub wordOf : Side → ℕ
-wordOf onLeft = 3
-wordOf onRight = 4
+wordOf onLeft = leftWord
+wordOf onRight = rightWord
 
 -- to show something of the side of a node, show it of both sides, each by what the node's number then is
 pub side-cases : (P : Side → Type 0) (v : ℕ) → (v % 2 ≡ 0 → P onLeft) → ((v % 2 ≡ 0 → ⊥) → P onRight) → P (sideOf v)
@@ -32,10 +33,10 @@ side-cases P v left right = on (ℕ-discrete (v % 2) 0)
     on (no e) = rw (ne-eqb (v % 2) 0 e) (right e)
 
 -- node v's parent has its ends towards v in this word
-pub side-word : (v : ℕ) → 3 + v % 2 ≡ wordOf (sideOf v)
-side-word v = side-cases (λ d. 3 + v % 2 ≡ wordOf d) v (λ e. omega arith) (λ e. omega arith)
+pub side-word : (v : ℕ) → leftWord + v % 2 ≡ wordOf (sideOf v)
+side-word v = side-cases (λ d. leftWord + v % 2 ≡ wordOf d) v (λ e. omega arith) (λ e. omega arith)
 
-pub part-fits : (starts table : List ℕ) (v i : ℕ) → HasPlace starts table v i → 6 * i + 6 ≤ length (nodePart starts table v)
+pub part-fits : (starts table : List ℕ) (v i : ℕ) → HasPlace starts table v i → blockWords * i + blockWords ≤ length (nodePart starts table v)
 unfolding nodePart
 part-fits starts table v i h = simp (length-take, length-drop) (omega arith)
 
@@ -51,6 +52,6 @@ module _ {s : Shape} {starts heads table : List ℕ} (sound : SoundTree s starts
       word onLeft = refl
       word onRight = refl
 
-  pub puts-word : (v i : ℕ) → Node s v → wordIn (nodePart starts table v) i 0 ≡ total Puts (block s memory v i)
+  pub puts-word : (v i : ℕ) → Node s v → wordIn (nodePart starts table v) i putsWord ≡ total Puts (block s memory v i)
   unfolding nodeBlock blockIn total
   puts-word v i n = ap (total Puts) (node-reads sound v i n)

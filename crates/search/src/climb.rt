@@ -1,6 +1,7 @@
 // From an operation's leaf up to its root block.
 use crate::Standing;
 use crate::places::first_place;
+use tree::LEFT_WORD;
 use tree::access::block_at;
 use tree::heads::head_of;
 use tree::heads::wide;
@@ -19,7 +20,15 @@ fn holder(heads: &[u32], table: &[u32], starts: &[usize; 17], v: u32, place: u32
 {
     let last = head_of(heads, v / 2) - 1;
     let guess = block_at(table, starts, v, place).superblock;
-    first_place(table, starts, v / 2, 3 + wide(v % 2), last, place, guess)
+    first_place(
+        table,
+        starts,
+        v / 2,
+        LEFT_WORD + wide(v % 2),
+        last,
+        place,
+        guess,
+    )
 }
 
 // How many takes of v's sibling, from its first block on, come before v's in block b of the parent. In a block the left child's come first, so they are those up to the

@@ -1,4 +1,5 @@
 // Search of a node's places for the first whose word reaches a number.
+use tree::BLOCK_WORDS;
 use tree::access::start_of;
 use tree::bisect;
 use tree::heads::wide;
@@ -6,12 +7,13 @@ ghost use mathlib.Core.Path.{_≡_};
 ghost use mathlib.Core.Bool.{true};
 ghost use Prim.Native.Nat.{_+_, _*_, _≤_, _<_};
 ghost use lib.ListN.{length};
+ghost use Rattle.tree.specs.Layout.{blockWords};
 ghost use Rattle.tree.specs.Contracts.Access.{HasPart, nodePart};
 ghost use Rattle.search.specs.Contracts.Searched.{Reaches, First};
 
 // Whether place i is the first that reaches x: the one before it does not. Only these two places are looked at.
 fn is_first(part: &[u32], word: usize, last: usize, x: u32, i: usize) -> bool
-    requires { ⌜ (word < 6) × (6 * last + 6 ≤ length (now part)) ⌝ }
+    requires { ⌜ (word < blockWords) × (blockWords * last + blockWords ≤ length (now part)) ⌝ }
     ensures is { λ r. ⌜ (r ≡ true → First (now (part .entry)) word last x i) ⌝ }
     ensures only { λ r. ⌜ (First (now (part .entry)) word last x i → r ≡ true) ⌝ }
 {
@@ -21,10 +23,10 @@ fn is_first(part: &[u32], word: usize, last: usize, x: u32, i: usize) -> bool
     if last < i {
         return false;
     }
-    if part[6 * i + word] < x {
+    if part[BLOCK_WORDS * i + word] < x {
         return false;
     }
-    part[6 * (i - 1) + word] < x
+    part[BLOCK_WORDS * (i - 1) + word] < x
 }
 
 // The first place of a part. The guess and the place after it are tried first, since mostly one of them is right. The search by halving finds the place whatever the guess.

@@ -15,7 +15,7 @@ use Rattle.tree.specs.Blocks.{wordIn, blockIn, wordsOf, withBlock}
 
 -- a block whose words are those of another is that block
 pub block-by-words : (part : List ℕ) (i : ℕ) (b : Block) → ((j : ℕ) → j < blockWords → wordIn part i j ≡ getD (wordsOf b) j 0) → blockIn part i ≡ b
-unfolding blockIn blockWords wordsOf
+unfolding blockIn wordsOf
 block-by-words part i b h =
     λ z. record {
       puts = h 0 (lit< tt) z;
@@ -28,7 +28,7 @@ block-by-words part i b h =
 
 -- the words of a block are those that it was read from
 words-of-block : (part : List ℕ) (i j : ℕ) → j < blockWords → getD (wordsOf (blockIn part i)) j 0 ≡ wordIn part i j
-unfolding blockIn blockWords wordsOf
+unfolding blockIn wordsOf
 words-of-block part i zero h = refl
 words-of-block part i (suc zero) h = refl
 words-of-block part i (suc (suc zero)) h = refl
@@ -39,11 +39,11 @@ words-of-block part i (suc (suc (suc (suc (suc (suc j)))))) h = absurd (omega ar
 
 module _ (part : List ℕ) (i : ℕ) (b : Block) where
   word-same : (j : ℕ) → blockWords * suc i ≤ length part → j < blockWords → wordIn (withBlock part i b) i j ≡ getD (wordsOf b) j 0
-  unfolding wordIn withBlock blockWords wordsOf
+  unfolding wordIn withBlock wordsOf
   word-same j fits h = sets-here (wordsOf b) part (blockWords * i) j (omega arith) h
 
   word-other : (i' j : ℕ) → i ≢ i' → j < blockWords → wordIn (withBlock part i b) i' j ≡ wordIn part i' j
-  unfolding wordIn withBlock blockWords wordsOf
+  unfolding wordIn withBlock wordsOf
   word-other i' j ne h = on (decLt i' i)
     where
       on : Dec (i' < i) → getD (sets part (blockWords * i) (wordsOf b)) (blockWords * i' + j) 0 ≡ getD part (blockWords * i' + j) 0

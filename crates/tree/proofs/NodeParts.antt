@@ -25,8 +25,7 @@ module _ (s : Shape) (v from to : ℕ) (start : from ≡ partStart s v) (end : t
   pub node-within : v < 2 * processes s → (from ≤ to) × (to ≤ wordsNeeded s)
   node-within h = (omega (arith, node-words), omega (arith, node-words, part-within s v h))
 
-  pub place-within : (i : ℕ) → 0 < v → i ≤ lastPlace s v → 6 * i + 6 ≤ to - from
-  unfolding blockWords
+  pub place-within : (i : ℕ) → 0 < v → i ≤ lastPlace s v → blockWords * i + blockWords ≤ to - from
   place-within i pos h = omega (arith, node-words, words-of s v pos)
 
   module _ (t : List ℕ) where

@@ -32,7 +32,7 @@ module _ (s : Shape) where
 
   -- the words of the levels above level d
   level-start : (d : ℕ) → d ≤ suc (s .height) → partStart s (2 ^ d) ≡ blockWords * (d * 2 ^ s .height * s .most + (2 ^ d - 1))
-  unfolding partStart partWords levelWords blockWords
+  unfolding partStart partWords levelWords
   level-start zero h = omega arith
   level-start (suc d) h =
       let e : 2 ^ suc d ≡ 2 ^ d + 2 ^ d = omega arith in
@@ -42,7 +42,7 @@ module _ (s : Shape) where
       rw e (level-part d (2 ^ d) k (le-refl _) ∙ omega (arith, level-start d (omega arith), pow-pos d))
 
 words-needed : (s : Shape) → partStart s (2 * processes s) ≡ wordsNeeded s
-unfolding wordsNeeded processes blockWords
+unfolding wordsNeeded processes
 words-needed s = ap (partStart s) (omega arith) ∙ level-start s (suc (s .height)) (le-refl _) ∙ omega arith
 
 -- each node's part lies within the words needed

@@ -13,7 +13,7 @@ use Rattle.base.proofs.Cases.{cases, both}
 use Rattle.base.proofs.Stores.{set-cases}
 use Rattle.tree.specs.declared.Block.{Block}
 use Rattle.tree.specs.Shape.{Shape, processes, lastPlace}
-use Rattle.tree.specs.Layout.{blockWords, partStart, partWords, partOf}
+use Rattle.tree.specs.Layout.{partStart, partWords, partOf}
 use Rattle.tree.specs.Blocks.{wordIn, blockIn, withBlock, blockAt, withBlockAt}
 use Rattle.tree.specs.Memory.{Memory, headOf, block, write, raise}
 use Rattle.tree.proofs.Parts.{part-same, part-other, part-length}
@@ -28,7 +28,7 @@ block-zeros part i h = λ z. record { puts = h 0 z; takes = h 1 z; superblock = 
 
 -- a place past the end reads as zeros, whatever the table
 past-end : (s : Shape) (t : List ℕ) (v i : ℕ) → 0 < v → lastPlace s v < i → blockAt s t v i ≡ zeros
-unfolding blockAt wordIn partOf blockWords
+unfolding blockAt wordIn partOf
 past-end s t v i pos h =
     block-zeros (take (partWords s v) (drop (partStart s v) t)) i
     (λ j. List·getD-eq-default (take (partWords s v) (drop (partStart s v) t)) 0 (simp length-take (omega (arith, words-of s v pos))))
@@ -43,7 +43,7 @@ module _ (s : Shape) (t : List ℕ) (v i : ℕ) (b : Block) (fits : partStart s 
   sized = block-length (partOf s t v) i b ∙ part-sized
 
   put-same : 0 < v → i ≤ lastPlace s v → blockAt s (withBlockAt s t v i b) v i ≡ b
-  unfolding blockAt withBlockAt blockWords
+  unfolding blockAt withBlockAt
   put-same pos h =
       rw (part-same s t v (withBlock (partOf s t v) i b) fits sized) (block-same (partOf s t v) i b (omega (arith, part-sized, words-of s v pos)))
 

@@ -13,16 +13,35 @@ use Rattle.tree.specs.Layout.{blockWords, partOf, withPart}
 unfoldable pub wordIn : List ℕ → ℕ → ℕ → ℕ
 wordIn part i j = getD part (blockWords * i + j) 0
 
+-- the place of each word in a block
+abbrev pub putsWord : ℕ
+putsWord = 0
+
+abbrev pub takesWord : ℕ
+takesWord = 1
+
+abbrev pub superWord : ℕ
+superWord = 2
+
+abbrev pub leftWord : ℕ
+leftWord = 3
+
+abbrev pub rightWord : ℕ
+rightWord = 4
+
+abbrev pub sizeWord : ℕ
+sizeWord = 5
+
 -- the block at place i of a part
 unfoldable pub blockIn : List ℕ → ℕ → Block
 blockIn part i =
     record {
-      puts = wordIn part i 0;
-      takes = wordIn part i 1;
-      superblock = wordIn part i 2;
-      left = wordIn part i 3;
-      right = wordIn part i 4;
-      size = wordIn part i 5;
+      puts = wordIn part i putsWord;
+      takes = wordIn part i takesWord;
+      superblock = wordIn part i superWord;
+      left = wordIn part i leftWord;
+      right = wordIn part i rightWord;
+      size = wordIn part i sizeWord;
     }
 
 -- the words of a block, and the part with block b at place i

@@ -4,8 +4,8 @@ use mathlib.Core.List.{List, _++_}
 use lib.ListN.{take, drop}
 use Rattle.tree.specs.Shape.{Shape, processes, lastPlace}
 
--- the words of a block
-unfoldable pub blockWords : ℕ
+-- the words of a block: puts, takes, super, end left, end right, size
+abbrev pub blockWords : ℕ
 blockWords = 6
 
 -- the words of node v's part, places 0 to the last (there is no node 0)

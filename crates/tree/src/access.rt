@@ -1,5 +1,8 @@
 // Blocks by node number. Node v's part is the table's words from starts[v] to starts[v + 1].
+use crate::BLOCK_WORDS;
 use crate::Block;
+use crate::PUTS_WORD;
+use crate::TAKES_WORD;
 use crate::blocks;
 use crate::heads::wide;
 use crate::table;
@@ -7,6 +10,7 @@ ghost use mathlib.Core.Path.{_≡_};
 ghost use Prim.Native.Nat.{_<_};
 ghost use lib.ListN.{getD};
 ghost use Rattle.base.specs.Choice.{if_then_else_};
+ghost use Rattle.tree.specs.Layout.{blockWords};
 ghost use Rattle.tree.specs.Blocks.{wordIn, absent as absentOf};
 ghost use Rattle.tree.specs.Memory.{withSuper};
 ghost use Rattle.tree.specs.Contracts.Access.{HasPart, HasPlace, nodePart, nodeBlock, withNodeBlock};
@@ -31,12 +35,12 @@ pub fn block_at(words: &[u32], starts: &[usize; 17], v: u32, i: u32) -> Block
 
 // One word of node v's block at any place. One past the last it is 0: there a child is looked at whose places are all filled.
 fn word_at(words: &[u32], starts: &[usize; 17], v: u32, i: u32, word: usize) -> u32
-    requires { ⌜ HasPart (now starts) (now words) v × (word < 6) ⌝ }
+    requires { ⌜ HasPart (now starts) (now words) v × (word < blockWords) ⌝ }
     ensures { λ r. ⌜ r ≡ wordIn (nodePart (now (starts .entry)) (now (words .entry)) v) i word ⌝ }
 {
     let from = start_of(starts, v);
     let to = start_of(starts, v + 1);
-    blocks::word_or_zero(&words[from..to], 6 * wide(i) + word)
+    blocks::word_or_zero(&words[from..to], BLOCK_WORDS * wide(i) + word)
 }
 
 // Whether node v's block at place i is absent.
@@ -44,7 +48,7 @@ pub fn absent_at(words: &[u32], starts: &[usize; 17], v: u32, i: u32) -> bool
     requires { ⌜ HasPart (now starts) (now words) v ⌝ }
     ensures { λ r. ⌜ r ≡ absentOf (nodeBlock (now (starts .entry)) (now (words .entry)) v i) ⌝ }
 {
-    word_at(words, starts, v, i, 0) == 0 && word_at(words, starts, v, i, 1) == 0
+    word_at(words, starts, v, i, PUTS_WORD) == 0 && word_at(words, starts, v, i, TAKES_WORD) == 0
 }
 
 // Block b at place i of node v.

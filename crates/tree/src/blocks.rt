@@ -1,26 +1,34 @@
 // Blocks in a node's part alone: read, tested and written.
+use crate::BLOCK_WORDS;
 use crate::Block;
 use crate::Kind;
+use crate::LEFT_WORD;
+use crate::PUTS_WORD;
+use crate::RIGHT_WORD;
+use crate::SIZE_WORD;
+use crate::SUPER_WORD;
+use crate::TAKES_WORD;
 ghost use mathlib.Core.Path.{_≡_};
 ghost use Prim.Native.Nat.{_+_, _*_, _≤_};
 ghost use lib.ListN.{length, getD};
+ghost use Rattle.tree.specs.Layout.{blockWords};
 ghost use Rattle.tree.specs.Blocks.{blockIn, withBlock, absent as absentOf};
 ghost use Rattle.tree.specs.Memory.{withSuper};
 ghost use Rattle.tree.specs.Order.{total as totalOf};
 
 // The block at place i, whose six words the part has.
 pub fn block_in(part: &[u32], i: usize) -> Block
-    requires { ⌜ 6 * i + 6 ≤ length (now part) ⌝ }
+    requires { ⌜ blockWords * i + blockWords ≤ length (now part) ⌝ }
     ensures { λ r. ⌜ r ≡ blockIn (now (part .entry)) i ⌝ }
 {
-    let at = 6 * i;
+    let at = BLOCK_WORDS * i;
     Block {
-        puts: part[at],
-        takes: part[at + 1],
-        superblock: part[at + 2],
-        left: part[at + 3],
-        right: part[at + 4],
-        size: part[at + 5],
+        puts: part[at + PUTS_WORD],
+        takes: part[at + TAKES_WORD],
+        superblock: part[at + SUPER_WORD],
+        left: part[at + LEFT_WORD],
+        right: part[at + RIGHT_WORD],
+        size: part[at + SIZE_WORD],
     }
 }
 
@@ -53,24 +61,24 @@ pub fn total(kind: Kind, b: Block) -> u32
 
 // Block b at place i, whose six words the part has. No other word changes.
 pub fn write_block(part: &mut [u32], i: usize, b: Block)
-    requires { ⌜ 6 * i + 6 ≤ length (now part) ⌝ }
+    requires { ⌜ blockWords * i + blockWords ≤ length (now part) ⌝ }
     ensures { λ _. ⌜ now (part .exit) ≡ withBlock (now (part .entry)) i b ⌝ }
 {
-    let at = 6 * i;
-    part[at] = b.puts;
-    part[at + 1] = b.takes;
-    part[at + 2] = b.superblock;
-    part[at + 3] = b.left;
-    part[at + 4] = b.right;
-    part[at + 5] = b.size;
+    let at = BLOCK_WORDS * i;
+    part[at + PUTS_WORD] = b.puts;
+    part[at + TAKES_WORD] = b.takes;
+    part[at + SUPER_WORD] = b.superblock;
+    part[at + LEFT_WORD] = b.left;
+    part[at + RIGHT_WORD] = b.right;
+    part[at + SIZE_WORD] = b.size;
 }
 
 // The superblock of the block at place i set to x, if it is 0. Only that word is touched.
 pub fn set_super(part: &mut [u32], i: usize, x: u32)
-    requires { ⌜ 6 * i + 6 ≤ length (now part) ⌝ }
+    requires { ⌜ blockWords * i + blockWords ≤ length (now part) ⌝ }
     ensures { λ _. ⌜ now (part .exit) ≡ withBlock (now (part .entry)) i (withSuper (blockIn (now (part .entry)) i) x) ⌝ }
 {
-    let at = 6 * i + 2;
+    let at = BLOCK_WORDS * i + SUPER_WORD;
     if part[at] == 0 {
         part[at] = x;
     }

@@ -1,10 +1,11 @@
 // Where the nodes' parts stand in the work table, for a tree of height h ≤ 3 (at most 8 processes) with at most l ≤ 500 operations of one process; and the table cleared.
+use crate::BLOCK_WORDS;
 ghost use mathlib.Core.Path.{_≡_};
 ghost use mathlib.Core.List.{_++_};
 ghost use Prim.Native.Nat.{ℕ, _+_, _*_, _^_, _≤_, _<_};
 ghost use lib.ListN.{length, drop, replicate, getD};
 ghost use Rattle.tree.specs.Shape.{Shape, heightFor, processes, heightIn, lastPlace};
-ghost use Rattle.tree.specs.Layout.{partWords, partStart, wordsNeeded};
+ghost use Rattle.tree.specs.Layout.{blockWords, partWords, partStart, wordsNeeded};
 
 // The height of the tree for p processes.
 pub fn height_for(p: u32) -> usize
@@ -61,21 +62,21 @@ pub fn last_place(h: usize, l: usize, v: usize) -> usize
 // The words of node v's part. There is no node 0, so it has none.
 pub fn part_words(h: usize, l: usize, v: usize) -> usize
     requires { ⌜ (h ≤ 3) × (l ≤ 500) ⌝ }
-    ensures { λ r. ⌜ (r ≡ partWords (record { height = h; most = l }) v) × (r ≤ 24006) ⌝ }
+    ensures { λ r. ⌜ (r ≡ partWords (record { height = h; most = l }) v) × (r ≤ blockWords * 4001) ⌝ }
 {
     if v == 0 {
         return 0;
     }
-    6 * (last_place(h, l, v) + 1)
+    BLOCK_WORDS * (last_place(h, l, v) + 1)
 }
 
 // The words that the table must have.
 pub fn words_needed(h: usize, l: usize) -> usize
     requires { ⌜ (h ≤ 3) × (l ≤ 500) ⌝ }
-    ensures { λ r. ⌜ (r ≡ wordsNeeded (record { height = h; most = l })) × (r ≤ 96090) ⌝ }
+    ensures { λ r. ⌜ (r ≡ wordsNeeded (record { height = h; most = l })) × (r ≤ blockWords * 16015) ⌝ }
 {
     let p = power(h);
-    6 * ((h + 1) * p * l + (2 * p - 1))
+    BLOCK_WORDS * ((h + 1) * p * l + (2 * p - 1))
 }
 
 // The first word of each node's part: node v's part is from starts[v] to starts[v + 1]. Past the last node each entry is the words needed, so that nothing is left for a

@@ -7,6 +7,21 @@ pub mod heads;
 pub mod layout;
 pub mod table;
 
+// The words of a block in the work table, and the place of each among them.
+pub const BLOCK_WORDS: usize = 6;
+
+pub const PUTS_WORD: usize = 0;
+
+pub const TAKES_WORD: usize = 1;
+
+pub const SUPER_WORD: usize = 2;
+
+pub const LEFT_WORD: usize = 3;
+
+pub const RIGHT_WORD: usize = 4;
+
+pub const SIZE_WORD: usize = 5;
+
 // A block of a node: six words of the work table. `superblock` is the paper's super. `left` and `right` are the ends in the children; in a leaf, `left` holds the
 // put's value.
 pub struct Block {

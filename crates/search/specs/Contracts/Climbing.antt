@@ -9,6 +9,7 @@ use Rattle.tree.specs.declared.Kind.{Kind}
 use Rattle.tree.specs.Order.{total}
 use Rattle.tree.specs.Contracts.Access.{HasPart, HasPlace, nodePart, nodeBlock}
 use Rattle.search.specs.Contracts.Searched.{Reaches, First}
+use Rattle.tree.specs.Blocks.{leftWord}
 
 -- the ends of v's parent towards v reach `place` below the parent's head
 pub record Ascends (starts heads table : List ℕ) (v place : ℕ) : Type 0 where
@@ -16,11 +17,11 @@ pub record Ascends (starts heads table : List ℕ) (v place : ℕ) : Type 0 wher
   pub above : HasPart starts table (v / 2)
   pub headed : v / 2 < length heads
   pub head : 1 ≤ getD heads (v / 2) 1
-  pub ends : Reaches (nodePart starts table (v / 2)) (3 + v % 2) (getD heads (v / 2) 1 - 1) place
+  pub ends : Reaches (nodePart starts table (v / 2)) (leftWord + v % 2) (getD heads (v / 2) 1 - 1) place
 
 -- block r of v's parent, below the head there, is the first whose end towards v reaches `place`
 abbrev pub FirstAbove : List ℕ → List ℕ → List ℕ → ℕ → ℕ → ℕ → Type 0
-FirstAbove starts heads table v place r = First (nodePart starts table (v / 2)) (3 + v % 2) (getD heads (v / 2) 1 - 1) place r
+FirstAbove starts heads table v place r = First (nodePart starts table (v / 2)) (leftWord + v % 2) (getD heads (v / 2) 1 - 1) place r
 
 -- v's sibling has the last place whose operations come before v's in block b of the parent: its end in the block before b if v is on the left, and in b if v is on the right
 pub record Beside (starts table : List ℕ) (v b : ℕ) : Type 0 where

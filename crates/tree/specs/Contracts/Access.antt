@@ -5,7 +5,7 @@ use mathlib.Core.List.{List, _++_}
 use lib.ListN.{length, getD, take, drop}
 use Rattle.tree.specs.declared.Block.{Block}
 use Rattle.tree.specs.Shape.{Shape, processes}
-use Rattle.tree.specs.Layout.{partStart}
+use Rattle.tree.specs.Layout.{blockWords, partStart}
 use Rattle.tree.specs.Blocks.{blockIn, withBlock}
 
 -- node v's part begins and ends where it does in a tree of shape s
@@ -26,7 +26,7 @@ pub record HasPart (starts table : List ℕ) (v : ℕ) : Type 0 where
 
 pub record HasPlace (starts table : List ℕ) (v i : ℕ) : Type 0 where
   pub part : HasPart starts table v
-  pub place : 6 * i + 6 ≤ getD starts (v + 1) 0 - getD starts v 0
+  pub place : blockWords * i + blockWords ≤ getD starts (v + 1) 0 - getD starts v 0
 
 -- node v's part by the starts, and its block at place i
 unfoldable pub nodePart : List ℕ → List ℕ → ℕ → List ℕ

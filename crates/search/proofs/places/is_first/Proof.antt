@@ -2,7 +2,6 @@
 use native.Mathlib.Omega.{arith}
 use mathlib.Core.Bool.{false≢true}
 use borrow.Author.Tests.{ltb-true, lt-ltb}
-use Rattle.tree.specs.Layout.{blockWords}
 use Rattle.tree.specs.Blocks.{wordIn}
 use borrow.Author.Needs.{needs}
 use Rattle.search.proofs.places.is_first.Statement.{statement}
@@ -27,7 +26,7 @@ shared-slice-read-if3 : tie.Need-shared-slice-read-if3
 shared-slice-read-if3 c = search needs
 
 returns-3 : tie.Need-returns-3
-unfolding wordIn blockWords
+unfolding wordIn
 returns-3 c = (λ e. absurd (false≢true e), λ f. absurd (omega (arith, f .upto)))
 
 sub-result : tie.Need-sub-result
@@ -46,7 +45,7 @@ shared-slice-read-result : tie.Need-shared-slice-read-result
 shared-slice-read-result c = search needs
 
 returns-4 : tie.Need-returns-4
-unfolding wordIn blockWords
+unfolding wordIn
 returns-4 c = (λ e. record { some = omega arith; most = omega arith; past = ltb-true _ _ e; upto = c .before .if3 .left }, λ f. lt-ltb _ _ (f .past))
 
 pub is-first-spec : {M : Type 1} → statement M

@@ -1,5 +1,4 @@
 -- `access::word_at` meets its contract. Assumes nothing.
-use Rattle.tree.specs.Layout.{blockWords}
 use Rattle.tree.specs.Blocks.{wordIn}
 use Rattle.tree.specs.Contracts.Access.{nodePart}
 use borrow.Author.Needs.{needs}
@@ -40,7 +39,7 @@ word-or-zero-requires : tie.Need-word-or-zero-requires
 word-or-zero-requires c κs = search needs
 
 returns : tie.Need-returns
-unfolding wordIn blockWords nodePart
+unfolding wordIn nodePart
 returns c = rw (c .word-or-zero .ensures, c .before .wide .ensures, c .before .before .before .start-of2 .ensures, c .before .before .before .before .start-of .ensures)
 
 pub word-at-spec : {M : Type 1} → statement M

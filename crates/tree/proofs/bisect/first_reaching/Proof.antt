@@ -3,7 +3,6 @@
 use Prim.Native.Nat.{ℕ, _-_, _≤_, _<_}
 use native.Mathlib.Omega.{arith}
 use native.Mathlib.Nat.{lt-of-le-of-lt}
-use Rattle.tree.specs.Layout.{blockWords}
 use Rattle.tree.specs.Blocks.{wordIn}
 use Rattle.tree.proofs.bisect.first_reaching.Statement.{statement}
 use Rattle.tree.proofs.bisect.first_reaching.Tie as tie
@@ -40,7 +39,7 @@ loop-less : tie.Need-loop-less Inv-loop μ-loop
 loop-less c = omega arith
 
 loop-again : tie.Need-loop-again Inv-loop μ-loop
-unfolding wordIn blockWords
+unfolding wordIn
 loop-again c = (
   omega arith,
   omega arith,
@@ -52,7 +51,7 @@ loop-less-2 : tie.Need-loop-less-2 Inv-loop μ-loop
 loop-less-2 c = omega arith
 
 loop-again-2 : tie.Need-loop-again-2 Inv-loop μ-loop
-unfolding wordIn blockWords
+unfolding wordIn
 loop-again-2 c = (omega arith, omega arith, c .if1 .left, c .before .before .before .loop .inv .3)
 
 returns : tie.Need-returns Inv-loop μ-loop

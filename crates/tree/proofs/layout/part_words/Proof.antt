@@ -2,7 +2,7 @@
 use native.Mathlib.Omega.{arith}
 use borrow.Author.Needs.{needs}
 use Rattle.tree.specs.Shape.{Shape}
-use Rattle.tree.specs.Layout.{blockWords, partWords}
+use Rattle.tree.specs.Layout.{partWords}
 use Rattle.tree.proofs.Sizes.{words-of}
 use Rattle.tree.proofs.layout.part_words.Statement.{statement}
 use Rattle.tree.proofs.layout.part_words.Tie as tie
@@ -21,7 +21,6 @@ mul-result : tie.Need-mul-result
 mul-result c = search needs
 
 returns-2 : tie.Need-returns-2
-unfolding blockWords
 returns-2 c =
     let s : Shape = record { height = c .before .before .args .h; most = c .before .before .args .l } in
     (omega (arith, words-of s (c .before .before .args .v) (omega arith), c .last-place .ensures .0), omega arith)

@@ -7,7 +7,7 @@ use lib.ListN.{length, getD, length-set}
 use lib.Seq.{getD-set-same}
 use borrow.Author.Needs.{needs}
 use Rattle.tree.specs.Shape.{processes}
-use Rattle.tree.specs.Layout.{partStart}
+use Rattle.tree.specs.Layout.{partStart, blockWords}
 use Rattle.tree.proofs.LayoutSums.{start-more, starts-blank, start-rest}
 use Rattle.tree.proofs.layout.starts.Statement.{statement}
 use Rattle.tree.proofs.layout.starts.Tie as tie
@@ -16,7 +16,7 @@ abbrev Inv-loop : tie.InvT-loop
 Inv-loop h l end needed s₀ v₀ s v =
     (v ≤ end)
     × (length s ≡ 17)
-    × (getD s v 0 ≤ 24006 * v)
+    × (getD s v 0 ≤ blockWords * 4001 * v)
     × ((u : ℕ) → u ≤ v → getD s u 0 ≡ partStart (record { height = h; most = l }) u)
     × ((u : ℕ) → v < u → u < 17 → getD s u 0 ≡ needed)
 

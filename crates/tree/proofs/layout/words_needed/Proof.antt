@@ -2,7 +2,7 @@
 use native.Mathlib.Omega.{arith}
 use borrow.Author.Needs.{needs}
 use Rattle.tree.specs.Shape.{processes}
-use Rattle.tree.specs.Layout.{blockWords, wordsNeeded}
+use Rattle.tree.specs.Layout.{wordsNeeded}
 use Rattle.tree.proofs.LayoutSums.{places-most}
 use Rattle.tree.proofs.layout.words_needed.Statement.{statement}
 use Rattle.tree.proofs.layout.words_needed.Tie as tie
@@ -32,7 +32,7 @@ mul-result-4 : tie.Need-mul-result-4
 mul-result-4 c = omega (arith, places-most _ _ _ (c .before .pre .0) (c .power .ensures .2) (c .before .pre .1))
 
 returns : tie.Need-returns
-unfolding wordsNeeded blockWords processes
+unfolding wordsNeeded processes
 returns c = (rw (← c .power .ensures .0), omega (arith, places-most _ _ _ (c .before .pre .0) (c .power .ensures .2) (c .before .pre .1)))
 
 pub words-needed-spec : {M : Type 1} → statement M
