@@ -26,9 +26,9 @@ use Rattle.steps.proofs.Invariant.{holding}
 use Rattle.tree.proofs.Places.{processes-most}
 use Rattle.calls.specs.Answer.{takeReply, replyOf, answerOf}
 use Rattle.search.specs.declared.Standing.{Standing}
-use Rattle.search.specs.Contracts.Stands.{StandsAs, InBlock, OfKind, StandsAt}
+use Rattle.search.specs.Contracts.Stands.{Stands, RootBlockIs, OfKind, StandsAt, StandsOf}
 use Rattle.answer.specs.Contracts.Playing.{machineOf, Plays}
-use Rattle.answer.specs.Contracts.Answering.{recordOf, TakenAs}
+use Rattle.answer.specs.Contracts.Answering.{recordOf, TakeAt}
 use Rattle.answer.proofs.PlaysLaws.{steps-small, plays-tree}
 
 -- the height of the tree for so many processes
@@ -54,8 +54,8 @@ module _ {s : Shape} {ps : List Process} {starts heads table : List ℕ} {k : �
   unfolding processes
   height-is = rw (← width) (height-by (s .height) (plays .inner) (plays .tall))
 
-  settles : SoundTree s starts heads table
-  settles = plays-tree s ps starts heads table k q plays
+  tree : SoundTree s starts heads table
+  tree = plays-tree s ps starts heads table k q plays
 
   module _ {o : Operation} (status : q .status ≡ Busy o Q) where
     -- what the invariant says at Q: the root's blocks below its head hold the operation
@@ -65,34 +65,37 @@ module _ {s : Shape} {ps : List Process} {starts heads table : List ℕ} {k : �
         (subst (λ (x : Process). Way s m (holding (machineOf table heads ps)) k (x .begun) (stageOf (x .status))) (plays .here) (plays .keeps .process k (plays .low) .way))
 
     -- so it can be found there
-    pub stands-as : StandsAs s k starts heads table (p + k) (q .begun)
+    pub stands-as : Stands starts heads table (p + k) (q .begun) s k
     unfolding leafOf
-    stands-as = record { settles = settles; process = plays .low; own = rw width; first = plays .some o Q status; rooted = rooted }
+    stands-as = record { tree = tree; process = plays .low; own = rw width; first = plays .some o Q status; rooted = rooted }
 
     -- the record that is made is its answer
-    answer-is : {b : ℕ} {r : Reply} → InBlock s table k (q .begun) b → r ≡ replyOf s table (record { process = k; serial = q .begun }) o
+    answer-is : {b : ℕ} {r : Reply} → RootBlockIs s table k (q .begun) b → r ≡ replyOf s table (record { process = k; serial = q .begun }) o
         → recordOf k q r b ≡ answerOf s (machineOf table heads ps) k o
     unfolding answerOf
     answer-is stands f = rw (plays .here, f, stands .own)
 
-    pub put-answer : {x b : ℕ} → o ≡ Put x → InBlock s table k (q .begun) b → recordOf k q Done b ≡ answerOf s (machineOf table heads ps) k o
+    pub put-answer : {x b : ℕ} → o ≡ Put x → RootBlockIs s table k (q .begun) b → recordOf k q Done b ≡ answerOf s (machineOf table heads ps) k o
     unfolding replyOf
     put-answer e stands = answer-is stands (rw e)
 
     module _ (e : o ≡ Take) where
       -- the leaf of a take has its block
-      pub of-takes : OfKind s table Takes k (q .begun)
+      of-takes : OfKind s table Takes k (q .begun)
       unfolding total block
       of-takes =
-          let n = root-sound s m (settles .sound) in
-          let held = reached-present s m (settles .sound) (plays .inner) k (plays .low) (headOf m root - 1) (below-head n _ (omega (arith, n .head))) (q .begun) (plays .some o Q status) rooted in
+          let n = root-sound s m (tree .sound) in
+          let held = reached-present s m (tree .sound) (plays .inner) k (plays .low) (headOf m root - 1) (below-head n _ (omega (arith, n .head))) (q .begun) (plays .some o Q status) rooted in
           omega (arith, plays .own Take Q (rw e at status) held .1)
 
+      pub take-stands : StandsOf Takes starts heads table (p + k) (q .begun) s k
+      take-stands = (stands-as, of-takes)
+
       module _ {at : Standing} (stands : StandsAt s table Takes k (q .begun) at) where
-        pub taken-as : {height : ℕ} → height ≡ heightFor p → TakenAs s heads starts table height (at .block) (at .rank)
+        pub taken-as : {height : ℕ} → height ≡ heightFor p → TakeAt starts table height (at .block) (at .rank) s heads
         taken-as tall =
             record {
-              settles = settles;
+              tree = tree;
               tall = tall ∙ height-is;
               some = stands .block .first;
               most = stands .block .last;

@@ -22,19 +22,19 @@ use Rattle.tree.proofs.LastRoot.{node-root, root-sound, root-written}
 use Rattle.tree.specs.Contracts.Access.{HasPlace, nodeBlock}
 use Rattle.calls.specs.Answer.{margin, putNumber, valueOf, takeReply}
 use Rattle.calls.proofs.RootQueue.{size-within}
-use Rattle.search.specs.Contracts.Numbered.{NumberedAs, ValueAt}
+use Rattle.search.specs.Contracts.Numbered.{Numbered, ValueAt}
 use Rattle.tree.proofs.Places.{places-most, node-reads, written-place}
-use Rattle.answer.specs.Contracts.Answering.{TakenAs}
+use Rattle.answer.specs.Contracts.Answering.{TakeAt}
 use Rattle.answer.proofs.Margins.{margin-below, by-below, by-rest}
 
-module _ {s : Shape} {heads starts table : List ℕ} {height b i : ℕ} (h : TakenAs s heads starts table height b i) where
+module _ {s : Shape} {heads starts table : List ℕ} {height b i : ℕ} (h : TakeAt starts table height b i s heads) where
   abbrev m : Memory
   m = record { table = table; heads = heads }
 
   root-place : (j : ℕ) → j ≤ lastRoot s table → HasPlace starts table 1 j
   unfolding root
   root-place j l =
-      written-place (h .settles) root j (node-root s) (root-written s m (h .settles .sound) j l)
+      written-place (h .tree) root j (node-root s) (root-written s m (h .tree .sound) j l)
 
   pub place-before : HasPlace starts table 1 (b - 1)
   place-before = root-place (b - 1) (omega (arith, h .most))
@@ -44,7 +44,7 @@ module _ {s : Shape} {heads starts table : List ℕ} {height b i : ℕ} (h : Tak
 
   root-reads : (j : ℕ) → nodeBlock starts table 1 j ≡ blockAt s table root j
   unfolding root block
-  root-reads j = node-reads (h .settles) root j (node-root s)
+  root-reads j = node-reads (h .tree) root j (node-root s)
 
   -- x and y are the block before and the block itself
   module _ {x y : Block} (ex : x ≡ nodeBlock starts table 1 (b - 1)) (ey : y ≡ nodeBlock starts table 1 b) where
@@ -58,11 +58,11 @@ module _ {s : Shape} {heads starts table : List ℕ} {height b i : ℕ} (h : Tak
     unfolding total block
     puts-rise =
         rw (before-is, here-is)
-        (totals-rise (root-sound s m (h .settles .sound)) Puts (b - 1) b (omega arith) (root-written s m (h .settles .sound) b (h .most)))
+        (totals-rise (root-sound s m (h .tree .sound)) Puts (b - 1) b (omega arith) (root-written s m (h .tree .sound) b (h .most)))
 
     size-low : x .size ≤ x .puts
     unfolding block
-    size-low = rw before-is (size-within s m (h .settles .sound) (h .settles .inner) (b - 1) (omega (arith, h .most)))
+    size-low = rw before-is (size-within s m (h .tree .sound) (h .tree .inner) (b - 1) (omega (arith, h .most)))
 
     pub number-low : x .size ≤ i + x .puts
     number-low = omega (arith, size-low)
@@ -70,7 +70,7 @@ module _ {s : Shape} {heads starts table : List ℕ} {height b i : ℕ} (h : Tak
     puts-small : y .puts ≤ 4000
     unfolding block
     puts-small =
-        rw here-is (omega (arith, root-sound s m (h .settles .sound) .within b, places-most s (h .settles .tall) (h .settles .few) root))
+        rw here-is (omega (arith, root-sound s m (h .tree .sound) .within b, places-most s (h .tree .tall) (h .tree .few) root))
 
     -- z is the margin, and the code tests its bits
     module _ {z : ℤ} (ez : z ≡ pos (x .size) +ℤ pos (y .puts - x .puts) -ℤ pos i) (fits : SFits w64 z) where
@@ -93,10 +93,10 @@ module _ {s : Shape} {heads starts table : List ℕ} {height b i : ℕ} (h : Tak
         pub number-small : i + x .puts ≤ 8000
         number-small = omega (arith, enough, puts-rise, size-low, puts-small)
 
-        pub take-numbered : NumberedAs s heads starts table height b (i + x .puts - x .size)
+        pub take-numbered : Numbered starts table height b (i + x .puts - x .size) s heads
         take-numbered =
             record {
-              settles = h .settles;
+              tree = h .tree;
               tall = h .tall;
               some = h .some;
               most = h .most;

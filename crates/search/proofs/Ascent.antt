@@ -40,7 +40,7 @@ module _ (s : Shape) (k i j : ℕ) (starts heads table : List ℕ) (place : ℕ)
   m = record { table = table; heads = heads }
 
   abbrev sets : SoundTree s starts heads table
-  sets = h .stands .settles
+  sets = h .stands .tree
 
   abbrev sound : Sound s m
   sound = sets .sound

@@ -13,9 +13,9 @@ use Rattle.tree.specs.Contracts.Invariant.{count}
 use Rattle.tree.proofs.Ancestors.{ancestor, ancestor-node, root-height, not-root}
 use Rattle.tree.specs.Contracts.Access.{HasPlace, nodeBlock}
 use Rattle.tree.proofs.Places.{places-most}
-use Rattle.search.specs.Contracts.Stands.{OfKind, InBlock, StandsAt}
+use Rattle.search.specs.Contracts.Stands.{OfKind, RootBlockIs, StandsAt}
 use Rattle.search.specs.Contracts.Climbing.{Ascends, FirstAbove, Beside, besideOf}
-use Rattle.search.proofs.Holding.{CountsAs, HoldsAs, Reached, Counted, OfEach}
+use Rattle.search.proofs.Holding.{CountsAs, HoldsAs, Reached, Counted}
 use Rattle.search.proofs.Ascent.{Above, ascends, above}
 use Rattle.search.proofs.RootStands.{root-place, root-block, root-low, root-stands}
 
@@ -40,7 +40,7 @@ module _ {s : Shape} {k i : ℕ} {starts heads table : List ℕ} {v place : ℕ}
     unfolding root
     top-place = root-place s k i starts heads table place at-top
 
-    pub top-block : InBlock s table k i place
+    pub top-block : RootBlockIs s table k i place
     top-block = root-block s k i starts heads table place at-top
 
   -- below it
@@ -67,7 +67,7 @@ module _ {s : Shape} {k i : ℕ} {starts heads table : List ℕ} {κ : Kind} {v 
   unfolding block
   number-small =
       let h = c .at .holds in
-      let sets = h .stands .settles in
+      let sets = h .stands .tree in
       let node = ancestor s k (c .at .level) in
       omega (
         arith,
@@ -92,10 +92,3 @@ module _ {s : Shape} {k i : ℕ} {starts heads table : List ℕ} {κ : Kind} {v 
   pub climbs-counted : (v ≡ 1 → ⊥) → {b : ℕ} → FirstAbove starts heads table v place b → Counted s k i starts heads table κ (v / 2) b (number + besideOf starts table κ v b)
   unfolding climbs
   climbs-counted ne f = record { at = climbs (c .at) ne f; counts = node-above (c .at) ne f .counts (c .counts) }
-
-module _ {starts heads table : List ℕ} {leaf serial : ℕ} {P : Shape → ℕ → Type 0} (c : OfEach starts heads table leaf serial P) where
-  pub of-one : P (c .stands .shape) (c .stands .process)
-  of-one = c .each (c .stands .shape) (c .stands .process) (c .stands .stands)
-
-  pub of-next : {Q : Shape → ℕ → Type 0} → ((s : Shape) (k : ℕ) → P s k → Q s k) → OfEach starts heads table leaf serial Q
-  of-next f = record { stands = c .stands; each = λ s k h. f s k (c .each s k h) }

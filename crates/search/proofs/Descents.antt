@@ -26,7 +26,7 @@ use Rattle.tree.specs.Contracts.Access.{HasPart, nodePart, nodeBlock}
 use Rattle.tree.specs.Contracts.SoundTree.{SoundTree}
 use Rattle.search.specs.declared.find.Descent.{Descent}
 use Rattle.search.specs.Contracts.Searched.{Reaches, First}
-use Rattle.search.specs.Contracts.Descending.{FindsAs, FoundIn, Descends, descentOf}
+use Rattle.search.specs.Contracts.Descending.{Finds, FoundIn, Descends, descentOf}
 use Rattle.tree.proofs.Places.{processes-most, node-reads, node-small, written-place}
 use Rattle.search.proofs.ChildReads.{end-written, end-place, end-total}
 use Rattle.search.proofs.NumbersUp.{besideTotal, child-rises, ends-total, sum-before, sum-here}
@@ -54,12 +54,12 @@ right-index n t l l' r e le lt =
     shifted : (n l r d : ℕ) → l + d + r < n → n - 1 - (l + r) - d ≡ n - (l + d) - 1 - r
     shifted n l r d lt = omega arith
 
-module _ (s : Shape) (heads starts table : List ℕ) (h v a n : ℕ) (f : FindsAs s heads starts table (suc h) v (suc a) n) where
+module _ (s : Shape) (heads starts table : List ℕ) (h v a n : ℕ) (f : Finds starts table (suc h) v (suc a) n s heads) where
   abbrev m : Memory
   m = record { table = table; heads = heads }
 
   abbrev sets : SoundTree s starts heads table
-  sets = f .settles
+  sets = f .tree
 
   abbrev sound : Sound s m
   sound = sets .sound
@@ -164,7 +164,7 @@ module _ (s : Shape) (heads starts table : List ℕ) (h v a n : ℕ) (f : FindsA
         (omega (arith, l .on .past))
         (rw (l .child, l .end) (l .on .upto))
 
-    pub lower-finds : (c : ℕ) → First (nodePart starts table u) 0 last number c → FindsAs s heads starts table h u c number
+    pub lower-finds : (c : ℕ) → First (nodePart starts table u) 0 last number c → Finds starts table h u c number s heads
     lower-finds c = search-finds s heads starts table sets h u level last number c
 
     -- the subblock found has the put

@@ -10,7 +10,7 @@ use Rattle.tree.specs.Order.{total, opened}
 use Rattle.tree.specs.Standing.{times, rankIn}
 use Rattle.tree.proofs.Ancestors.{ancestor}
 use Rattle.tree.proofs.Reach.{reach}
-use Rattle.search.specs.Contracts.Stands.{StandsAs, Stands, OfKind}
+use Rattle.search.specs.Contracts.Stands.{Stands, OfKind}
 
 -- Of the operations of kind κ in a node's blocks from place 1 on, `number` says how many stand up to operation i of process k, which is in block `place` of the node of height
 -- j above k's leaf. If the operation is of another kind, the number is within the block's all the same.
@@ -23,7 +23,7 @@ pub record CountsAs (s : Shape) (k i j : ℕ) (table : List ℕ) (κ : Kind) (pl
 
 -- in the node of height j above the leaf of process k, block `place` holds operation i of k
 pub record HoldsAs (s : Shape) (k i j : ℕ) (starts heads table : List ℕ) (place : ℕ) : Type 0 where
-  pub stands : StandsAs s k starts heads table (leafOf s k) i
+  pub stands : Stands starts heads table (leafOf s k) i s k
   pub tall : j ≤ s .height
   pub some : 1 ≤ place
   pub below : place < headOf (record { table = table; heads = heads }) (ancestor s k j)
@@ -40,8 +40,3 @@ pub record Reached (s : Shape) (k i : ℕ) (starts heads table : List ℕ) (v pl
 pub record Counted (s : Shape) (k i : ℕ) (starts heads table : List ℕ) (κ : Kind) (v place number : ℕ) : Type 0 where
   pub at : Reached s k i starts heads table v place
   pub counts : CountsAs s k i (at .level) table κ place number
-
--- P holds of each tree and process that the leaf and the operation may be of, of which there is one
-pub record OfEach (starts heads table : List ℕ) (leaf serial : ℕ) (P : Shape → ℕ → Type 0) : Type 0 where
-  pub stands : Stands starts heads table leaf serial
-  pub each : (s : Shape) (k : ℕ) → StandsAs s k starts heads table leaf serial → P s k

@@ -19,16 +19,16 @@ use Rattle.tree.proofs.Climb.{climb-leaf}
 use Rattle.tree.proofs.Rank.{rank-leaf, times-leaf}
 use Rattle.tree.specs.Contracts.Access.{HasPlace, nodeBlock}
 use Rattle.tree.specs.Contracts.SoundTree.{SoundTree}
-use Rattle.search.specs.Contracts.Stands.{StandsAs}
+use Rattle.search.specs.Contracts.Stands.{Stands}
 use Rattle.search.proofs.Holding.{CountsAs, Reached, Counted}
 use Rattle.tree.proofs.Places.{node-reads, written-place}
 
-module _ (s : Shape) (k : ℕ) (starts heads table : List ℕ) (leaf i : ℕ) (h : StandsAs s k starts heads table leaf i) where
+module _ (s : Shape) (k : ℕ) (starts heads table : List ℕ) (leaf i : ℕ) (h : Stands starts heads table leaf i s k) where
   abbrev m : Memory
   m = record { table = table; heads = heads }
 
   abbrev sets : SoundTree s starts heads table
-  sets = h .settles
+  sets = h .tree
 
   abbrev kp : k < processes s
   kp = h .process
@@ -65,7 +65,7 @@ module _ (s : Shape) (k : ℕ) (starts heads table : List ℕ) (leaf i : ℕ) (h
         level = 0;
         node = h .own;
         holds = record {
-          stands = record { settles = sets; process = kp; own = refl; first = h .first; rooted = h .rooted };
+          stands = record { tree = sets; process = kp; own = refl; first = h .first; rooted = h .rooted };
           tall = omega arith;
           some = h .first;
           below = below;

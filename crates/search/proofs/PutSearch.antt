@@ -15,7 +15,7 @@ use Rattle.tree.proofs.Levels.{Level, level-inner, level-leaf}
 use Rattle.tree.specs.Contracts.Access.{HasPart, nodePart}
 use Rattle.tree.specs.Contracts.SoundTree.{SoundTree}
 use Rattle.search.specs.Contracts.Searched.{Reaches, First}
-use Rattle.search.specs.Contracts.Descending.{FindsAs}
+use Rattle.search.specs.Contracts.Descending.{Finds}
 use Rattle.search.proofs.Words.{part-fits, puts-word}
 use Rattle.tree.proofs.Places.{node-part, written-place}
 
@@ -55,11 +55,11 @@ module _ (s : Shape) (heads starts table : List ℕ) (sets : SoundTree s starts 
   )
 
   -- and the place found has it
-  pub search-finds : (last n b : ℕ) → First (nodePart starts table v) 0 last n b → FindsAs s heads starts table h v b n
+  pub search-finds : (last n b : ℕ) → First (nodePart starts table v) 0 last n b → Finds starts table h v b n s heads
   unfolding total block
   search-finds last n b f =
       record {
-        settles = sets;
+        tree = sets;
         level = level;
         past = rw (puts-word sets v (b - 1) node) at (f .past);
         upto = rw (puts-word sets v b node) at (f .upto);

@@ -17,7 +17,7 @@ use Rattle.tree.proofs.Reached.{ancestor-top}
 use Rattle.tree.proofs.Climb.{climb-root}
 use Rattle.tree.specs.Contracts.Access.{HasPlace, nodeBlock}
 use Rattle.tree.specs.Contracts.SoundTree.{SoundTree}
-use Rattle.search.specs.Contracts.Stands.{OfKind, InBlock, StandsAt}
+use Rattle.search.specs.Contracts.Stands.{OfKind, RootBlockIs, StandsAt}
 use Rattle.search.proofs.Holding.{CountsAs, HoldsAs}
 use Rattle.tree.proofs.Places.{node-reads, written-place}
 
@@ -26,7 +26,7 @@ module _ (s : Shape) (k i : ℕ) (starts heads table : List ℕ) (place : ℕ) (
   m = record { table = table; heads = heads }
 
   abbrev sets : SoundTree s starts heads table
-  sets = h .stands .settles
+  sets = h .stands .tree
 
   top : ancestor s k (s .height) ≡ root
   top = ancestor-top s k (h .stands .process)
@@ -42,7 +42,7 @@ module _ (s : Shape) (k i : ℕ) (starts heads table : List ℕ) (place : ℕ) (
       written-place sets root (place - 1) (node-root s)
       (below-head (root-sound s m (sets .sound)) (place - 1) (omega (arith, rw top at (h .below))))
 
-  pub root-block : InBlock s table k i place
+  pub root-block : RootBlockIs s table k i place
   root-block =
       let e : suc (place - 1) ≡ place = omega (arith, h .some) in
       record {

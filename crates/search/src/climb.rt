@@ -7,9 +7,10 @@ use tree::heads::head_of;
 use tree::heads::wide;
 ghost use mathlib.Core.Path.{_≡_};
 ghost use Prim.Native.Nat.{ℕ};
+ghost use Rattle.base.specs.Contracts.Some.{SomeTwo};
 ghost use Rattle.tree.specs.declared.Kind.the-variants.{Takes};
 ghost use Rattle.tree.specs.Shape.{Shape};
-ghost use Rattle.search.specs.Contracts.Stands.{StandsAs, Stands, StandsOf, OfKind, InBlock, StandsAt};
+ghost use Rattle.search.specs.Contracts.Stands.{Stands, StandsOf, RootBlockIs, StandsAt};
 ghost use Rattle.search.specs.Contracts.Climbing.{Ascends, FirstAbove, Beside, besideOf};
 
 // The block of v's parent that holds v's block `place`: the first whose end towards v reaches it. The superblock word of v's block is a guess only: the parent's head may
@@ -48,10 +49,10 @@ fn beside(table: &[u32], starts: &[usize; 17], v: u32, b: u32) -> u32
 // The root block of operation `serial` of the process with that leaf, found from the leaf up to the root, which is node 1. The answer of a put needs no more than this: it
 // is spared the reads that counting takes.
 pub fn root_block(heads: &[u32], table: &[u32], starts: &[usize; 17], leaf: u32, serial: u32) -> u32
-    requires { ⌜ Stands (now starts) (now heads) (now table) leaf serial ⌝ }
+    requires { ⌜ SomeTwo (Stands (now starts) (now heads) (now table) leaf serial) ⌝ }
     ensures { λ r. ⌜ ((s : Shape) (k : ℕ) →
-        StandsAs s k (now (starts .entry)) (now (heads .entry)) (now (table .entry)) leaf serial →
-        InBlock s (now (table .entry)) k serial r) ⌝ }
+        Stands (now (starts .entry)) (now (heads .entry)) (now (table .entry)) leaf serial s k →
+        RootBlockIs s (now (table .entry)) k serial r) ⌝ }
 {
     let mut v = leaf;
     let mut place = serial;
@@ -72,10 +73,9 @@ pub fn standing(
     leaf: u32,
     serial: u32,
 ) -> Standing
-    requires { ⌜ StandsOf Takes (now starts) (now heads) (now table) leaf serial ⌝ }
+    requires { ⌜ SomeTwo (StandsOf Takes (now starts) (now heads) (now table) leaf serial) ⌝ }
     ensures { λ r. ⌜ ((s : Shape) (k : ℕ) →
-        StandsAs s k (now (starts .entry)) (now (heads .entry)) (now (table .entry)) leaf serial →
-        OfKind s (now (table .entry)) Takes k serial →
+        StandsOf Takes (now (starts .entry)) (now (heads .entry)) (now (table .entry)) leaf serial s k →
         StandsAt s (now (table .entry)) Takes k serial r) ⌝ }
 {
     let mut v = leaf;

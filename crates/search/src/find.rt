@@ -4,9 +4,10 @@ use tree::access::block_at;
 ghost use mathlib.Core.Path.{_≡_};
 ghost use mathlib.Core.List.{List};
 ghost use Prim.Native.Nat.{ℕ};
+ghost use Rattle.base.specs.Contracts.Some.{SomeTwo};
 ghost use Rattle.tree.specs.Shape.{Shape};
-ghost use Rattle.search.specs.Contracts.Numbered.{NumberedAs, Numbered, ValueAt};
-ghost use Rattle.search.specs.Contracts.Descending.{FindsAs, Finds, FoundIn, Descends, descentOf};
+ghost use Rattle.search.specs.Contracts.Numbered.{Numbered, ValueAt};
+ghost use Rattle.search.specs.Contracts.Descending.{Finds, FoundIn, Descends, descentOf};
 
 // A put in a child: the child, the last place there that can have it, and its number there.
 struct Descent {
@@ -42,9 +43,9 @@ fn descend(table: &[u32], starts: &[usize; 17], v: u32, b: u32, n: u32) -> Desce
 // The value of put number n of node v, of the height given, which is in v's block b. A leaf's block has the value in its left end. The last subblock is the guess, since most
 // blocks have few.
 fn find_put(table: &[u32], starts: &[usize; 17], height: usize, v: u32, b: u32, n: u32) -> u32
-    requires { ⌜ Finds (now starts) (now table) height v b n ⌝ }
+    requires { ⌜ SomeTwo (Finds (now starts) (now table) height v b n) ⌝ }
     ensures { λ r. ⌜ ((s : Shape) (heads : List ℕ) →
-        FindsAs s heads (now (starts .entry)) (now (table .entry)) height v b n →
+        Finds (now (starts .entry)) (now (table .entry)) height v b n s heads →
         FoundIn s (now (table .entry)) height v b n r) ⌝ }
 {
     if height == 0 {
@@ -57,9 +58,9 @@ fn find_put(table: &[u32], starts: &[usize; 17], height: usize, v: u32, b: u32, 
 
 // The value of put number n in root order, which is in the root blocks up to `last`. The root is node 1.
 pub fn put_value(table: &[u32], starts: &[usize; 17], height: usize, last: u32, n: u32) -> u32
-    requires { ⌜ Numbered (now starts) (now table) height last n ⌝ }
+    requires { ⌜ SomeTwo (Numbered (now starts) (now table) height last n) ⌝ }
     ensures { λ r. ⌜ ((s : Shape) (heads : List ℕ) →
-        NumberedAs s heads (now (starts .entry)) (now (table .entry)) height last n →
+        Numbered (now (starts .entry)) (now (table .entry)) height last n s heads →
         ValueAt s (now (table .entry)) n r) ⌝ }
 {
     let b = first_place(table, starts, 1, 0, last, n, last);

@@ -14,15 +14,9 @@ abbrev pub recordOf : ℕ → Process → Reply → ℕ → AnswerRecord
 recordOf k q reply block = record { process = k; reply = reply; steps = q .steps + 1; serial = q .begun; block = block }
 
 -- in a tree of shape s and the height given, root block b is present, and i is the number of a take there, from 1
-pub record TakenAs (s : Shape) (heads starts table : List ℕ) (height b i : ℕ) : Type 0 where
-  pub settles : SoundTree s starts heads table
+pub record TakeAt (starts table : List ℕ) (height b i : ℕ) (s : Shape) (heads : List ℕ) : Type 0 where
+  pub tree : SoundTree s starts heads table
   pub tall : height ≡ s .height
   pub some : 1 ≤ b
   pub most : b ≤ lastRoot s table
   pub first : 1 ≤ i
-
--- the same of some tree and some heads
-pub record Taken (starts table : List ℕ) (height b i : ℕ) : Type 0 where
-  pub shape : Shape
-  pub heads : List ℕ
-  pub taken : TakenAs shape heads starts table height b i

@@ -15,17 +15,11 @@ use Rattle.search.specs.declared.find.Descent.{Descent}
 use Rattle.search.specs.Contracts.Numbered.{HasValue}
 
 -- put number n of node v, counted from 1 over the node's blocks from place 1 on, is in block b of v, a node of height h
-pub record FindsAs (s : Shape) (heads starts table : List ℕ) (h v b n : ℕ) : Type 0 where
-  pub settles : SoundTree s starts heads table
+pub record Finds (starts table : List ℕ) (h v b n : ℕ) (s : Shape) (heads : List ℕ) : Type 0 where
+  pub tree : SoundTree s starts heads table
   pub level : Level s h v
   pub past : blockAt s table v (b - 1) .puts < n
   pub upto : n ≤ blockAt s table v b .puts
-
--- the same of some tree and some heads
-pub record Finds (starts table : List ℕ) (h v b n : ℕ) : Type 0 where
-  pub shape : Shape
-  pub heads : List ℕ
-  pub finds : FindsAs shape heads starts table h v b n
 
 -- r is the value of that put; z would stand for a put that is not there
 abbrev pub FoundIn : Shape → List ℕ → ℕ → ℕ → ℕ → ℕ → ℕ → Type 0

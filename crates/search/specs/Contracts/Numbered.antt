@@ -9,19 +9,13 @@ use Rattle.tree.specs.Order.{OpId, lastRoot, rootPuts}
 use Rattle.tree.specs.Contracts.SoundTree.{SoundTree}
 
 -- in a tree of shape s and the height given, put number n, from 1 in root order, is in the root blocks up to `last`, which is present
-pub record NumberedAs (s : Shape) (heads starts table : List ℕ) (height last n : ℕ) : Type 0 where
-  pub settles : SoundTree s starts heads table
+pub record Numbered (starts table : List ℕ) (height last n : ℕ) (s : Shape) (heads : List ℕ) : Type 0 where
+  pub tree : SoundTree s starts heads table
   pub tall : height ≡ s .height
   pub some : 1 ≤ last
   pub most : last ≤ lastRoot s table
   pub first : 1 ≤ n
   pub within : n ≤ blockAt s table root last .puts
-
--- the same of some tree and some heads
-pub record Numbered (starts table : List ℕ) (height last n : ℕ) : Type 0 where
-  pub shape : Shape
-  pub heads : List ℕ
-  pub numbered : NumberedAs shape heads starts table height last n
 
 -- r is the value of put x, which its leaf's block holds in end left
 abbrev pub HasValue : Shape → List ℕ → OpId → ℕ → Type 0

@@ -2,8 +2,9 @@
 use native.Mathlib.Omega.{arith}
 use mathlib.Core.Path.{_∙_}
 use borrow.Author.Needs.{needs}
+use Rattle.base.proofs.Somes.{some-two}
 use Rattle.answer.proofs.PlaysLaws.{steps-small}
-use Rattle.answer.proofs.AtQ.{leaf-small, answer-small, stands-as, put-answer, taken-as, take-answer, of-takes}
+use Rattle.answer.proofs.AtQ.{leaf-small, answer-small, stands-as, put-answer, taken-as, take-answer, take-stands}
 use Rattle.answer.proofs.answers.answer_of.Statement.{statement}
 use Rattle.answer.proofs.answers.answer_of.Tie as tie
 
@@ -16,7 +17,7 @@ enum-told c = search needs
 root-block-requires : tie.Need-root-block-requires
 root-block-requires c κs =
     let p = c .before .before .before .before .pre in
-    record { shape = p .0 .shape; process = c .before .before .before .before .args .k; stands = stands-as (p .0 .plays) (p .0 .width) (p .1) }
+    some-two _ _ (stands-as (p .0 .plays) (p .0 .width) (p .1))
 
 answer-requires : tie.Need-answer-requires
 answer-requires c κs = omega (arith, steps-small _ _ _ _ _ _ _ (c .before .before .before .before .before .pre .0 .plays))
@@ -27,12 +28,7 @@ enum-told-2 c = search needs
 standing-requires : tie.Need-standing-requires
 standing-requires c κs =
     let p = c .before .before .before .before .pre in
-    record {
-      shape = p .0 .shape;
-      process = c .before .before .before .before .args .k;
-      stands = stands-as (p .0 .plays) (p .0 .width) (p .1);
-      kind = of-takes (p .0 .plays) (p .0 .width) (p .1) (c .enum-told2 .given .1);
-    }
+    some-two _ _ (take-stands (p .0 .plays) (p .0 .width) (p .1) (c .enum-told2 .given .1))
 
 height-for-requires : tie.Need-height-for-requires
 height-for-requires c κs = search needs
@@ -41,12 +37,8 @@ take-reply-requires : tie.Need-take-reply-requires
 take-reply-requires c κs =
     let a = c .before .before .before .before .before .before .args in
     let p = c .before .before .before .before .before .before .pre in
-    let z = c .before .standing .ensures (p .0 .shape) (a .k) (stands-as (p .0 .plays) (p .0 .width) (p .1)) (of-takes (p .0 .plays) (p .0 .width) (p .1) (c .before .before .enum-told2 .given .1)) in
-    record {
-      shape = p .0 .shape;
-      heads = a .heads .now;
-      taken = taken-as (p .0 .plays) (p .0 .width) (p .1) (c .before .before .enum-told2 .given .1) z (c .height-for .ensures .0);
-    }
+    let z = c .before .standing .ensures (p .0 .shape) (a .k) (take-stands (p .0 .plays) (p .0 .width) (p .1) (c .before .before .enum-told2 .given .1)) in
+    some-two _ _ (taken-as (p .0 .plays) (p .0 .width) (p .1) (c .before .before .enum-told2 .given .1) z (c .height-for .ensures .0))
 
 answer-requires-2 : tie.Need-answer-requires-2
 answer-requires-2 c κs = omega (arith, steps-small _ _ _ _ _ _ _ (c .before .before .before .before .before .before .before .pre .0 .plays))
@@ -67,7 +59,7 @@ returns-2 c =
     let p = c .before .before .before .before .before .before .before .before .pre in
     let e = c .before .before .before .before .enum-told2 .given .1 in (
       λ s ps w plays.
-          let z = c .before .before .before .standing .ensures s (a .k) (stands-as plays w (p .1)) (of-takes plays w (p .1) e) in
+          let z = c .before .before .before .standing .ensures s (a .k) (take-stands plays w (p .1) e) in
           c .answer2 .ensures
           ∙ take-answer plays w (p .1) e z (c .before .take-reply .ensures s (a .heads .now) (taken-as plays w (p .1) e z (c .before .before .height-for .ensures .0))),
       answer-small (p .0 .plays) (p .0 .width) (c .answer2 .ensures),

@@ -1,6 +1,7 @@
 -- `replies::take_reply` meets its contract. Assumes nothing.
 use native.Mathlib.Omega.{arith}
 use borrow.Author.Needs.{needs}
+use Rattle.base.proofs.Somes.{some-two}
 use Rattle.answer.proofs.TakeLaws.{place-before, place-here, puts-rise, take-none, number-small, number-low, take-numbered, take-some}
 use Rattle.answer.proofs.replies.take_reply.Statement.{statement}
 use Rattle.answer.proofs.replies.take_reply.Tie as tie
@@ -9,15 +10,15 @@ sub-block-at : tie.Need-sub-block-at
 sub-block-at c = search needs
 
 block-at-requires : tie.Need-block-at-requires
-block-at-requires c κs = place-before (c .before .pre .taken)
+block-at-requires c κs = place-before (c .before .pre .holds .holds)
 
 block-at-requires-2 : tie.Need-block-at-requires-2
-block-at-requires-2 c κs = place-here (c .before .before .pre .taken)
+block-at-requires-2 c κs = place-here (c .before .before .pre .holds .holds)
 
 sub-margin : tie.Need-sub-margin
 sub-margin c =
     let w = c .before .before .before in
-    puts-rise (w .before .before .pre .taken) (w .block-at .ensures) (c .before .before .block-at2 .ensures)
+    puts-rise (w .before .before .pre .holds .holds) (w .block-at .ensures) (c .before .before .block-at2 .ensures)
 
 margin-requires : tie.Need-margin-requires
 margin-requires c κs = search needs
@@ -33,24 +34,20 @@ add-number c =
     let u = w .before .before .before .before in
     omega (
       arith,
-      number-small (u .before .before .pre .taken) (u .block-at .ensures) (w .before .before .before .block-at2 .ensures) (w .margin .ensures) (search needs) (c .before .if1 .left),
+      number-small (u .before .before .pre .holds .holds) (u .block-at .ensures) (w .before .before .before .block-at2 .ensures) (w .margin .ensures) (search needs) (c .before .if1 .left),
     )
 
 sub-number : tie.Need-sub-number
 sub-number c =
     let u = c .before .before .before .before .before .before .before in
-    number-low (u .before .before .pre .taken) (u .block-at .ensures) (c .before .before .before .before .before .before .block-at2 .ensures)
+    number-low (u .before .before .pre .holds .holds) (u .block-at .ensures) (c .before .before .before .before .before .before .block-at2 .ensures)
 
 put-value-requires : tie.Need-put-value-requires
 put-value-requires c κs =
     let w = c .before .before .before in
     let u = w .before .before .before .before in
     let p = u .before .before .pre in
-    record {
-      shape = p .shape;
-      heads = p .heads;
-      numbered = take-numbered (p .taken) (u .block-at .ensures) (w .before .before .before .block-at2 .ensures) (w .margin .ensures) (search needs) (c .before .before .if1 .left);
-    }
+    some-two _ _ (take-numbered (p .holds .holds) (u .block-at .ensures) (w .before .before .before .block-at2 .ensures) (w .margin .ensures) (search needs) (c .before .before .if1 .left))
 
 returns-2 : tie.Need-returns-2
 returns-2 c = λ s heads h.

@@ -2,21 +2,23 @@
 use Prim.Native.Nat.{ℕ}
 use native.Mathlib.Omega.{arith}
 use Rattle.tree.specs.Shape.{Shape}
-use Rattle.search.proofs.Holding.{Reached, OfEach}
+use Rattle.search.specs.Contracts.Stands.{Stands}
+use Rattle.search.proofs.Holding.{Reached}
+use Rattle.base.proofs.Somes.{OfEach, of-one, of-next}
 use Rattle.search.proofs.LeafHolds.{leaf-reached}
-use Rattle.search.proofs.ClimbLaws.{node-first, top-block, node-ascends, climbs, of-one, of-next}
+use Rattle.search.proofs.ClimbLaws.{node-first, top-block, node-ascends, climbs}
 use Rattle.search.proofs.climb.root_block.Statement.{statement}
 use Rattle.search.proofs.climb.root_block.Tie as tie
 
 abbrev Inv-loop : tie.InvT-loop
 Inv-loop heads table starts leaf serial v₀ place₀ v place =
-    OfEach starts heads table leaf serial (λ (s : Shape) (k : ℕ). Reached s k serial starts heads table v place)
+    OfEach (Stands starts heads table leaf serial) (λ (s : Shape) (k : ℕ). Reached s k serial starts heads table v place)
 
 abbrev μ-loop : tie.MeasureT-loop
 μ-loop heads table starts leaf serial v₀ place₀ v place = v
 
 loop-holds : tie.Need-loop-holds Inv-loop μ-loop
-loop-holds c = record { stands = c .before .before .pre; each = λ s k h. leaf-reached s k _ _ _ _ _ h }
+loop-holds c = record { some = c .before .before .pre; each = λ s k h. leaf-reached s k _ _ _ _ _ h }
 
 holder-requires : tie.Need-holder-requires Inv-loop μ-loop
 holder-requires c κs = node-ascends (of-one (c .before .loop .inv)) (c .loop-test .taken)

@@ -1,36 +1,32 @@
 -- `climb::standing` meets its contract. The loop's invariant is that of `root_block` with the count, `Counted`; the measure is the node, which each turn halves. Assumes nothing.
 use Prim.Native.Nat.{ℕ}
 use native.Mathlib.Omega.{arith}
-use mathlib.Core.List.{List}
-use Rattle.tree.specs.declared.Kind.{Kind}
 use Rattle.tree.specs.declared.Kind.the-variants.{Takes}
 use Rattle.tree.specs.Shape.{Shape}
 use Rattle.tree.specs.Order.{total}
-use Rattle.search.specs.Contracts.Stands.{Stands, StandsOf}
-use Rattle.search.proofs.Holding.{Counted, OfEach}
+use Rattle.search.specs.Contracts.Stands.{StandsOf}
+use Rattle.search.proofs.Holding.{Counted}
+use Rattle.base.proofs.Somes.{OfEach, of-one, of-next}
 use Rattle.search.proofs.LeafHolds.{leaf-place, leaf-counted}
-use Rattle.search.proofs.ClimbLaws.{node-first, top-place, node-ascends, node-beside, number-small, top-low, top-stands, climbs-counted, of-one, of-next}
+use Rattle.search.proofs.ClimbLaws.{node-first, top-place, node-ascends, node-beside, number-small, top-low, top-stands, climbs-counted}
 use Rattle.search.proofs.climb.standing.Statement.{statement}
 use Rattle.search.proofs.climb.standing.Tie as tie
 
-stands-of : {κ : Kind} {starts heads table : List ℕ} {leaf serial : ℕ} → StandsOf κ starts heads table leaf serial → Stands starts heads table leaf serial
-stands-of p = record { shape = p .shape; process = p .process; stands = p .stands }
-
 abbrev Inv-loop : tie.InvT-loop
 Inv-loop heads table starts leaf serial v₀ place₀ number₀ v place number =
-    OfEach starts heads table leaf serial (λ (s : Shape) (k : ℕ). Counted s k serial starts heads table Takes v place number)
+    OfEach (StandsOf Takes starts heads table leaf serial) (λ (s : Shape) (k : ℕ). Counted s k serial starts heads table Takes v place number)
 
 abbrev μ-loop : tie.MeasureT-loop
 μ-loop heads table starts leaf serial v₀ place₀ number₀ v place number = v
 
 block-at-requires : tie.Need-block-at-requires Inv-loop μ-loop
-block-at-requires c κs = let p = c .before .before .pre in leaf-place (p .shape) (p .process) _ _ _ _ _ (p .stands)
+block-at-requires c κs = let p = c .before .before .pre in leaf-place _ _ _ _ _ _ _ (p .holds .holds .0)
 
 loop-holds : tie.Need-loop-holds Inv-loop μ-loop
 unfolding total
 loop-holds c =
     rw (c .block-at .ensures)
-    (record { stands = stands-of (c .before .before .before .pre); each = λ s k h. leaf-counted s k _ _ _ _ _ h _ })
+    (record { some = c .before .before .before .pre; each = λ s k h. leaf-counted s k _ _ _ _ _ (h .0) _ })
 
 holder-requires : tie.Need-holder-requires Inv-loop μ-loop
 holder-requires c κs = node-ascends (of-one (c .before .loop .inv) .at) (c .loop-test .taken)
@@ -66,7 +62,7 @@ sub-t14 c = rw (c .block-at2 .ensures) (top-low (of-one (c .before .before .loop
 
 returns : tie.Need-returns Inv-loop μ-loop
 unfolding total
-returns c = λ s k h o. rw (c .block-at2 .ensures) (top-stands (c .before .before .loop .inv .each s k h) (c .before .loop-test .left) o)
+returns c = λ s k h. rw (c .block-at2 .ensures) (top-stands (c .before .before .loop .inv .each s k h) (c .before .loop-test .left) (h .1))
 
 pub standing-spec : {M : Type 1} → statement M
 standing-spec =

@@ -1,5 +1,6 @@
 -- `find::find_put` meets its contract. The measure is the height, which each call lowers by one. Assumes nothing.
 use native.Mathlib.Omega.{arith}
+use Rattle.base.proofs.Somes.{some-two}
 use Rattle.search.proofs.FindLaws.{down-ready, down-to, find-place, leaf-found}
 use Prim.Native.Nat.{ℕ, _<_}
 use borrow.Fn.Kinds.{In}
@@ -37,16 +38,16 @@ claims t = (
 )
 
 find-put-block-at-requires : (t : ℕ) → find-put-lts.Need-block-at-requires (claims t) (find-put-at t) find-put.Post
-find-put-block-at-requires t c κs = find-place (c .before .before .pre .1 .finds)
+find-put-block-at-requires t c κs = find-place (c .before .before .pre .1 .holds .holds)
 
 find-put-returns : (t : ℕ) → find-put-lts.Need-returns (claims t) (find-put-at t) find-put.Post
 find-put-returns t c = λ s heads f. rw (c .block-at .ensures) (leaf-found s heads _ _ _ _ _ _ f (c .before .if1 .taken))
 
 find-put-descend-requires : (t : ℕ) → find-put-lts.Need-descend-requires (claims t) (find-put-at t) find-put.Post
-find-put-descend-requires t c κs = down-ready (c .before .before .pre .1 .finds) (c .if1 .left)
+find-put-descend-requires t c κs = down-ready (c .before .before .pre .1 .holds .holds) (c .if1 .left)
 
 find-put-first-place-requires : (t : ℕ) → find-put-lts.Need-first-place-requires (claims t) (find-put-at t) find-put.Post
-find-put-first-place-requires t c κs = down-to (c .before .before .before .pre .1 .finds) (c .before .if1 .left) _ (c .descend .ensures) .ready
+find-put-first-place-requires t c κs = down-to (c .before .before .before .pre .1 .holds .holds) (c .before .if1 .left) _ (c .descend .ensures) .ready
 
 find-put-sub-find-put : (t : ℕ) → find-put-lts.Need-sub-find-put (claims t) (find-put-at t) find-put.Post
 find-put-sub-find-put t c = omega arith
@@ -54,11 +55,7 @@ find-put-sub-find-put t c = omega arith
 find-put-find-put-requires : (t : ℕ) → find-put-lts.Need-find-put-requires (claims t) (find-put-at t) find-put.Post
 find-put-find-put-requires t c κs = let p = c .before .before .before .before .pre .1 in (
   omega arith,
-  record {
-    shape = p .shape;
-    heads = p .heads;
-    finds = down-to (p .finds) (c .before .before .if1 .left) _ (c .before .descend .ensures) .finds _ (c .first-place .ensures);
-  },
+  some-two _ _ (down-to (p .holds .holds) (c .before .before .if1 .left) _ (c .before .descend .ensures) .finds _ (c .first-place .ensures)),
 )
 
 find-put-returns-2 : (t : ℕ) → find-put-lts.Need-returns-2 (claims t) (find-put-at t) find-put.Post

@@ -1,15 +1,15 @@
 -- `find::put_value` meets its contract. Assumes nothing.
+use Rattle.base.proofs.Somes.{some-two}
 use Rattle.search.proofs.FindLaws.{root-ready, root-finds, root-value}
 use Rattle.search.proofs.find.put_value.Statement.{statement}
 use Rattle.search.proofs.find.put_value.Tie as tie
 
 first-place-requires : tie.Need-first-place-requires
-first-place-requires c κs = let p = c .before .pre in root-ready _ _ _ _ _ _ _ (p .numbered)
+first-place-requires c κs = root-ready _ _ _ _ _ _ _ (c .before .pre .holds .holds)
 
 find-put-requires : tie.Need-find-put-requires
 find-put-requires c κs =
-    let p = c .before .before .pre in
-    record { shape = p .shape; heads = p .heads; finds = root-finds _ _ _ _ _ _ _ (p .numbered) _ (c .first-place .ensures) }
+    some-two _ _ (root-finds _ _ _ _ _ _ _ (c .before .before .pre .holds .holds) _ (c .first-place .ensures))
 
 returns : tie.Need-returns
 returns c = λ s heads q.
