@@ -8,7 +8,7 @@ use Rattle.record.specs.declared.Reply.the-variants.{Done}
 use Rattle.record.specs.declared.AnswerRecord.{AnswerRecord}
 use Rattle.tree.specs.declared.Kind.the-variants.{Takes}
 use Rattle.tree.specs.Shape.{Shape, processes, root, leafOf, heightFor}
-use Rattle.tree.specs.Memory.{Memory, headOf, block}
+use Rattle.tree.specs.Memory.{Memory, headOf, block, memoryOf}
 use Rattle.tree.specs.Order.{total}
 use Rattle.tree.proofs.Sound.{below-head}
 use Rattle.tree.proofs.LastRoot.{root-sound}
@@ -42,7 +42,7 @@ height-by (suc (suc (suc (suc H)))) f l = absurd (omega arith)
 
 module _ {s : Shape} {ps : List Process} {starts heads table : List ℕ} {k : ℕ} {q : Process} (plays : Plays s ps starts heads table k q) {p : ℕ} (width : processes s ≡ p) where
   abbrev m : Memory
-  m = record { table = table; heads = heads }
+  m = memoryOf table heads
 
   pub leaf-small : p + k < 16
   leaf-small = omega (arith, plays .low, processes-most s (plays .tall) (plays .few))

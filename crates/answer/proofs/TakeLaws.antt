@@ -15,7 +15,7 @@ use Rattle.tree.specs.declared.Block.{Block}
 use Rattle.tree.specs.declared.Kind.the-variants.{Puts}
 use Rattle.tree.specs.Shape.{Shape, root}
 use Rattle.tree.specs.Blocks.{blockAt}
-use Rattle.tree.specs.Memory.{Memory, block}
+use Rattle.tree.specs.Memory.{Memory, block, memoryOf}
 use Rattle.tree.specs.Order.{total, lastRoot}
 use Rattle.tree.proofs.Sound.{totals-rise}
 use Rattle.tree.proofs.LastRoot.{node-root, root-sound, root-written}
@@ -29,7 +29,7 @@ use Rattle.answer.proofs.Margins.{margin-below, by-below, by-rest}
 
 module _ {s : Shape} {heads starts table : List ℕ} {height b i : ℕ} (h : TakeAt starts table height b i s heads) where
   abbrev m : Memory
-  m = record { table = table; heads = heads }
+  m = memoryOf table heads
 
   root-place : (j : ℕ) → j ≤ lastRoot s table → HasPlace starts table 1 j
   unfolding root

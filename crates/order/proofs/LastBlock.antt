@@ -44,7 +44,7 @@ module _ {s : Shape} {starts heads table : List ℕ} (q : SoundTree s starts hea
   pub last-at-head : absent (nodeBlock starts table 1 (getD heads 1 1)) ≡ false → getD heads 1 1 ≡ lastRoot s table
   unfolding root headOf
   last-at-head e =
-      let m : Memory = memoryOf table heads in
+      let m = memoryOf table heads in
       let h : ℕ = headOf m root in
       omega (arith, last-head s m (q .sound), last-most s m (q .sound) h (present-count (block s m root h) (ap absent (sym (root-reads h)) ∙ e)))
 

@@ -15,6 +15,7 @@ use Rattle.order.specs.Contracts.Opens.{RootOf, TreeOf}
 use Rattle.order.specs.Contracts.Listed.{rootRecords, gathered, Room, Lists}
 use Rattle.order.proofs.RootRecords.{list-blocks}
 use Rattle.order.proofs.LastBlock.{last-counts}
+use Rattle.tree.specs.Memory.{memoryOf}
 
 module _ {starts table : List ℕ} {h b : ℕ} where
   pub tree-root : (i : ℕ) → i < b → (s : Shape) (heads : List ℕ) → TreeOf starts table h b s heads → RootOf starts table h (i + 1) s heads
@@ -22,7 +23,7 @@ module _ {starts table : List ℕ} {h b : ℕ} where
       record {
         settles = g .settles;
         height = g .height;
-        present = rw (add-one i) (root-present s (record { table = table; heads = heads }) (g .settles .sound) i (omega (arith, g .last)));
+        present = rw (add-one i) (root-present s (memoryOf table heads) (g .settles .sound) i (omega (arith, g .last)));
       }
 
   tree-list : (s : Shape) (heads : List ℕ) → TreeOf starts table h b s heads → orderList s table ≡ gathered (rootRecords table) 0 b s

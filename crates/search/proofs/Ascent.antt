@@ -7,7 +7,7 @@ use mathlib.Core.List.{List}
 use borrow.Author.Tests.{eq-eqb, ne-eqb}
 use Rattle.tree.specs.declared.Kind.{Kind}
 use Rattle.tree.specs.Shape.{Shape, processes, leftOf, rightOf, parentOf}
-use Rattle.tree.specs.Memory.{Memory, headOf, block}
+use Rattle.tree.specs.Memory.{Memory, headOf, block, memoryOf}
 use Rattle.tree.specs.Order.{OpId}
 use Rattle.tree.specs.Sides.{Side, onLeft, onRight}
 use Rattle.tree.specs.Contracts.Invariant.{Node, Inner, Present, Written, Sound}
@@ -37,7 +37,7 @@ pub record Above (s : Shape) (k i j : ℕ) (starts heads table : List ℕ) (v pl
 
 module _ (s : Shape) (k i j : ℕ) (starts heads table : List ℕ) (place : ℕ) (h : HoldsAs s k i j starts heads table place) (low : suc j ≤ s .height) where
   abbrev m : Memory
-  m = record { table = table; heads = heads }
+  m = memoryOf table heads
 
   abbrev sets : SoundTree s starts heads table
   sets = h .stands .tree
@@ -100,7 +100,7 @@ module _ (s : Shape) (k i j : ℕ) (starts heads table : List ℕ) (place : ℕ)
 
   -- ---- the block that is found
   module _ (b : ℕ)
-      (found : First (nodePart starts table (ancestor s k (suc j))) (wordOf (sideAt s k j)) (headOf (record { table = table; heads = heads }) (ancestor s k (suc j)) - 1) place
+      (found : First (nodePart starts table (ancestor s k (suc j))) (wordOf (sideAt s k j)) (headOf (memoryOf table heads) (ancestor s k (suc j)) - 1) place
       (suc b))
     where
       past : endTowards s m k j b < place

@@ -7,7 +7,7 @@ use Rattle.tree.specs.declared.Block.{Block}
 use Rattle.tree.specs.declared.Kind.{Kind}
 use Rattle.tree.specs.declared.Kind.the-variants.{Puts, Takes}
 use Rattle.tree.specs.Shape.{Shape, root, parentOf}
-use Rattle.tree.specs.Memory.{block}
+use Rattle.tree.specs.Memory.{block, memoryOf}
 use Rattle.tree.specs.Order.{total}
 use Rattle.tree.specs.Contracts.Invariant.{count}
 use Rattle.tree.proofs.Ancestors.{ancestor, ancestor-node, root-height, not-root}
@@ -72,7 +72,7 @@ module _ {s : Shape} {k i : ℕ} {starts heads table : List ℕ} {κ : Kind} {v 
       omega (
         arith,
         c .counts .high,
-        total-most κ (block s (record { table = table; heads = heads }) node place),
+        total-most κ (block s (memoryOf table heads) node place),
         sets .sound .node node (ancestor-node s k (h .stands .process) (c .at .level) (h .tall)) .within place,
         places-most s (sets .tall) (sets .few) node,
       )

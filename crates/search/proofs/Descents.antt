@@ -12,7 +12,7 @@ use Rattle.base.specs.Choice.{if_then_else_}
 use Rattle.base.proofs.Cases.{cases}
 use Rattle.tree.specs.declared.Kind.the-variants.{Puts}
 use Rattle.tree.specs.Shape.{Shape, leftOf, rightOf}
-use Rattle.tree.specs.Memory.{Memory, block}
+use Rattle.tree.specs.Memory.{Memory, block, memoryOf}
 use Rattle.tree.specs.Order.{OpId, total, opened}
 use Rattle.tree.specs.Sides.{Side, onLeft, onRight, childOf, endOf}
 use Rattle.tree.specs.Contracts.Invariant.{Node, Inner, Present, Written, Sound}
@@ -56,7 +56,7 @@ right-index n t l l' r e le lt =
 
 module _ (s : Shape) (heads starts table : List ℕ) (h v a n : ℕ) (f : Finds starts table (suc h) v (suc a) n s heads) where
   abbrev m : Memory
-  m = record { table = table; heads = heads }
+  m = memoryOf table heads
 
   abbrev sets : SoundTree s starts heads table
   sets = f .tree

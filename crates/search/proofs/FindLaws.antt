@@ -8,7 +8,7 @@ use Rattle.tree.specs.declared.Block.{Block}
 use Rattle.tree.specs.declared.Kind.the-variants.{Puts}
 use Rattle.tree.specs.Shape.{Shape, processes, root, leafOf}
 use Rattle.tree.specs.Blocks.{blockAt}
-use Rattle.tree.specs.Memory.{Memory, block}
+use Rattle.tree.specs.Memory.{Memory, block, memoryOf}
 use Rattle.tree.specs.Order.{total, inRoot}
 use Rattle.tree.specs.Contracts.Invariant.{Node, Present}
 use Rattle.tree.proofs.Nodes.{leaf-node}
@@ -61,7 +61,7 @@ module _ {s : Shape} {heads starts table : List ℕ} {h v b n : ℕ} (f : Finds 
   node : Node s v
   node = level-node s h v (f .level)
 
-  present : Present s (record { table = table; heads = heads }) v b
+  present : Present s (memoryOf table heads) v b
   unfolding block
   present = omega (arith, f .past, f .upto)
 
@@ -74,7 +74,7 @@ leaf-value : (s : Shape) (heads starts table : List ℕ) (k a n : ℕ) → k < p
     → FoundIn s table 0 (leafOf s k) (suc a) n (nodeBlock starts table (leafOf s k) (suc a) .left)
 unfolding block total
 leaf-value s heads starts table k a n kp f = λ z.
-    let m : Memory = record { table = table; heads = heads } in
+    let m = memoryOf table heads in
     let leaf : Node s (leafOf s k) = leaf-node s k kp in
     let e : suc a - 1 ≡ a = omega arith in
     let past : total Puts (block s m (leafOf s k) a) < n = rw e at (f .past) in
@@ -96,7 +96,7 @@ leaf-found s heads starts table zero v (suc a) n f e =
 -- ---- in the root
 module _ (s : Shape) (heads starts table : List ℕ) (height last n : ℕ) (q : Numbered starts table height last n s heads) where
   abbrev m : Memory
-  m = record { table = table; heads = heads }
+  m = memoryOf table heads
 
   pub root-ready : HasPart starts table 1 × Reaches (nodePart starts table 1) 0 last n
   unfolding root total block

@@ -5,7 +5,7 @@ use mathlib.Core.List.{List}
 use Rattle.tree.specs.declared.Kind.{Kind}
 use Rattle.tree.specs.Shape.{Shape, leafOf}
 use Rattle.tree.specs.Blocks.{blockAt}
-use Rattle.tree.specs.Memory.{headOf}
+use Rattle.tree.specs.Memory.{headOf, memoryOf}
 use Rattle.tree.specs.Order.{total, opened}
 use Rattle.tree.specs.Standing.{times, rankIn}
 use Rattle.tree.proofs.Ancestors.{ancestor}
@@ -26,9 +26,9 @@ pub record HoldsAs (s : Shape) (k i j : ℕ) (starts heads table : List ℕ) (pl
   pub stands : Stands starts heads table (leafOf s k) i s k
   pub tall : j ≤ s .height
   pub some : 1 ≤ place
-  pub below : place < headOf (record { table = table; heads = heads }) (ancestor s k j)
-  pub past : reach s (record { table = table; heads = heads }) k j (place - 1) < i
-  pub upto : i ≤ reach s (record { table = table; heads = heads }) k j place
+  pub below : place < headOf (memoryOf table heads) (ancestor s k j)
+  pub past : reach s (memoryOf table heads) k j (place - 1) < i
+  pub upto : i ≤ reach s (memoryOf table heads) k j place
 
 -- the climb has come to node v: its block `place` holds operation i of process k
 pub record Reached (s : Shape) (k i : ℕ) (starts heads table : List ℕ) (v place : ℕ) : Type 0 where

@@ -7,7 +7,7 @@ use mathlib.Core.Logic.{inr}
 use mathlib.Core.List.{List}
 use Rattle.tree.specs.declared.Kind.{Kind}
 use Rattle.tree.specs.Shape.{Shape, processes, root, leafOf}
-use Rattle.tree.specs.Memory.{Memory, headOf, block}
+use Rattle.tree.specs.Memory.{Memory, headOf, block, memoryOf}
 use Rattle.tree.specs.Order.{total}
 use Rattle.tree.specs.Contracts.Invariant.{Node, Present, Follows, AddsOne}
 use Rattle.tree.proofs.Nodes.{leaf-node}
@@ -25,7 +25,7 @@ use Rattle.tree.proofs.Places.{node-reads, written-place}
 
 module _ (s : Shape) (k : ℕ) (starts heads table : List ℕ) (leaf i : ℕ) (h : Stands starts heads table leaf i s k) where
   abbrev m : Memory
-  m = record { table = table; heads = heads }
+  m = memoryOf table heads
 
   abbrev sets : SoundTree s starts heads table
   sets = h .tree

@@ -6,7 +6,7 @@ use mathlib.Core.Path.{_≡_, ap, _∙_}
 use mathlib.Core.List.{List}
 use Rattle.tree.specs.declared.Kind.the-variants.{Puts}
 use Rattle.tree.specs.Shape.{Shape}
-use Rattle.tree.specs.Memory.{Memory, block}
+use Rattle.tree.specs.Memory.{Memory, block, memoryOf}
 use Rattle.tree.specs.Order.{total}
 use Rattle.tree.specs.Contracts.Invariant.{Node, Written}
 use Rattle.tree.proofs.Nodes.{inner-node, leaf-node}
@@ -25,7 +25,7 @@ level-node s (suc h) v l = inner-node s v (level-inner s h v l)
 
 module _ (s : Shape) (heads starts table : List ℕ) (sets : SoundTree s starts heads table) (h v : ℕ) (level : Level s h v) where
   abbrev m : Memory
-  m = record { table = table; heads = heads }
+  m = memoryOf table heads
 
   node : Node s v
   node = level-node s h v level
@@ -39,8 +39,8 @@ module _ (s : Shape) (heads starts table : List ℕ) (sets : SoundTree s starts 
       on (no e) = below-head (sets .sound .node v node) b (omega (arith, written-low (sets .sound .node v node) last w))
 
   -- a put that is in the blocks up to a written one is found there
-  pub search-ready : (last n : ℕ) → Written s (record { table = table; heads = heads }) v last → 1 ≤ n
-      → n ≤ total Puts (block s (record { table = table; heads = heads }) v last) → HasPart starts table v × Reaches (nodePart starts table v) 0 last n
+  pub search-ready : (last n : ℕ) → Written s (memoryOf table heads) v last → 1 ≤ n
+      → n ≤ total Puts (block s (memoryOf table heads) v last) → HasPart starts table v × Reaches (nodePart starts table v) 0 last n
   search-ready last n w some upto = (
     node-part sets v node,
     record {

@@ -6,7 +6,7 @@ use mathlib.Core.List.{List}
 use Rattle.tree.specs.declared.Kind.{Kind}
 use Rattle.tree.specs.Shape.{Shape, root}
 use Rattle.tree.specs.Blocks.{blockAt}
-use Rattle.tree.specs.Memory.{Memory, block}
+use Rattle.tree.specs.Memory.{Memory, block, memoryOf}
 use Rattle.tree.specs.Order.{OpId, total, inRoot, lastRoot}
 use Rattle.tree.proofs.Names.{rank-some}
 use Rattle.tree.specs.Contracts.Invariant.{Present}
@@ -23,7 +23,7 @@ use Rattle.tree.proofs.Places.{node-reads, written-place}
 
 module _ (s : Shape) (k i : ℕ) (starts heads table : List ℕ) (place : ℕ) (h : HoldsAs s k i (s .height) starts heads table place) where
   abbrev m : Memory
-  m = record { table = table; heads = heads }
+  m = memoryOf table heads
 
   abbrev sets : SoundTree s starts heads table
   sets = h .stands .tree

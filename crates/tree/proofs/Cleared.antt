@@ -8,12 +8,12 @@ use lib.Seq.{getD-take, getD-drop}
 use Rattle.tree.specs.Shape.{Shape, processes, leafOf}
 use Rattle.tree.specs.Layout.{blockWords, partStart, partWords, partOf, wordsNeeded}
 use Rattle.tree.specs.Blocks.{wordIn, blockAt}
-use Rattle.tree.specs.Memory.{Memory, headOf, block}
+use Rattle.tree.specs.Memory.{Memory, headOf, block, memoryOf}
 use Rattle.tree.specs.Contracts.Invariant.{count, zeros, Sized, Sound}
 use Rattle.tree.proofs.Writes.{block-zeros}
 
 abbrev pub cleared : Shape → Memory
-cleared s = record { table = replicate (wordsNeeded s) 0; heads = replicate (2 * processes s) 1 }
+cleared s = memoryOf (replicate (wordsNeeded s) 0) (replicate (2 * processes s) 1)
 
 -- an entry of a list of x's is x, past its end too
 same-entries : (n i x : ℕ) → getD (replicate n x) i x ≡ x

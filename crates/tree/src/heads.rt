@@ -3,7 +3,7 @@ ghost use mathlib.Core.Path.{_≡_};
 ghost use mathlib.Core.List.{[]};
 ghost use Prim.Native.Nat.{_<_};
 ghost use lib.ListN.{length, getD};
-ghost use Rattle.tree.specs.Memory.{raise as raiseOf};
+ghost use Rattle.tree.specs.Memory.{raise as raiseOf, memoryOf};
 
 // A register as an index. Every index goes through here, so that no other place has a cast to prove.
 pub fn wide(x: u32) -> usize
@@ -23,7 +23,7 @@ pub fn head_of(heads: &[u32], v: u32) -> u32
 // The head of v raised from h to h + 1. If it is no longer h, another process has raised it already, and it stays.
 pub fn raise(heads: &mut [u32], v: u32, h: u32)
     requires { ⌜ (v < length (now heads)) × (h < 65536) ⌝ }
-    ensures { λ _. ⌜ now (heads .exit) ≡ raiseOf (record { table = []; heads = now (heads .entry) }) v h .heads ⌝ }
+    ensures { λ _. ⌜ now (heads .exit) ≡ raiseOf (memoryOf [] (now (heads .entry))) v h .heads ⌝ }
 {
     if head_of(heads, v) == h {
         heads[wide(v)] = h + 1;

@@ -3,7 +3,7 @@ use Prim.Native.Nat.{ℕ, _-_, _≤_, _<_}
 use mathlib.Core.Path.{_≡_}
 use mathlib.Core.List.{List}
 use Rattle.tree.specs.Shape.{Shape, processes, leafOf}
-use Rattle.tree.specs.Memory.{Memory, block}
+use Rattle.tree.specs.Memory.{block, memoryOf}
 use Rattle.tree.specs.Contracts.Invariant.{Present}
 use Rattle.steps.specs.declared.Operation.{Operation}
 use Rattle.steps.specs.declared.Step.{Step}
@@ -16,7 +16,7 @@ use Rattle.calls.proofs.Leaves.{IsBlockOf}
 
 -- the machine of some table words, heads and processes
 abbrev pub machineOf : List ℕ → List ℕ → List Process → Machine
-machineOf table heads ps = record { memory = record { table = table; heads = heads }; processes = ps }
+machineOf table heads ps = record { memory = memoryOf table heads; processes = ps }
 
 -- process k is q in a machine that keeps the invariant, whose parts begin at the starts
 pub record Plays (s : Shape) (ps : List Process) (starts heads table : List ℕ) (k : ℕ) (q : Process) : Type 0 where
@@ -30,7 +30,7 @@ pub record Plays (s : Shape) (ps : List Process) (starts heads table : List ℕ)
   -- inside an operation it has begun one, whose block, once it is in the leaf, is that operation's
   pub some : (o : Operation) (n : Step) → q .status ≡ Busy o n → 1 ≤ q .begun
   pub own : (o : Operation) (n : Step) → q .status ≡ Busy o n
-      → let m : Memory = record { table = table; heads = heads } in Present s m (leafOf s k) (q .begun)
+      → let m = memoryOf table heads in Present s m (leafOf s k) (q .begun)
       → IsBlockOf o (block s m (leafOf s k) (q .begun - 1)) (block s m (leafOf s k) (q .begun))
 
 -- it does so in some machine of p processes

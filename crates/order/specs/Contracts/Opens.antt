@@ -13,6 +13,7 @@ use Rattle.tree.specs.Contracts.Access.{nodeBlock}
 use Rattle.tree.specs.Contracts.SoundTree.{SoundTree}
 use Rattle.order.specs.declared.Listing.{Listing}
 use Rattle.order.specs.declared.Subtree.{Subtree}
+use Rattle.tree.specs.Memory.{memoryOf}
 
 -- a leaf
 abbrev pub leafAt : ℕ → Subtree
@@ -31,19 +32,19 @@ pub record Stands (starts table : List ℕ) (x : Listing) (y : Subtree) (s : Sha
 -- y's block b is present
 pub record BlockOf (starts table : List ℕ) (x : Listing) (y : Subtree) (b : ℕ) (s : Shape) (heads : List ℕ) : Type 0 where
   pub stands : Stands starts table x y s heads
-  pub present : Present s (record { table = table; heads = heads }) (y .node) b
+  pub present : Present s (memoryOf table heads) (y .node) b
 
 -- y's blocks up to and with `to` are present, and `from` is at most that
 pub record RangeOf (starts table : List ℕ) (x : Listing) (y : Subtree) (from to : ℕ) (s : Shape) (heads : List ℕ) : Type 0 where
   pub stands : Stands starts table x y s heads
   pub rises : from ≤ to
-  pub present : (i : ℕ) → i < to → Present s (record { table = table; heads = heads }) (y .node) (suc i)
+  pub present : (i : ℕ) → i < to → Present s (memoryOf table heads) (y .node) (suc i)
 
 -- root block b is present in a tree of height h
 pub record RootOf (starts table : List ℕ) (h b : ℕ) (s : Shape) (heads : List ℕ) : Type 0 where
   pub settles : SoundTree s starts heads table
   pub height : h ≡ s .height
-  pub present : Present s (record { table = table; heads = heads }) root b
+  pub present : Present s (memoryOf table heads) root b
 
 -- root block b is the last one in a tree of height h
 pub record TreeOf (starts table : List ℕ) (h b : ℕ) (s : Shape) (heads : List ℕ) : Type 0 where
