@@ -46,10 +46,10 @@ fn put_numbers(a: AnswerRecord, out: &mut [u8], at: usize) -> usize
     requires { ⌜ at + length (numberFields a) ≤ length (now out) ⌝ }
     ensures { λ r. ⌜ Stored (now (out .entry)) at (numberFields a) (now (out .exit)) r ⌝ }
 {
-    let serial = put_number(a.process as usize, out, at);
-    let steps = put_number(a.serial as usize, out, serial);
-    let block = put_number(a.steps as usize, out, steps);
-    put_number(a.block as usize, out, block)
+    let after_process = put_number(a.process as usize, out, at);
+    let after_serial = put_number(a.serial as usize, out, after_process);
+    let after_steps = put_number(a.steps as usize, out, after_serial);
+    put_number(a.block as usize, out, after_steps)
 }
 
 // The line of an answer.
@@ -59,10 +59,10 @@ pub fn put_line(a: AnswerRecord, out: &mut [u8], at: usize) -> usize
 {
     // A field that is an enum is copied before it is passed on.
     let reply = a.reply;
-    let numbers = put_operation(reply, out, at);
-    let answer = put_numbers(a, out, numbers);
-    let end = put_reply(reply, out, answer);
-    put_text(b"\n", out, end)
+    let after_name = put_operation(reply, out, at);
+    let after_numbers = put_numbers(a, out, after_name);
+    let after_reply = put_reply(reply, out, after_numbers);
+    put_text(b"\n", out, after_reply)
 }
 
 // The last line.
@@ -70,8 +70,8 @@ pub fn put_last(refusal: u32, taken: usize, out: &mut [u8], at: usize) -> usize
     requires { ⌜ at + length (lastLine refusal taken) ≤ length (now out) ⌝ }
     ensures { λ r. ⌜ Stored (now (out .entry)) at (lastLine refusal taken) (now (out .exit)) r ⌝ }
 {
-    let number = put_text(b"end", out, at);
-    let count = put_number(refusal as usize, out, number);
-    let end = put_number(taken, out, count);
-    put_text(b"\n", out, end)
+    let after_name = put_text(b"end", out, at);
+    let after_refusal = put_number(refusal as usize, out, after_name);
+    let after_taken = put_number(taken, out, after_refusal);
+    put_text(b"\n", out, after_taken)
 }

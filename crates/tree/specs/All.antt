@@ -11,5 +11,8 @@ use Rattle.tree.specs.Order.{total, opened, inRoot, lastAmong, lastRoot,
 use Rattle.tree.specs.Standing.{same, times, standsIn, firstOf, rootBlockOf, rankIn}
 
 unfoldable pub trees : Unit {0}
-unfolding flatMap following between heightFor shapeFor processes root leftOf rightOf parentOf leafOf heightIn heightOf lastPlace partWords partStart wordsNeeded partOf withPart wordIn blockIn wordsOf withBlock blockAt withBlockAt absent subblocks headOf block write writeIfAbsent withSuper setSuper raise rootSize total opened inRoot lastAmong lastRoot placed blockOrder rootOrder rootOperations rootPuts same times standsIn firstOf rootBlockOf rankIn
+unfolding flatMap following between heightFor shapeFor processes root leftOf rightOf parentOf leafOf heightIn heightOf
+    lastPlace partWords partStart wordsNeeded partOf withPart wordIn blockIn wordsOf withBlock blockAt withBlockAt
+    absent subblocks headOf block write writeIfAbsent withSuper setSuper raise rootSize total opened inRoot lastAmong
+    lastRoot placed blockOrder rootOrder rootOperations rootPuts same times standsIn firstOf rootBlockOf rankIn
 trees = tt

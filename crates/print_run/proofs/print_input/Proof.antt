@@ -66,9 +66,10 @@ put-printed-requires c κs = omega (arith, few _ _ _ _ (c .before .before .befor
 returns-2 : tie.Need-returns-2
 unfolding runText runLeft
 returns-2 c =
-    let ran = c .before .before .before .before .before .before .run in (
+    let ran = c .before .before .before .before .before .before .run in
+    let short = c .before .before .before .before .before .before .before .before .before .if1 .left in (
       counts _ _ (omega (arith, stored-length (c .put-printed .ensures .0), few _ _ _ _ (ran .ensures .0))),
-      λ input read. rw (printed-run read (c .before .before .before .before .before .before .before .before .before .if1 .left), ← ran .ensures .0, ← c .before .before .number .ensures) (c .put-printed .ensures .0),
+      λ input read. rw (printed-run read short, ← ran .ensures .0, ← c .before .before .number .ensures) (c .put-printed .ensures .0),
     )
 
 pub print-input-spec : {M : Type 1} → statement M
