@@ -25,7 +25,7 @@ use Rattle.search.proofs.Holding.{CountsAs, HoldsAs}
 use Rattle.search.proofs.Words.{wordOf, side-cases, side-word, part-fits, end-word}
 use Rattle.tree.proofs.Places.{node-part, node-headed, written-place}
 use Rattle.search.proofs.ChildReads.{end-place, end-total}
-use Rattle.search.proofs.Rooted.{end-reaches}
+use Rattle.search.proofs.HeldBelow.{end-reaches}
 use Rattle.search.proofs.NumbersUp.{besideTotal, number-low, number-high, number-rank}
 use Rattle.tree.specs.Layout.{blockWords}
 

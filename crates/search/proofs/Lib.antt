@@ -1,7 +1,7 @@
 pub mod Holding
 pub mod Firsts
 pub mod Words
-pub mod Rooted
+pub mod HeldBelow
 pub mod NumbersUp
 pub mod Ascent
 pub mod LeafHolds
