@@ -1,12 +1,12 @@
 // The loop that plays a list of records. Run, list the order and check a log share it: they differ in what they do with its answers.
 use crate::Outcome;
-use crate::records::is_idle;
-use crate::records::opened;
-use crate::records::rested;
+use crate::records::operation_of;
 use answer::answers::answer_of;
 use log::compare::equal_after;
 use log::write::write_answer;
 use record::bytes::word_at;
+use refusals::begin::begin_refusal;
+use refusals::numbers::accepted;
 use rules::Refusal;
 use steps::Process;
 use steps::Status;
@@ -32,7 +32,7 @@ ghost use Rattle.record.specs.StepRecords.{stepRecords};
 ghost use Rattle.tree.specs.Shape.{processes};
 ghost use Rattle.rules.specs.Refusals.{shapeFor};
 ghost use Rattle.rules.specs.Run.{play as played};
-ghost use Rattle.player.specs.Contracts.Playing.{Starts, Leaves};
+ghost use Rattle.player.specs.Contracts.PlayCalls.{AtStart, PlayResult};
 
 // What the loop comes to.
 fn ended(refusal: Refusal, taken: usize, answers: usize, equal: usize) -> Outcome
@@ -60,8 +60,8 @@ pub fn play(
     out: &mut [u8],
     log: &[u8],
 ) -> Outcome
-    requires { ⌜ Starts (shapeFor p l) (now starts) (now heads) (now table) room (length (now out)) × (processes (shapeFor p l) ≡ p) ⌝ }
-    ensures { λ r. ⌜ Leaves (played (shapeFor p l) room (stepRecords (now (records .entry)))) (now (log .entry)) (now (out .entry)) r (now (table .exit)) (now (heads .exit)) (now (out .exit)) ⌝ }
+    requires { ⌜ AtStart (shapeFor p l) (now starts) (now heads) (now table) room (length (now out)) × (processes (shapeFor p l) ≡ p) ⌝ }
+    ensures { λ r. ⌜ PlayResult (played (shapeFor p l) room (stepRecords (now (records .entry)))) (now (log .entry)) (now (out .entry)) r (now (table .exit)) (now (heads .exit)) (now (out .exit)) ⌝ }
 {
     let idle = Process::start();
     let mut procs = [idle; 8];
@@ -155,7 +155,7 @@ pub fn play(
                             write_answer(out, answers, a);
                             answers = answers + 1;
                             free = free - 16;
-                            procs[k] = rested(q);
+                            procs[k] = q.rested();
                             continue;
                         }
                     },
@@ -168,14 +168,11 @@ pub fn play(
         }
         let k = wide(r.process);
         let q = procs[k];
-        let status = q.status;
-        if !is_idle(status) {
-            return ended(Refusal::BeginWhileBusy, i, answers, equal);
+        let refusal = begin_refusal(l, q);
+        if !accepted(refusal) {
+            return ended(refusal, i, answers, equal);
         }
-        if l <= q.begun {
-            return ended(Refusal::BegunAll, i, answers, equal);
-        }
-        procs[k] = opened(q, r);
+        procs[k] = q.entered(operation_of(r));
     }
     ended(Refusal::None, n, answers, equal)
 }

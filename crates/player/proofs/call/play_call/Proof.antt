@@ -4,7 +4,7 @@ use mathlib.Core.Path.{sym, _∙_}
 use lib.Seq.{length-take-le}
 use borrow.Author.Needs.{needs}
 use Rattle.refusals.proofs.Limits.{allowed-most, allowed-width}
-use Rattle.player.proofs.Calls.{call-fits, call-starts, call-words, call-rest}
+use Rattle.player.proofs.PlayCallLaws.{call-fits, call-starts, call-words, call-rest}
 use Rattle.player.proofs.call.play_call.Statement.{statement}
 use Rattle.player.proofs.call.play_call.Tie as tie
 
@@ -44,7 +44,7 @@ play-requires c κs =
     let w = c .before .before .before .before .before .before .before .before .before in
     let a = c .before .before .before .before .before .before .before .before .before .before .before .before .before .before .before .before .before in (
       rw (c .before .before .before .before .before .before .before .clear .ensures) (call-starts _ _ _ _ _ _ (a .pre) _ _ _ (w .before .before .height-for .ensures .0) (w .before .wide .ensures) (w .words-needed .ensures .0) _ _ (c .before .before .before .before .starts .ensures .0)),
-      allowed-width _ _ (a .pre .some),
+      allowed-width _ _ (a .pre .processes),
     )
 
 same-length : tie.Need-same-length

@@ -11,7 +11,7 @@ use Rattle.steps.specs.Contracts.Ready.{Laid}
 use Rattle.rules.specs.Refusals.{heightFor, shapeFor}
 use Rattle.rules.proofs.Theorem.{tall-for}
 use Rattle.refusals.proofs.Limits.{allowed-most, allowed-width, shape-is, needed-for, short-for}
-use Rattle.player.specs.Contracts.Playing.{Callable, Starts}
+use Rattle.player.specs.Contracts.PlayCalls.{Callable, AtStart}
 
 -- the starts that are worked out are those of the tree for p processes of at most l operations
 pub laid-for : (p l h w : ℕ) → h ≡ heightFor p → w ≡ l → (firsts heads : List ℕ)
@@ -36,10 +36,10 @@ module _ (p l : ℕ) (heads : List ℕ) (words room bytes : ℕ) (k : Callable p
     call-fits = omega (arith, needed-is, k .enough)
 
     pub call-starts : (firsts rest : List ℕ) → ((v : ℕ) → v ≤ 2 * processes (record { height = h; most = w }) → getD firsts v 0 ≡ partStart (record { height = h; most = w }) v)
-        → Starts s firsts heads (take needed (replicate needed 0 ++ rest)) room bytes
+        → AtStart s firsts heads (take needed (replicate needed 0 ++ rest)) room bytes
     unfolding shapeFor
     call-starts firsts rest parts =
-        let width : processes s ≡ p = allowed-width p l (k .some) in
+        let width : processes s ≡ p = allowed-width p l (k .processes) in
         record {
           inner = tall-for p l;
           tall = short-for p l;
