@@ -1,4 +1,5 @@
--- A record in the loop of `play` that is not a step: it is ill-formed, or a begin. Used by proofs; no exported promise names it.
+-- A record in the loop of `play` that is not a step: it is ill-formed, or a begin. Used by proofs; no exported promise
+-- names it.
 use Prim.Native.Nat.{ℕ, _+_, _*_, _≤_, _<_}
 use native.Mathlib.Omega.{arith}
 use mathlib.Core.Path.{_≡_, refl, ap, sym, _∙_, subst}

@@ -16,7 +16,8 @@ ghost use Rattle.rules.specs.Refusals.{shapeFor};
 ghost use Rattle.rules.specs.Run.{play as played};
 ghost use Rattle.player.specs.Contracts.PlayCalls.{Callable, PlayResult};
 
-// Plays the records of a call with p and l, which are allowed, and a table that is long enough. Table words past those needed stay.
+// Plays the records of a call with p and l, which are allowed, and a table that is long enough. Table words past those
+// needed stay.
 pub fn play_call(
     p: u32,
     l: u32,

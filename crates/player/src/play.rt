@@ -1,4 +1,5 @@
-// The loop that plays a list of records. Run, list the order and check a log share it: they differ in what they do with its answers.
+// The loop that plays a list of records. Run, list the order and check a log share it: they differ in what they do with
+// its answers.
 use crate::Outcome;
 use crate::records::operation_of;
 use answer::answers::answer_of;
@@ -46,9 +47,10 @@ fn ended(refusal: Refusal, taken: usize, answers: usize, equal: usize) -> Outcom
     }
 }
 
-// Plays the records from the start, where there is room for `room` bytes of answers. Each answer is written to `out`, if that has any bytes, and compared with the one in the
-// same place of `log`. A step is told from the other records by two words, which is all that most records are. Each named step has its own arm, which reads the process again
-// and stores it, so that a step loads and stores only the registers that it uses.
+// Plays the records from the start, where there is room for `room` bytes of answers. Each answer is written to `out`, if
+// that has any bytes, and compared with the one in the same place of `log`. A step is told from the other records by two
+// words, which is all that most records are. Each named step has its own arm, which reads the process again and stores
+// it, so that a step loads and stores only the registers that it uses.
 pub fn play(
     p: u32,
     l: u32,

@@ -14,7 +14,8 @@ use Rattle.rules.specs.Run.{Played}
 use Rattle.log.specs.Contracts.Leading.{leadingOf, written}
 use Rattle.player.specs.declared.Outcome.{Outcome}
 
--- the memory is that of the start, of a tree of shape s whose parts begin at the starts, and there are `room` answer bytes or none
+-- the memory is that of the start, of a tree of shape s whose parts begin at the starts, and there are `room` answer
+-- bytes or none
 pub record AtStart (s : Shape) (starts heads table : List ℕ) (room bytes : ℕ) : Type 0 where
   pub inner : 1 ≤ s .height
   pub tall : s .height ≤ 3
@@ -24,7 +25,8 @@ pub record AtStart (s : Shape) (starts heads table : List ℕ) (room bytes : ℕ
   pub ones : heads ≡ replicate (2 * processes s) 1
   pub bounded : (bytes ≡ 0) ⊎ (bytes ≡ room)
 
--- the outcome, the memory and the answer bytes are those of g, whose answers were written in some bytes and compared with a log
+-- the outcome, the memory and the answer bytes are those of g, whose answers were written in some bytes and compared
+-- with a log
 pub record PlayResult (g : Played) (log before : List ℕ) (o : Outcome) (table heads out : List ℕ) : Type 0 where
   pub refusal : o .refusal ≡ g .refusal
   pub taken : o .taken ≡ g .taken

@@ -8,7 +8,7 @@ use borrow.Author.Needs.{needs}
 use borrow.Author.Tests.{not-true, not-false}
 use Rattle.steps.specs.Process.{idle}
 use Rattle.player.proofs.LoopInvariant.{loop-start, loop-narrow, loop-ends}
-use Rattle.player.proofs.StepLoop.{step-named, step-busy, step-low, step-playing, step-idle, finish-full, finish-moves}
+use Rattle.player.proofs.StepLoop.{step-low, step-idle}
 use Rattle.player.proofs.BeginLoop.{other-ill, begin-few, begin-refused, begin-moves}
 use Rattle.player.proofs.play.play.Proof.Places.{Inv-loop, μ-loop, few, step-at, recordOf, found, slot, few-steps, few-answers, other-at, well, begin-slot}
 use Rattle.player.proofs.play.play.Proof.Arms as arms
@@ -22,35 +22,6 @@ loop-holds c = rw (c .start .ensures) (loop-start _ (c .before .before .before .
 refused-idle : tie.Need-returns Inv-loop μ-loop
 unfolding idle
 refused-idle c = rw (c .ended .ensures) (step-idle (step-at (c .before .before .before .before)) (c .before .enum-told .given .1))
-
-refused-full : tie.Need-returns-2 Inv-loop μ-loop
-unfolding idle
-refused-full c =
-    let b = c .before .before .before .before in
-    let f = found b in
-    let busy = b .before .status .given .1 in
-    rw (c .ended2 .ensures) (finish-full f (step-busy f busy refl (step-named f busy (c .before .before .enum-told15 .given .1))) (c .before .if3 .taken))
-
-ready-q : tie.Need-answer-of-requires Inv-loop μ-loop
-unfolding idle
-ready-q c κs =
-    let b = c .before .before .before .before .before .before .before in
-    let f = found b in
-    let busy = b .before .status .given .1 in
-    (step-playing f, step-busy f busy (c .operation-in .ensures) (step-named f busy (c .before .before .before .before .before .enum-told15 .given .1)))
-
-again-q : tie.Need-loop-again-14 Inv-loop μ-loop
-unfolding idle
-again-q c =
-    let w = c .before .before .before in
-    let a = w .before .before .before in
-    let e = a .before .before .before .before .before in
-    let b = e .before .before .before in
-    let f = found b in
-    let busy = b .before .status .given .1 in
-    rw (c .rested .ensures)
-    (finish-moves f (step-busy f busy (a .before .operation-in .ensures) (step-named f busy (e .before .enum-told15 .given .1))) (e .if3 .left) _ _ _ (w .write-answer .kept .0)
-    (a .answer-of .ensures .0) (w .before .before .equal-after .ensures) (w .write-answer .ensures))
 
 refused-ill : tie.Need-returns-3 Inv-loop μ-loop
 refused-ill c = rw (c .ended3 .ensures) (other-ill (other-at (c .before .before .before)) (sym (c .before .before .ill-formed .ensures) ∙ c .before .if4 .taken))
@@ -244,11 +215,11 @@ play-spec =
     (λ c. search needs)
     (λ c. search needs)
     (λ c. search needs)
-    refused-full
+    arms.full-q
     (λ c. record { fits = omega (arith, slot (c .before .before .before)) })
     (λ c. slot (c .before .before .before))
     arms.busy-q
-    ready-q
+    arms.ready-q
     (λ c κs. (omega (arith, few-answers (c .before .before .before .before .before)), c .answer-of .ensures .1 .0, c .answer-of .ensures .1 .1))
     (λ c κs. (omega (arith, few-answers (c .before .before .before .before .before .before .before)), c .before .before .answer-of .ensures .1 .0, c .before .before .answer-of .ensures .1 .1))
     (λ c. record { fits = omega (arith, few-answers (c .before .before .before .before .before .before .before .before .before .before)) })
@@ -257,7 +228,7 @@ play-spec =
     (λ c. slot (c .before .before .before .before .before .before .before .before .before .before .before .before .before .before))
     (λ c. record { fits = few (recordOf (c .before .before .before .before .before .before .before .before .before .before .before .before .before .before)) })
     (λ c. omega (arith, recordOf (c .before .before .before .before .before .before .before .before .before .before .before .before .before .before) .loop-test .taken))
-    again-q
+    arms.again-q
     -- another record
     (λ c κs. omega (arith, c .before .before .before .loop-test .taken))
     (λ c κs. search needs)
