@@ -6,7 +6,7 @@ use mathlib.Core.Bool.{Bool, true, false, not, _&&_, _||_, true≢false}
 use mathlib.Core.List.{List, [], _∷_, _++_}
 use lib.ListN.{length}
 use lib.Dec.{ltb, leb, eqb}
-use borrow.Author.Tests.{leb-false, ltb-false, not-false}
+use borrow.Author.Tests.{leb-false, ltb-false, not-true, not-false}
 use Rattle.base.specs.Choice.{if_then_else_}
 use Rattle.base.proofs.Cases.{cases, or-false}
 use Rattle.record.specs.declared.StepRecord.{StepRecord}
@@ -21,7 +21,7 @@ use Rattle.steps.specs.Machine.{Machine, processOf, isIdle, isQ, atQ}
 use Rattle.calls.specs.declared.Refusal.{Refusal}
 use Rattle.calls.specs.declared.Refusal.the-variants.{IllFormed, BeginWhileBusy, StepWhileIdle, BegunAll, AnswersFull}
 use Rattle.calls.specs.Answer.{answersFrom, answersOf}
-use Rattle.calls.specs.Refusals.{refusalNumber, accepted, beginsWhileBusy, stepsWhileIdle, beginsAfterAll, finishesWithoutRoom, recordRefusal}
+use Rattle.calls.specs.Refusals.{refusalNumber, accepted, beginRefusal, stepRefusal, recordRefusal}
 use Rattle.calls.specs.Run.{recordAnswers}
 use Rattle.calls.specs.History.{machineAfter}
 
@@ -52,6 +52,10 @@ pub not-step : (r : StepRecord) → isStep r ≡ false → isBegin r ≡ true
 unfolding isBegin
 not-step r e = rw e
 
+no-step : (r : StepRecord) → isBegin r ≡ true → isStep r ≡ false
+unfolding isBegin
+no-step r e = not-true (isStep r) e
+
 pub not-begin : (r : StepRecord) → isStep r ≡ true → isBegin r ≡ false
 unfolding isBegin
 not-begin r e = rw e
@@ -61,23 +65,25 @@ passed : (b : Bool) (n rest : Refusal) → accepted n ≡ false → accepted (if
 passed true n rest z h = absurd (true≢false (cc))
 passed false n rest z h = (refl, h)
 
--- the tests of a record, all failed
-record Unrefused (s : Shape) (room : ℕ) (q : Process) (r : StepRecord) : Type 0 where
-  formed : illFormed (processes s) r ≡ false
-  begins-idle : beginsWhileBusy q r ≡ false
-  steps-busy : stepsWhileIdle q r ≡ false
-  begins-within : beginsAfterAll s q r ≡ false
-  has-room : finishesWithoutRoom room q r ≡ false
+-- the tests of a begin, of a step and of a record, all failed
+begin-passed : (l : ℕ) (q : Process) → accepted (beginRefusal l q) ≡ true → (isIdle (q .status) ≡ true) × (q .begun < l)
+unfolding beginRefusal accepted refusalNumber
+begin-passed l q h =
+    let a = passed (not (isIdle (q .status))) BeginWhileBusy _ refl h in
+    let b = passed (leb l (q .begun)) BegunAll _ refl (a .1) in
+    (not-false (isIdle (q .status)) (a .0), leb-false l (q .begun) (b .0))
 
-unrefused : (s : Shape) (room : ℕ) (q : Process) (r : StepRecord) → accepted (recordRefusal s room q r) ≡ true → Unrefused s room q r
+step-passed : (room : ℕ) (q : Process) → accepted (stepRefusal room q) ≡ true → (isIdle (q .status) ≡ false) × (atQ (q .status) && ltb room answerSize ≡ false)
+unfolding stepRefusal accepted refusalNumber
+step-passed room q h =
+    let a = passed (isIdle (q .status)) StepWhileIdle _ refl h in
+    let b = passed (atQ (q .status) && ltb room answerSize) AnswersFull _ refl (a .1) in
+    (a .0, b .0)
+
+record-passed : (s : Shape) (room : ℕ) (q : Process) (r : StepRecord) → accepted (recordRefusal s room q r) ≡ true
+    → (illFormed (processes s) r ≡ false) × (accepted (if isStep r then stepRefusal room q else beginRefusal (s .most) q) ≡ true)
 unfolding recordRefusal accepted refusalNumber
-unrefused s room q r h =
-    let a = passed (illFormed (processes s) r) IllFormed _ refl h in
-    let b = passed (beginsWhileBusy q r) BeginWhileBusy _ refl (a .1) in
-    let c = passed (stepsWhileIdle q r) StepWhileIdle _ refl (b .1) in
-    let d = passed (beginsAfterAll s q r) BegunAll _ refl (c .1) in
-    let e = passed (finishesWithoutRoom room q r) AnswersFull _ refl (d .1) in
-    record { formed = a .0; begins-idle = b .0; steps-busy = c .0; begins-within = d .0; has-room = e .0 }
+record-passed s room q r h = passed (illFormed (processes s) r) IllFormed _ refl h
 
 formed-low : (p : ℕ) (r : StepRecord) → illFormed p r ≡ false → r .process < p
 unfolding illFormed
@@ -93,15 +99,15 @@ idle-status Idle e = refl
 idle-status (Busy o n) e = absurd (true≢false (cc))
 
 pub accept : (s : Shape) (room : ℕ) (m : Machine) (r : StepRecord) → accepted (recordRefusal s room (processOf m (r .process)) r) ≡ true → Accepted s m r
-unfolding beginsWhileBusy stepsWhileIdle beginsAfterAll
 accept s room m r h =
     let q : Process = processOf m (r .process) in
-    let u : Unrefused s room q r = unrefused s room q r h in
+    let u = record-passed s room q r h in
+    let begins : isBegin r ≡ true → (isIdle (q .status) ≡ true) × (q .begun < s .most) = λ e. begin-passed (s .most) q (rw (no-step r e) at (u .1)) in
     record {
-      process-low = formed-low (processes s) r (u .formed);
-      idle = λ e. idle-status (q .status) (not-false (isIdle (q .status)) (rw e at (u .begins-idle)));
-      within = λ e. leb-false (s .most) (q .begun) (rw e at (u .begins-within));
-      busy = λ e. rw e at (u .steps-busy);
+      process-low = formed-low (processes s) r (u .0);
+      idle = λ e. idle-status (q .status) (begins e .0);
+      within = λ e. begins e .1;
+      busy = λ e. step-passed room q (rw e at (u .1)) .0;
     }
 
 -- the answers that it gives have room
@@ -113,8 +119,10 @@ status-room s room m k (Busy o n) e =
 
 pub answers-room : (s : Shape) (room : ℕ) (m : Machine) (r : StepRecord) → accepted (recordRefusal s room (processOf m (r .process)) r) ≡ true
     → answerSize * length (recordAnswers s m r) ≤ room
-unfolding finishesWithoutRoom recordAnswers answersOf answerSize
+unfolding recordAnswers answersOf answerSize
 answers-room s room m r h =
     let q : Process = processOf m (r .process) in
-    let u : Unrefused s room q r = unrefused s room q r h in
-    cases (λ (l : List AnswerRecord). 16 * length l ≤ room) (isStep r) (λ z. status-room s room m (r .process) (q .status) (rw z at (u .has-room))) (λ z. omega arith)
+    let u = record-passed s room q r h in
+    cases (λ (l : List AnswerRecord). 16 * length l ≤ room) (isStep r)
+    (λ z. status-room s room m (r .process) (q .status) (step-passed room q (rw z at (u .1)) .1))
+    (λ z. omega arith)

@@ -4,7 +4,7 @@ use mathlib.Core.Bool.{Bool, not, _&&_}
 use lib.Dec.{ltb, leb, eqb}
 use Rattle.base.specs.Choice.{if_then_else_}
 use Rattle.record.specs.declared.StepRecord.{StepRecord}
-use Rattle.record.specs.StepRecords.{stepSize, isStep, isBegin, illFormed}
+use Rattle.record.specs.StepRecords.{stepSize, isStep, illFormed}
 use Rattle.record.specs.AnswerRecords.{answerSize}
 use Rattle.tree.specs.Shape.{Shape, processes, shapeFor}
 use Rattle.tree.specs.Layout.{wordsNeeded}
@@ -45,25 +45,23 @@ callRefusal p l words bytes =
     else if torn stepSize bytes then RecordsTorn
     else None
 
--- the tests of a record: q is its process, `room` the answer bytes left
-unfoldable pub beginsWhileBusy : Process → StepRecord → Bool
-beginsWhileBusy q r = isBegin r && not (isIdle (q .status))
+-- a begin by process q, where a process has at most l operations: 6, 8
+unfoldable pub beginRefusal : ℕ → Process → Refusal
+beginRefusal l q =
+    if not (isIdle (q .status)) then BeginWhileBusy
+    else if leb l (q .begun) then BegunAll
+    else None
 
-unfoldable pub stepsWhileIdle : Process → StepRecord → Bool
-stepsWhileIdle q r = isStep r && isIdle (q .status)
+-- a step of process q, where there are `room` answer bytes left: 7, 9
+unfoldable pub stepRefusal : ℕ → Process → Refusal
+stepRefusal room q =
+    if isIdle (q .status) then StepWhileIdle
+    else if atQ (q .status) && ltb room answerSize then AnswersFull
+    else None
 
-unfoldable pub beginsAfterAll : Shape → Process → StepRecord → Bool
-beginsAfterAll s q r = isBegin r && leb (s .most) (q .begun)
-
-unfoldable pub finishesWithoutRoom : ℕ → Process → StepRecord → Bool
-finishesWithoutRoom room q r = isStep r && atQ (q .status) && ltb room answerSize
-
--- a record: 5, 6, 7, 8, 9
+-- a record, whose process is q: 5, then the tests of a step or of a begin
 unfoldable pub recordRefusal : Shape → ℕ → Process → StepRecord → Refusal
 recordRefusal s room q r =
     if illFormed (processes s) r then IllFormed
-    else if beginsWhileBusy q r then BeginWhileBusy
-    else if stepsWhileIdle q r then StepWhileIdle
-    else if beginsAfterAll s q r then BegunAll
-    else if finishesWithoutRoom room q r then AnswersFull
-    else None
+    else if isStep r then stepRefusal room q
+    else beginRefusal (s .most) q

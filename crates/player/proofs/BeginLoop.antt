@@ -1,103 +1,88 @@
--- A record in the loop of `play` that is not a step: it is ill-formed, or a begin. Used by proofs; no exported promise names it.
+-- A record in the loop of `play` that is not a step: it is ill-formed, or a begin. Used by proofs; no exported promise
+-- names it.
 use Prim.Native.Nat.{ℕ, _+_, _*_, _≤_, _<_}
 use native.Mathlib.Omega.{arith}
 use mathlib.Core.Path.{_≡_, refl, ap, sym, _∙_, subst}
 use mathlib.Core.Bool.{Bool, true, false}
-use mathlib.Core.List.{List}
-use lib.ListN.{take, drop, getD, set}
+use lib.ListN.{take, drop, getD}
 use Rattle.record.specs.declared.StepRecord.{StepRecord}
 use Rattle.record.specs.Bytes.{numberOf}
-use Rattle.record.specs.StepRecords.{isStep, stepRecord, stepRecords, illFormed}
-use Rattle.tree.specs.Shape.{Shape, processes, shapeFor}
+use Rattle.record.specs.StepRecords.{isStep, stepRecord, illFormed}
+use Rattle.tree.specs.Shape.{processes, shapeFor}
 use Rattle.steps.specs.declared.Process.{Process}
 use Rattle.steps.specs.Process.{idle}
-use Rattle.steps.specs.Machine.{Machine, processOf, isIdle}
+use Rattle.steps.specs.Machine.{processOf}
+use Rattle.steps.specs.Contracts.Next.{entered}
 use Rattle.calls.specs.declared.Refusal.{Refusal}
-use Rattle.calls.specs.declared.Refusal.the-variants.{IllFormed, BeginWhileBusy, BegunAll}
-use Rattle.calls.specs.Run.{play}
+use Rattle.calls.specs.declared.Refusal.the-variants.{IllFormed}
+use Rattle.calls.specs.Refusals.{accepted, beginRefusal}
+use Rattle.calls.specs.Run.{operationOf}
 use Rattle.answer.proofs.PlaysLaws.{begun-small}
-use Rattle.answer.specs.Contracts.Playing.{machineOf, Plays}
-use Rattle.player.specs.Contracts.Turns.{Refused, Moved, opened, TurnOf}
-use Rattle.player.specs.Contracts.Playing.{Leaves}
 use Rattle.player.proofs.StepWords.{formed, step-words}
-use Rattle.player.proofs.TurnLaws.{refused-ill, refused-busy, refused-begun, turn-begins}
-use Rattle.player.proofs.Loop.{Loop, loop-narrow, loop-plays, loop-fits, loop-record, loop-refused, loop-moves}
+use Rattle.player.proofs.RecordResults.{Refused, Moved}
+use Rattle.player.proofs.ResultLaws as laws
+use Rattle.player.proofs.LoopStates.{Call, State, shapeOf, countOf, memoryOf, processesOf, machineAt, afterMove, PlaysAs, Gives, EndsWith}
+use Rattle.player.proofs.LoopInvariant.{LoopInvariant, loop-narrow, loop-plays, loop-fits, loop-record, loop-refused, loop-moves}
 
--- record i, which is before the last one, is r, and its words, `first` and `second`, are not those of a step. j is the place of its process among the processes
-pub record OtherAt (p l : ℕ) (starts records heads₀ table₀ : List ℕ) (room : ℕ) (out₀ log : List ℕ) (n : ℕ) (heads table out : List ℕ) (procs : List Process)
-    (answers equal left i first second : ℕ) (r : StepRecord) : Type 0
-  where
-    pub inv : Loop p l starts records heads₀ table₀ room out₀ log n heads table out procs answers equal left i
-    pub more : i < n
-    pub is : r ≡ stepRecord (take 8 (drop (8 * i) records))
-    pub word : first ≡ numberOf (take 4 (drop (8 * i) records))
-    pub other : second ≡ numberOf (take 4 (drop (8 * i + 4) records))
-    pub no-step : second ≡ 0 → p ≤ first
+-- record i, which is before the last one, is r, and its words, `first` and `second`, are not those of a step
+pub record OtherAt (c : Call) (t : State) (i first second : ℕ) (r : StepRecord) : Type 0 where
+  pub inv : LoopInvariant c t i
+  pub more : i < countOf c
+  pub is : r ≡ stepRecord (take 8 (drop (8 * i) (c .records)))
+  pub word : first ≡ numberOf (take 4 (drop (8 * i) (c .records)))
+  pub other : second ≡ numberOf (take 4 (drop (8 * i + 4) (c .records)))
+  pub no-step : second ≡ 0 → c .p ≤ first
 
-module _ {p l : ℕ} {starts records heads₀ table₀ : List ℕ} {room : ℕ} {out₀ log : List ℕ} {n : ℕ} {heads table out : List ℕ} {procs : List Process}
-    {answers equal left i first second : ℕ} {r : StepRecord}
-    (w : OtherAt p l starts records heads₀ table₀ room out₀ log n heads table out procs answers equal left i first second r)
-  where
-    abbrev s : Shape
-    s = shapeFor p l
+module _ {c : Call} {t : State} {i first second : ℕ} {r : StepRecord} (w : OtherAt c t i first second r) where
+  other-refused : (x : Refusal) → Gives c t r (memoryOf t) (Refused x) → EndsWith c t x i
+  other-refused = loop-refused (w .inv) (w .more) r (w .is ∙ loop-record (w .inv) (w .more))
 
-    abbrev m : Machine
-    m = machineOf table heads (take (processes s) procs)
+  pub other-ill : illFormed (c .p) r ≡ true → EndsWith c t IllFormed i
+  other-ill e =
+      other-refused IllFormed (laws.ill-refused (shapeOf c) (t .left) (machineAt c t) r (ap (λ (x : ℕ). illFormed x r) (w .inv .width) ∙ e))
 
-    other-refused : (x : Refusal) → TurnOf s left m r (record { table = table; heads = heads }) (Refused x)
-        → Leaves (play s room (stepRecords records)) log out₀ (record { refusal = x; taken = i; answers = answers; equal = equal }) table heads out
-    other-refused = loop-refused (w .inv) (w .more) r (w .is ∙ loop-record (w .inv) (w .more))
+  -- a well-formed one is a begin. j is the place of its process among the processes
+  module _ {j : ℕ} (well : illFormed (c .p) r ≡ false) (at : j ≡ r .process) where
+    abbrev q : Process
+    q = getD (t .procs) j idle
 
-    pub other-ill : illFormed p r ≡ true
-        → Leaves (play s room (stepRecords records)) log out₀ (record { refusal = IllFormed; taken = i; answers = answers; equal = equal }) table heads out
-    other-ill e = other-refused IllFormed (refused-ill s left m r (ap (λ (x : ℕ). illFormed x r) (w .inv .width) ∙ e))
+    low : r .process < c .p
+    low = formed (c .p) r well .low
 
-    -- a well-formed one is a begin
-    module _ {j : ℕ} (well : illFormed p r ≡ false) (at : j ≡ r .process) where
-      abbrev q : Process
-      q = getD procs j idle
+    pub begin-low : j < 8
+    begin-low = omega (arith, low, loop-narrow (w .inv))
 
-      low : r .process < p
-      low = formed p r well .low
+    plays : PlaysAs c t (r .process) q
+    plays = subst (λ (x : ℕ). PlaysAs c t (r .process) (getD (t .procs) x idle)) (sym at) (loop-plays (w .inv) (r .process) low)
 
-      pub begin-low : j < 8
-      begin-low = omega (arith, low, loop-narrow (w .inv))
+    pub begin-few : q .begun ≤ 500
+    begin-few = begun-small (shapeOf c) (processesOf c t) (c .starts) (t .heads) (t .table) (r .process) q plays
 
-      plays : Plays s (take (processes s) procs) starts heads table (r .process) q
-      plays = subst (λ (x : ℕ). Plays s (take (processes s) procs) starts heads table (r .process) (getD procs x idle)) (sym at) (loop-plays (w .inv) (r .process) low)
+    well-formed : illFormed (processes (shapeOf c)) r ≡ false
+    well-formed = ap (λ (x : ℕ). illFormed x r) (w .inv .width) ∙ well
 
-      pub begin-few : q .begun ≤ 500
-      begin-few = begun-small s (take (processes s) procs) starts heads table (r .process) q plays
+    begins : isStep r ≡ false
+    begins = on (isStep r) refl
+      where
+        on : (b : Bool) → isStep r ≡ b → isStep r ≡ false
+        on false e = e
+        on true e =
+            let h = step-words (c .records) (8 * i) (loop-fits (w .inv) (w .more)) (c .p) (ap (illFormed (c .p)) (sym (w .is)) ∙ well) (ap isStep (sym (w .is)) ∙ e) in
+            absurd (omega (arith, w .no-step (w .other ∙ h .1), w .word, h .0))
 
-      well-formed : illFormed (processes s) r ≡ false
-      well-formed = ap (λ (x : ℕ). illFormed x r) (w .inv .width) ∙ well
+    -- x is what it is refused for
+    module _ {x : Refusal} (is : x ≡ beginRefusal (c .l) q) where
+      tests : beginRefusal (c .l) (processOf (machineAt c t) (r .process)) ≡ x
+      tests = ap (beginRefusal (c .l)) (plays .here) ∙ sym is
 
-      begins : isStep r ≡ false
-      begins = on (isStep r) refl
-        where
-          on : (b : Bool) → isStep r ≡ b → isStep r ≡ false
-          on false e = e
-          on true e =
-              let h = step-words records (8 * i) (loop-fits (w .inv) (w .more)) p (ap (illFormed p) (sym (w .is)) ∙ well) (ap isStep (sym (w .is)) ∙ e) in
-              absurd (omega (arith, w .no-step (w .other ∙ h .1), w .word, h .0))
+      pub begin-refused : accepted x ≡ false → EndsWith c t x i
+      unfolding shapeFor
+      begin-refused e = other-refused x (laws.begin-refused (shapeOf c) (t .left) (machineAt c t) r well-formed begins x tests e)
 
-      pub begin-busy : isIdle (q .status) ≡ false
-          → Leaves (play s room (stepRecords records)) log out₀ (record { refusal = BeginWhileBusy; taken = i; answers = answers; equal = equal }) table heads out
-      begin-busy e = other-refused BeginWhileBusy (refused-busy s left m r well-formed begins (ap (λ (x : Process). isIdle (x .status)) (plays .here) ∙ e))
-
-      module _ (idles : isIdle (q .status) ≡ true) where
-        idles-here : isIdle (processOf m (r .process) .status) ≡ true
-        idles-here = ap (λ (x : Process). isIdle (x .status)) (plays .here) ∙ idles
-
-        pub begin-all : l ≤ q .begun
-            → Leaves (play s room (stepRecords records)) log out₀ (record { refusal = BegunAll; taken = i; answers = answers; equal = equal }) table heads out
-        unfolding shapeFor
-        begin-all h = other-refused BegunAll (refused-begun s left m r well-formed begins idles-here (omega (arith, ap (λ (x : Process). x .begun) (plays .here))))
-
-        pub begin-moves : q .begun < l → Loop p l starts records heads₀ table₀ room out₀ log n heads table out (set procs j (opened q r)) answers equal left (i + 1)
-        unfolding shapeFor
-        begin-moves h =
-            let t = turn-begins s left m r well-formed begins idles-here (omega (arith, ap (λ (x : Process). x .begun) (plays .here))) in
-            subst (λ (y : ℕ). Loop p l starts records heads₀ table₀ room out₀ log n heads table out (set procs y (opened q r)) answers equal left (i + 1)) (sym at)
-            (loop-moves (w .inv) (w .more) r (w .is ∙ loop-record (w .inv) (w .more)) (opened q r) table heads low refl refl
-            (subst (λ (x : Process). TurnOf s left m r (record { table = table; heads = heads }) (Moved (opened x r))) (plays .here) t))
+      pub begin-moves : accepted x ≡ true → LoopInvariant c (afterMove t j (entered q (operationOf r)) (memoryOf t)) (i + 1)
+      unfolding shapeFor
+      begin-moves e =
+          let given = laws.begin-moves (shapeOf c) (t .left) (machineAt c t) r well-formed begins (ap accepted tests ∙ e) in
+          subst (λ (k : ℕ). LoopInvariant c (afterMove t k (entered q (operationOf r)) (memoryOf t)) (i + 1)) (sym at)
+          (loop-moves (w .inv) (w .more) r (w .is ∙ loop-record (w .inv) (w .more)) (entered q (operationOf r)) (memoryOf t) low refl refl
+          (subst (λ (y : Process). Gives c t r (memoryOf t) (Moved (entered y (operationOf r)))) (plays .here) given))

@@ -1,9 +1,11 @@
 pub mod StepWords
-pub mod TurnLaws
-pub mod StepTurns
+pub mod RecordResults
+pub mod ResultLaws
 pub mod PlayLaws
-pub mod Going
-pub mod Loop
+pub mod LoopStates
+pub mod PlayedSoFar
+pub mod LoopInvariant
+pub mod StepResults
 pub mod StepLoop
 pub mod BeginLoop
-pub mod Calls
+pub mod PlayCallLaws

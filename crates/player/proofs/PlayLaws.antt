@@ -12,6 +12,7 @@ use Rattle.tree.specs.Memory.{Memory}
 use Rattle.steps.specs.declared.Operation.{Operation}
 use Rattle.steps.specs.declared.Process.{Process}
 use Rattle.steps.specs.Machine.{Machine, processOf, withProcess}
+use Rattle.steps.specs.Contracts.Next.{rested}
 use Rattle.calls.specs.declared.Refusal.{Refusal}
 use Rattle.calls.specs.declared.Refusal.the-variants.{None}
 use Rattle.calls.specs.Answer.{answerOf}
@@ -22,7 +23,7 @@ use Rattle.calls.proofs.Agrees.{Agrees}
 use Rattle.calls.proofs.Legal.{answersAlong}
 use Rattle.calls.proofs.Played.{played-machine, played-legal, over-stays, play-append}
 use Rattle.calls.proofs.Runs.{runs}
-use Rattle.player.specs.Contracts.Turns.{Refused, Moved, Finished, rested, TurnOf}
+use Rattle.player.proofs.RecordResults.{Refused, Moved, Finished, ResultOf}
 
 -- what the records that a run took did agrees with the machine that it left
 abbrev pub PlayedAs : Shape → List StepRecord → Machine → Type 0
@@ -43,7 +44,7 @@ module _ (s : Shape) (room : ℕ) (rs : List StepRecord) (going : play s room rs
   one-more : play s room (rs ++ (r ∷ [])) ≡ playRecord s room g r
   one-more = play-append s room rs (r ∷ [])
 
-  pub play-refused : (n : Memory) (x : Refusal) → TurnOf s leftOf (g .machine) r n (Refused x) → play s room (rs ++ (r ∷ [])) ≡ refusing g x
+  pub play-refused : (n : Memory) (x : Refusal) → ResultOf s leftOf (g .machine) r n (Refused x) → play s room (rs ++ (r ∷ [])) ≡ refusing g x
   unfolding playRecord answerSize accepted refusalNumber
   play-refused n x t = one-more ∙ rw (going, t .0) (rw (t .1))
 
@@ -58,13 +59,13 @@ module _ (s : Shape) (room : ℕ) (rs : List StepRecord) (going : play s room rs
       (ap (λ (x : Machine). record { machine = x; answers = g .answers ++ recordAnswers s (g .machine) r; taken = g .taken + 1; refusal = None }) em
       ∙ ap (λ (x : List AnswerRecord). record { machine = m; answers = g .answers ++ x; taken = g .taken + 1; refusal = None }) ea)
 
-  pub play-moved : (n : Memory) (q : Process) → TurnOf s leftOf (g .machine) r n (Moved q)
+  pub play-moved : (n : Memory) (q : Process) → ResultOf s leftOf (g .machine) r n (Moved q)
       → play s room (rs ++ (r ∷ [])) ≡ record { machine = withProcess (g .machine) (r .process) q n; answers = g .answers; taken = g .taken + 1; refusal = None }
   play-moved n q t =
       taken-as (t .0) _ (t .2) [] (t .1)
       ∙ ap (λ (x : List AnswerRecord). record { machine = withProcess (g .machine) (r .process) q n; answers = x; taken = g .taken + 1; refusal = None }) (append-nil (g .answers))
 
-  pub play-finished : (n : Memory) (o : Operation) → TurnOf s leftOf (g .machine) r n (Finished o)
+  pub play-finished : (n : Memory) (o : Operation) → ResultOf s leftOf (g .machine) r n (Finished o)
       → play s room (rs ++ (r ∷ []))
       ≡ record {
         machine = withProcess (g .machine) (r .process) (rested (processOf (g .machine) (r .process))) n;

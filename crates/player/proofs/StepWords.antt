@@ -1,4 +1,5 @@
--- A step record is told by its two words: the first is its process, the second 0. Used by proofs; no exported promise names it.
+-- A step record is told by its two words: the first is its process, the second 0. Used by proofs; no exported promise
+-- names it.
 use Prim.Native.Nat.{ℕ, _+_, _*_, _≤_, _<_}
 use native.Mathlib.Omega.{arith}
 use mathlib.Core.Path.{_≡_, ap, _∙_, sym, subst}

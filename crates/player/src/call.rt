@@ -14,9 +14,10 @@ ghost use Rattle.record.specs.StepRecords.{stepRecords};
 ghost use Rattle.tree.specs.Layout.{wordsNeeded};
 ghost use Rattle.tree.specs.Shape.{shapeFor};
 ghost use Rattle.calls.specs.Run.{play as played};
-ghost use Rattle.player.specs.Contracts.Playing.{Callable, Leaves};
+ghost use Rattle.player.specs.Contracts.PlayCalls.{Callable, PlayResult};
 
-// Plays the records of a call with p and l, which are allowed, and a table that is long enough. Table words past those needed stay.
+// Plays the records of a call with p and l, which are allowed, and a table that is long enough. Table words past those
+// needed stay.
 pub fn play_call(
     p: u32,
     l: u32,
@@ -28,7 +29,7 @@ pub fn play_call(
     log: &[u8],
 ) -> Outcome
     requires { ⌜ Callable p l (now heads) (length (now table)) room (length (now out)) ⌝ }
-    ensures leaves { λ r. ⌜ Leaves (played (shapeFor p l) room (stepRecords (now (records .entry)))) (now (log .entry)) (now (out .entry)) r
+    ensures leaves { λ r. ⌜ PlayResult (played (shapeFor p l) room (stepRecords (now (records .entry)))) (now (log .entry)) (now (out .entry)) r
         (take (wordsNeeded (shapeFor p l)) (now (table .exit))) (now (heads .exit)) (now (out .exit)) ⌝ }
     ensures rest { λ _. ⌜ drop (wordsNeeded (shapeFor p l)) (now (table .exit)) ≡ drop (wordsNeeded (shapeFor p l)) (now (table .entry)) ⌝ }
 {
@@ -60,7 +61,7 @@ pub fn play_unanswered(
     log: &[u8],
 ) -> Outcome
     requires { ⌜ Callable p l (now heads) (length (now table)) 0 0 ⌝ }
-    ensures leaves { λ r. ⌜ Leaves (played (shapeFor p l) (2 * length (now (records .entry))) (stepRecords (now (records .entry)))) (now (log .entry)) [] r
+    ensures leaves { λ r. ⌜ PlayResult (played (shapeFor p l) (2 * length (now (records .entry))) (stepRecords (now (records .entry)))) (now (log .entry)) [] r
         (take (wordsNeeded (shapeFor p l)) (now (table .exit))) (now (heads .exit)) [] ⌝ }
     ensures rest { λ _. ⌜ drop (wordsNeeded (shapeFor p l)) (now (table .exit)) ≡ drop (wordsNeeded (shapeFor p l)) (now (table .entry)) ⌝ }
 {

@@ -1,13 +1,14 @@
-// The loop that plays a list of records. Run, list the order and check a log share it: they differ in what they do with its answers.
+// The loop that plays a list of records. Run, list the order and check a log share it: they differ in what they do with
+// its answers.
 use crate::Outcome;
-use crate::records::is_idle;
-use crate::records::opened;
-use crate::records::rested;
+use crate::records::operation_of;
 use answer::answers::answer_of;
 use calls::Refusal;
 use log::compare::equal_after;
 use log::write::write_answer;
 use record::bytes::word_at;
+use refusals::begin::begin_refusal;
+use refusals::numbers::accepted;
 use steps::Process;
 use steps::Status;
 use steps::Step;
@@ -31,7 +32,7 @@ ghost use lib.ListN.{length};
 ghost use Rattle.record.specs.StepRecords.{stepRecords};
 ghost use Rattle.tree.specs.Shape.{processes, shapeFor};
 ghost use Rattle.calls.specs.Run.{play as played};
-ghost use Rattle.player.specs.Contracts.Playing.{Starts, Leaves};
+ghost use Rattle.player.specs.Contracts.PlayCalls.{AtStart, PlayResult};
 
 // What the loop comes to.
 fn ended(refusal: Refusal, taken: usize, answers: usize, equal: usize) -> Outcome
@@ -45,9 +46,10 @@ fn ended(refusal: Refusal, taken: usize, answers: usize, equal: usize) -> Outcom
     }
 }
 
-// Plays the records from the start, where there is room for `room` bytes of answers. Each answer is written to `out`, if that has any bytes, and compared with the one in the
-// same place of `log`. A step is told from the other records by two words, which is all that most records are. Each named step has its own arm, which reads the process again
-// and stores it, so that a step loads and stores only the registers that it uses.
+// Plays the records from the start, where there is room for `room` bytes of answers. Each answer is written to `out`, if
+// that has any bytes, and compared with the one in the same place of `log`. A step is told from the other records by two
+// words, which is all that most records are. Each named step has its own arm, which reads the process again and stores
+// it, so that a step loads and stores only the registers that it uses.
 pub fn play(
     p: u32,
     l: u32,
@@ -59,8 +61,8 @@ pub fn play(
     out: &mut [u8],
     log: &[u8],
 ) -> Outcome
-    requires { ⌜ Starts (shapeFor p l) (now starts) (now heads) (now table) room (length (now out)) × (processes (shapeFor p l) ≡ p) ⌝ }
-    ensures { λ r. ⌜ Leaves (played (shapeFor p l) room (stepRecords (now (records .entry)))) (now (log .entry)) (now (out .entry)) r (now (table .exit)) (now (heads .exit)) (now (out .exit)) ⌝ }
+    requires { ⌜ AtStart (shapeFor p l) (now starts) (now heads) (now table) room (length (now out)) × (processes (shapeFor p l) ≡ p) ⌝ }
+    ensures { λ r. ⌜ PlayResult (played (shapeFor p l) room (stepRecords (now (records .entry)))) (now (log .entry)) (now (out .entry)) r (now (table .exit)) (now (heads .exit)) (now (out .exit)) ⌝ }
 {
     let idle = Process::start();
     let mut procs = [idle; 8];
@@ -154,7 +156,7 @@ pub fn play(
                             write_answer(out, answers, a);
                             answers = answers + 1;
                             free = free - 16;
-                            procs[k] = rested(q);
+                            procs[k] = q.rested();
                             continue;
                         }
                     },
@@ -167,14 +169,11 @@ pub fn play(
         }
         let k = wide(r.process);
         let q = procs[k];
-        let status = q.status;
-        if !is_idle(status) {
-            return ended(Refusal::BeginWhileBusy, i, answers, equal);
+        let refusal = begin_refusal(l, q);
+        if !accepted(refusal) {
+            return ended(refusal, i, answers, equal);
         }
-        if l <= q.begun {
-            return ended(Refusal::BegunAll, i, answers, equal);
-        }
-        procs[k] = opened(q, r);
+        procs[k] = q.entered(operation_of(r));
     }
     ended(Refusal::None, n, answers, equal)
 }

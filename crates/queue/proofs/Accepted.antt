@@ -12,7 +12,7 @@ use Rattle.calls.specs.Refusals.{accepted, callRefusal}
 use Rattle.tree.specs.Shape.{shapeFor}
 use Rattle.calls.proofs.CallAccepted.{accepted-processes, accepted-operations, accepted-enough}
 use Rattle.refusals.proofs.Limits.{allowed-most, allowed-width, short-for}
-use Rattle.player.specs.Contracts.Playing.{Callable}
+use Rattle.player.specs.Contracts.PlayCalls.{Callable}
 
 module _ (p l words bytes : ℕ) (ok : accepted (callRefusal p l words bytes) ≡ true) where
   pub accepted-narrow : p ≤ 8
@@ -27,7 +27,7 @@ module _ (p l words bytes : ℕ) (ok : accepted (callRefusal p l words bytes) �
   pub accepted-callable : (j room size : ℕ) → j ≡ p → (size ≡ 0) ⊎ (size ≡ room) → Callable p l (take (2 * j) (replicate 16 1)) words room size
   accepted-callable j room size e b =
       record {
-        some = accepted-processes p l words bytes ok;
+        processes = accepted-processes p l words bytes ok;
         most = accepted-operations p l words bytes ok;
         ones = take-replicate 1 (2 * j) 16 (omega (arith, accepted-narrow)) ∙ ap (λ (n : ℕ). replicate (2 * n) 1) e;
         enough = accepted-enough p l words bytes ok;

@@ -23,7 +23,7 @@ use Rattle.calls.proofs.CallAccepted.{accepted-whole, check-call, check-whole}
 use Rattle.log.specs.Contracts.Leading.{verdictOf}
 use Rattle.log.proofs.Compared.{verdict-compared}
 use Rattle.player.specs.declared.Outcome.{Outcome}
-use Rattle.player.specs.Contracts.Playing.{Leaves}
+use Rattle.player.specs.Contracts.PlayCalls.{PlayResult}
 use Rattle.queue.specs.Left.{checkLeft}
 use Rattle.queue.proofs.PlayAll.{plays-all, table-left}
 
@@ -51,7 +51,7 @@ module _ (p l : ℕ) (records log table : List ℕ) where
     is-all : g ≡ playAll s (stepRecords records)
     is-all = plays-all s records (accepted-whole p l (length table) (length records) (check-call p l (length table) (length records) (length log) ok))
 
-    module _ (o : Outcome) (before table' heads' out' : List ℕ) (leaves : Leaves g log before o (take (wordsNeeded s) table') heads' out')
+    module _ (o : Outcome) (before table' heads' out' : List ℕ) (leaves : PlayResult g log before o (take (wordsNeeded s) table') heads' out')
         (rest : drop (wordsNeeded s) table' ≡ drop (wordsNeeded s) table)
       where
         -- whatever the verdict, the table is as Run leaves it

@@ -22,9 +22,9 @@ use Rattle.calls.proofs.CallAccepted.{accepted-whole, accepted-processes, accep
 use Rattle.calls.proofs.Theorem.{tall-for}
 use Rattle.refusals.proofs.Limits.{allowed-most, short-for}
 use Rattle.player.specs.declared.Outcome.{Outcome}
-use Rattle.player.specs.Contracts.Playing.{Leaves}
+use Rattle.player.specs.Contracts.PlayCalls.{PlayResult}
 use Rattle.player.proofs.PlayLaws.{played-agrees}
-use Rattle.player.proofs.Calls.{laid-for}
+use Rattle.player.proofs.PlayCallLaws.{laid-for}
 use Rattle.queue.specs.declared.Listed.{Listed}
 use Rattle.queue.specs.Left.{listLeft}
 use Rattle.queue.specs.Contracts.Listing.{Listing, listFrom}
@@ -83,7 +83,7 @@ module _ (p l : ℕ) (records table output : List ℕ) where
     unfolding listOrder
     is-listed = ap (λ (x : Played). listPlayed s x table output) (plays-all s records (accepted-whole p l (length table) (length records) ok)) ∙ rw ok
 
-    module _ (o : Outcome) (log before table' heads' out' : List ℕ) (leaves : Leaves g log before o (take (wordsNeeded s) table') heads' out')
+    module _ (o : Outcome) (log before table' heads' out' : List ℕ) (leaves : PlayResult g log before o (take (wordsNeeded s) table') heads' out')
         (rest : drop (wordsNeeded s) table' ≡ drop (wordsNeeded s) table)
       where
         left : table' ≡ g .machine .memory .table ++ drop (wordsNeeded s) table

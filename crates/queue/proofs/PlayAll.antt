@@ -14,7 +14,7 @@ use Rattle.calls.specs.Run.{Played, play}
 use Rattle.calls.specs.ListOrder.{playAll}
 use Rattle.calls.proofs.CallAccepted.{whole-records}
 use Rattle.player.specs.declared.Outcome.{Outcome}
-use Rattle.player.specs.Contracts.Playing.{Leaves}
+use Rattle.player.specs.Contracts.PlayCalls.{PlayResult}
 
 module _ (s : Shape) (records : List ℕ) (whole : torn stepSize (length records) ≡ false) where
   -- 16 bytes for each 8
@@ -27,7 +27,7 @@ module _ (s : Shape) (records : List ℕ) (whole : torn stepSize (length records
   plays-all = ap (λ (n : ℕ). play s n (stepRecords records)) room-all
 
 -- the table that a call leaves: the words played, and those past them as they were
-pub table-left : (g : Played) (log before : List ℕ) (o : Outcome) (needed : ℕ) (table table' heads' out' : List ℕ) → Leaves g log before o (take needed table') heads' out'
+pub table-left : (g : Played) (log before : List ℕ) (o : Outcome) (needed : ℕ) (table table' heads' out' : List ℕ) → PlayResult g log before o (take needed table') heads' out'
     → drop needed table' ≡ drop needed table → table' ≡ g .machine .memory .table ++ drop needed table
 table-left g log before o needed table table' heads' out' leaves rest =
     sym (take-append-drop needed table')

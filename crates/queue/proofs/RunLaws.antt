@@ -17,7 +17,7 @@ use Rattle.superblocks.specs.Supers.{SupersNear, RunSupers}
 use Rattle.superblocks.proofs.RunSupers.{supers-run}
 use Rattle.log.proofs.Written.{written-fits}
 use Rattle.player.specs.declared.Outcome.{Outcome}
-use Rattle.player.specs.Contracts.Playing.{Leaves}
+use Rattle.player.specs.Contracts.PlayCalls.{PlayResult}
 use Rattle.queue.specs.Left.{runLeft}
 use Rattle.queue.proofs.PlayAll.{table-left}
 
@@ -36,7 +36,7 @@ module _ (p l : ℕ) (records table answers : List ℕ) where
 
   -- played
   module _ (ok : accepted (callRefusal p l (length table) (length records)) ≡ true) (o : Outcome) (log table' heads' answers' : List ℕ)
-      (leaves : Leaves g log answers o (take (wordsNeeded s) table') heads' answers')
+      (leaves : PlayResult g log answers o (take (wordsNeeded s) table') heads' answers')
       (rest : drop (wordsNeeded s) table' ≡ drop (wordsNeeded s) table)
     where
       pub run-left : runLeft (record { refusal = o .refusal; taken = o .taken; answers = o .answers }) table' answers' ≡ run p l records table answers

@@ -6,7 +6,10 @@ pub mod sequence;
 pub mod turn;
 
 ghost use mathlib.Core.Path.{_≡_};
+ghost use Prim.Native.Nat.{_<_};
+ghost use Rattle.steps.specs.Machine.{isIdle};
 ghost use Rattle.steps.specs.Process.{idle, processesAllowed, operationsAllowed};
+ghost use Rattle.steps.specs.Contracts.Next.{entered as enteredOf, rested as restedOf};
 
 // What a process is inside of: a put of a value, or a take.
 pub enum Operation {
@@ -126,6 +129,40 @@ impl Process {
             status: Status::Idle,
             begun: 0,
             steps: 0,
+        }
+    }
+
+    pub fn is_idle(self) -> bool
+        ensures { λ r. ⌜ r ≡ isIdle (self .status) ⌝ }
+    {
+        let status = self.status;
+        match status {
+            Status::Idle => true,
+            Status::Busy(_, _) => false,
+        }
+    }
+
+    // The process after a begin: it is inside of operation o and comes to A.
+    pub fn entered(self, o: Operation) -> Self
+        requires { ⌜ self .begun < 65536 ⌝ }
+        ensures { λ r. ⌜ r ≡ enteredOf self o ⌝ }
+    {
+        Process {
+            status: Status::Busy(o, Step::A),
+            begun: self.begun + 1,
+            steps: 0,
+        }
+    }
+
+    // The process after the last step of its operation.
+    pub fn rested(self) -> Self
+        requires { ⌜ self .steps < 65536 ⌝ }
+        ensures { λ r. ⌜ r ≡ restedOf self ⌝ }
+    {
+        Process {
+            status: Status::Idle,
+            begun: self.begun,
+            steps: self.steps + 1,
         }
     }
 

@@ -53,6 +53,14 @@ abbrev pub stepIn : Status → Step
 stepIn Idle = A
 stepIn (Busy o n) = n
 
+-- a process after a begin: it is inside of operation o and comes to A
+abbrev pub entered : Process → Operation → Process
+entered q o = record { status = Busy o A; begun = q .begun + 1; steps = 0 }
+
+-- a process after the last step of its operation
+unfoldable pub rested : Process → Process
+rested q = record { status = Idle; begun = q .begun; steps = q .steps + 1 }
+
 -- a process after a step of operation o, with step n next
 abbrev pub moved : Process → Operation → Step → Process
 moved q o n = record { status = Busy o n; begun = q .begun; steps = q .steps + 1 }

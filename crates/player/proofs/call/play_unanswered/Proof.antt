@@ -19,7 +19,7 @@ slice-aggregate-play-call c = search needs
 play-call-requires : tie.Need-play-call-requires
 play-call-requires c κs =
     let k = c .before .before .before .before .before .before .before .pre in
-    record { some = k .some; most = k .most; ones = k .ones; enough = k .enough; bounded = inl refl }
+    record { processes = k .processes; most = k .most; ones = k .ones; enough = k .enough; bounded = inl refl }
 
 same-length : tie.Need-same-length
 same-length c = search needs

@@ -1,74 +1,42 @@
--- `play::play` meets its contract. The loop's invariant is `Loop`; the measure is what is left of the records. Assumes nothing.
+-- `play::play` meets its contract. The loop's invariant is `LoopInvariant`; the measure is what is left of the records.
+-- Assumes nothing.
 mod Places
 mod Arms
 use native.Mathlib.Omega.{arith}
-use mathlib.Core.Path.{refl, sym, _∙_}
+use mathlib.Core.Path.{sym, _∙_}
 use borrow.Author.Needs.{needs}
-use borrow.Author.Tests.{not-true}
+use borrow.Author.Tests.{not-true, not-false}
 use Rattle.steps.specs.Process.{idle}
-use Rattle.player.proofs.Loop.{loop-start, loop-narrow, loop-ends}
-use Rattle.player.proofs.StepLoop.{step-named, step-busy, step-low, step-playing, step-idle, finish-full, finish-moves}
-use Rattle.player.proofs.BeginLoop.{other-ill, begin-few, begin-busy, begin-all, begin-moves}
-use Rattle.player.proofs.play.play.Proof.Places.{Inv-loop, μ-loop, few, step-at, found, few-steps, few-answers, other-at, well, low, idles}
+use Rattle.player.proofs.LoopInvariant.{loop-start, loop-narrow, loop-ends}
+use Rattle.player.proofs.StepLoop.{step-low, step-idle}
+use Rattle.player.proofs.BeginLoop.{other-ill, begin-few, begin-refused, begin-moves}
+use Rattle.player.proofs.play.play.Proof.Places.{Inv-loop, μ-loop, few, step-at, recordOf, found, slot, few-steps, few-answers, other-at, well, begin-slot}
 use Rattle.player.proofs.play.play.Proof.Arms as arms
 use Rattle.player.proofs.play.play.Statement.{statement}
 use Rattle.player.proofs.play.play.Tie as tie
 
 loop-holds : tie.Need-loop-holds Inv-loop μ-loop
 unfolding idle
-loop-holds c = rw (c .start .ensures) (loop-start _ _ _ _ _ _ _ _ _ (c .before .before .before .before .before .before .pre .0) (c .before .before .before .before .before .before .pre .1))
+loop-holds c = rw (c .start .ensures) (loop-start _ (c .before .before .before .before .before .before .pre .0) (c .before .before .before .before .before .before .pre .1))
 
 refused-idle : tie.Need-returns Inv-loop μ-loop
 unfolding idle
 refused-idle c = rw (c .ended .ensures) (step-idle (step-at (c .before .before .before .before)) (c .before .enum-told .given .1))
 
-refused-full : tie.Need-returns-2 Inv-loop μ-loop
-unfolding idle
-refused-full c =
-    let b = c .before .before .before .before in
-    let f = found b in
-    let busy = b .before .status .given .1 in
-    rw (c .ended2 .ensures) (finish-full f (step-busy f busy refl (step-named f busy (c .before .before .enum-told15 .given .1))) (c .before .if3 .taken))
-
-ready-q : tie.Need-answer-of-requires Inv-loop μ-loop
-unfolding idle
-ready-q c κs =
-    let b = c .before .before .before .before .before .before .before in
-    let f = found b in
-    let busy = b .before .status .given .1 in
-    (step-playing f, step-busy f busy (c .operation-in .ensures) (step-named f busy (c .before .before .before .before .before .enum-told15 .given .1)))
-
-again-q : tie.Need-loop-again-14 Inv-loop μ-loop
-unfolding idle
-again-q c =
-    let w = c .before .before .before in
-    let a = w .before .before .before in
-    let e = a .before .before .before .before .before in
-    let b = e .before .before .before in
-    let f = found b in
-    let busy = b .before .status .given .1 in
-    rw (c .rested .ensures)
-    (finish-moves f (step-busy f busy (a .before .operation-in .ensures) (step-named f busy (e .before .enum-told15 .given .1))) (e .if3 .left) _ _ _ (w .write-answer .kept .0)
-    (a .answer-of .ensures .0) (w .before .before .equal-after .ensures) (w .write-answer .ensures))
-
 refused-ill : tie.Need-returns-3 Inv-loop μ-loop
 refused-ill c = rw (c .ended3 .ensures) (other-ill (other-at (c .before .before .before)) (sym (c .before .before .ill-formed .ensures) ∙ c .before .if4 .taken))
 
-refused-busy : tie.Need-returns-4 Inv-loop μ-loop
+refused-begin : tie.Need-returns-4 Inv-loop μ-loop
 unfolding idle
-refused-busy c =
-    let w = c .before .before .before .before in
-    rw (c .ended4 .ensures) (begin-busy (other-at (w .before .before .before)) (well (w .before)) (w .wide2 .ensures) (sym (c .before .before .is-idle .ensures) ∙ not-true _ (c .before .if5 .taken)))
+refused-begin c =
+    let w = c .before .before .before .before .before in
+    rw (c .ended4 .ensures)
+    (begin-refused (other-at (w .before .before .before)) (well (w .before)) (w .wide2 .ensures) (c .before .before .before .begin-refusal .ensures)
+    (sym (c .before .before .accepted .ensures) ∙ not-true _ (c .before .if5 .taken)))
 
-refused-all : tie.Need-returns-5 Inv-loop μ-loop
+entered-requires : tie.Need-entered-requires Inv-loop μ-loop
 unfolding idle
-refused-all c =
-    let w = c .before .before .before .before .before .before in
-    rw (c .ended5 .ensures) (begin-all (other-at (w .before .before .before)) (well (w .before)) (w .wide2 .ensures) (idles (c .before .before .before)) (c .before .if6 .taken))
-
-opened-requires : tie.Need-opened-requires Inv-loop μ-loop
-unfolding idle
-opened-requires c κs =
+entered-requires c κs =
     let w = c .before .before .before .before .before in
     omega (arith, begin-few (other-at (w .before .before .before)) (well (w .before)) (w .wide2 .ensures))
 
@@ -76,10 +44,12 @@ again-begin : tie.Need-loop-again-15 Inv-loop μ-loop
 unfolding idle
 again-begin c =
     let w = c .before .before .before .before .before .before in
-    rw (c .opened .ensures) (begin-moves (other-at (w .before .before .before)) (well (w .before)) (w .wide2 .ensures) (idles (c .before .before .before)) (c .before .if6 .left))
+    rw (c .entered .ensures, c .before .operation-of .ensures)
+    (begin-moves (other-at (w .before .before .before)) (well (w .before)) (w .wide2 .ensures) (c .before .before .before .before .begin-refusal .ensures)
+    (sym (c .before .before .before .accepted .ensures) ∙ not-false _ (c .before .before .if5 .left)))
 
-ends : tie.Need-returns-6 Inv-loop μ-loop
-ends c = rw (c .ended6 .ensures) (loop-ends (c .before .before .loop .inv) (c .before .loop-test .left))
+ends : tie.Need-returns-5 Inv-loop μ-loop
+ends c = rw (c .ended5 .ensures) (loop-ends (c .before .before .loop .inv) (c .before .loop-test .left))
 
 pub play-spec : {M : Type 1} → statement M
 play-spec =
@@ -92,9 +62,9 @@ play-spec =
     loop-holds
     -- the words of a record
     (λ c. search needs)
-    (λ c κs. omega (arith, c .before .loop .inv .count, c .loop-test .taken))
+    (λ c κs. omega (arith, c .loop-test .taken))
     (λ c. search needs)
-    (λ c κs. omega (arith, c .before .before .loop .inv .count, c .before .loop-test .taken))
+    (λ c κs. omega (arith, c .before .loop-test .taken))
     -- a step record
     (λ c κs. search needs)
     (λ c. search needs)
@@ -110,133 +80,133 @@ play-spec =
     (λ c. search needs)
     -- A
     (λ c. search needs)
-    (λ c. record { fits = omega (arith, step-low (found (c .before .before))) })
-    (λ c. step-low (found (c .before .before)))
-    (λ c. record { fits = omega (arith, step-low (found (c .before .before .before .before .before)), found (c .before .before .before .before .before) .low, loop-narrow (found (c .before .before .before .before .before) .inv)) })
+    (λ c. record { fits = omega (arith, slot (c .before .before)) })
+    (λ c. slot (c .before .before))
+    (λ c. let f = found (c .before .before .before .before .before) in record { fits = omega (arith, f .low, loop-narrow (f .inv)) })
     arms.ready-a
-    (λ c. record { fits = omega (arith, step-low (found (c .before .before .before .before .before .before .before .before))) })
-    (λ c. step-low (found (c .before .before .before .before .before .before .before .before)))
-    (λ c. record { fits = few (c .before .before .before .before .before .before .before .before .before .before .before .before .before .before .before .before .before) })
+    (λ c. record { fits = omega (arith, slot (c .before .before .before .before .before .before .before .before)) })
+    (λ c. slot (c .before .before .before .before .before .before .before .before))
+    (λ c. record { fits = few (recordOf (c .before .before .before .before .before .before .before .before)) })
     (λ c. search needs)
     arms.again-a
     -- V1
     (λ c. search needs)
-    (λ c. record { fits = omega (arith, step-low (found (c .before .before))) })
-    (λ c. step-low (found (c .before .before)))
+    (λ c. record { fits = omega (arith, slot (c .before .before)) })
+    (λ c. slot (c .before .before))
     arms.ready-v1
-    (λ c. record { fits = omega (arith, step-low (found (c .before .before .before .before .before))) })
-    (λ c. step-low (found (c .before .before .before .before .before)))
-    (λ c. record { fits = few (c .before .before .before .before .before .before .before .before .before .before .before .before .before .before) })
+    (λ c. record { fits = omega (arith, slot (c .before .before .before .before .before)) })
+    (λ c. slot (c .before .before .before .before .before))
+    (λ c. record { fits = few (recordOf (c .before .before .before .before .before)) })
     (λ c. search needs)
     arms.again-v1
     -- V2
     (λ c. search needs)
-    (λ c. record { fits = omega (arith, step-low (found (c .before .before))) })
-    (λ c. step-low (found (c .before .before)))
+    (λ c. record { fits = omega (arith, slot (c .before .before)) })
+    (λ c. slot (c .before .before))
     arms.ready-v2
-    (λ c. record { fits = omega (arith, step-low (found (c .before .before .before .before .before .before .before))) })
-    (λ c. step-low (found (c .before .before .before .before .before .before .before)))
-    (λ c. record { fits = few (c .before .before .before .before .before .before .before .before .before .before .before .before .before .before .before .before) })
+    (λ c. record { fits = omega (arith, slot (c .before .before .before .before .before .before .before)) })
+    (λ c. slot (c .before .before .before .before .before .before .before))
+    (λ c. record { fits = few (recordOf (c .before .before .before .before .before .before .before)) })
     (λ c. search needs)
     arms.again-v2
     -- V3
     (λ c. search needs)
-    (λ c. record { fits = omega (arith, step-low (found (c .before .before))) })
-    (λ c. step-low (found (c .before .before)))
+    (λ c. record { fits = omega (arith, slot (c .before .before)) })
+    (λ c. slot (c .before .before))
     arms.ready-v3
-    (λ c. record { fits = omega (arith, step-low (found (c .before .before .before .before .before .before .before))) })
-    (λ c. step-low (found (c .before .before .before .before .before .before .before)))
-    (λ c. record { fits = few (c .before .before .before .before .before .before .before .before .before .before .before .before .before .before .before .before) })
+    (λ c. record { fits = omega (arith, slot (c .before .before .before .before .before .before .before)) })
+    (λ c. slot (c .before .before .before .before .before .before .before))
+    (λ c. record { fits = few (recordOf (c .before .before .before .before .before .before .before)) })
     (λ c. search needs)
     arms.again-v3
     -- R1
     (λ c. search needs)
-    (λ c. record { fits = omega (arith, step-low (found (c .before .before))) })
-    (λ c. step-low (found (c .before .before)))
+    (λ c. record { fits = omega (arith, slot (c .before .before)) })
+    (λ c. slot (c .before .before))
     arms.ready-r1
-    (λ c. record { fits = omega (arith, step-low (found (c .before .before .before .before .before))) })
-    (λ c. step-low (found (c .before .before .before .before .before)))
-    (λ c. record { fits = few (c .before .before .before .before .before .before .before .before .before .before .before .before .before .before) })
+    (λ c. record { fits = omega (arith, slot (c .before .before .before .before .before)) })
+    (λ c. slot (c .before .before .before .before .before))
+    (λ c. record { fits = few (recordOf (c .before .before .before .before .before)) })
     (λ c. search needs)
     arms.again-r1
     -- R2
     (λ c. search needs)
-    (λ c. record { fits = omega (arith, step-low (found (c .before .before))) })
-    (λ c. step-low (found (c .before .before)))
+    (λ c. record { fits = omega (arith, slot (c .before .before)) })
+    (λ c. slot (c .before .before))
     arms.ready-r2
-    (λ c. record { fits = omega (arith, step-low (found (c .before .before .before .before .before))) })
-    (λ c. step-low (found (c .before .before .before .before .before)))
-    (λ c. record { fits = few (c .before .before .before .before .before .before .before .before .before .before .before .before .before .before) })
+    (λ c. record { fits = omega (arith, slot (c .before .before .before .before .before)) })
+    (λ c. slot (c .before .before .before .before .before))
+    (λ c. record { fits = few (recordOf (c .before .before .before .before .before)) })
     (λ c. search needs)
     arms.again-r2
     -- R3
     (λ c. search needs)
-    (λ c. record { fits = omega (arith, step-low (found (c .before .before))) })
-    (λ c. step-low (found (c .before .before)))
+    (λ c. record { fits = omega (arith, slot (c .before .before)) })
+    (λ c. slot (c .before .before))
     arms.ready-r3
-    (λ c. record { fits = omega (arith, step-low (found (c .before .before .before .before .before))) })
-    (λ c. step-low (found (c .before .before .before .before .before)))
-    (λ c. record { fits = few (c .before .before .before .before .before .before .before .before .before .before .before .before .before .before) })
+    (λ c. record { fits = omega (arith, slot (c .before .before .before .before .before)) })
+    (λ c. slot (c .before .before .before .before .before))
+    (λ c. record { fits = few (recordOf (c .before .before .before .before .before)) })
     (λ c. search needs)
     arms.again-r3
     -- R4
     (λ c. search needs)
-    (λ c. record { fits = omega (arith, step-low (found (c .before .before))) })
-    (λ c. step-low (found (c .before .before)))
+    (λ c. record { fits = omega (arith, slot (c .before .before)) })
+    (λ c. slot (c .before .before))
     arms.ready-r4
-    (λ c. record { fits = omega (arith, step-low (found (c .before .before .before .before .before))) })
-    (λ c. step-low (found (c .before .before .before .before .before)))
-    (λ c. record { fits = few (c .before .before .before .before .before .before .before .before .before .before .before .before .before .before) })
+    (λ c. record { fits = omega (arith, slot (c .before .before .before .before .before)) })
+    (λ c. slot (c .before .before .before .before .before))
+    (λ c. record { fits = few (recordOf (c .before .before .before .before .before)) })
     (λ c. search needs)
     arms.again-r4
     -- R5
     (λ c. search needs)
-    (λ c. record { fits = omega (arith, step-low (found (c .before .before))) })
-    (λ c. step-low (found (c .before .before)))
+    (λ c. record { fits = omega (arith, slot (c .before .before)) })
+    (λ c. slot (c .before .before))
     arms.ready-r5
-    (λ c. record { fits = omega (arith, step-low (found (c .before .before .before .before .before))) })
-    (λ c. step-low (found (c .before .before .before .before .before)))
-    (λ c. record { fits = few (c .before .before .before .before .before .before .before .before .before .before .before .before .before .before) })
+    (λ c. record { fits = omega (arith, slot (c .before .before .before .before .before)) })
+    (λ c. slot (c .before .before .before .before .before))
+    (λ c. record { fits = few (recordOf (c .before .before .before .before .before)) })
     (λ c. search needs)
     arms.again-r5
     -- C1
     (λ c. search needs)
-    (λ c. record { fits = omega (arith, step-low (found (c .before .before))) })
-    (λ c. step-low (found (c .before .before)))
+    (λ c. record { fits = omega (arith, slot (c .before .before)) })
+    (λ c. slot (c .before .before))
     arms.ready-c1
-    (λ c. record { fits = omega (arith, step-low (found (c .before .before .before .before .before))) })
-    (λ c. step-low (found (c .before .before .before .before .before)))
-    (λ c. record { fits = few (c .before .before .before .before .before .before .before .before .before .before .before .before .before .before) })
+    (λ c. record { fits = omega (arith, slot (c .before .before .before .before .before)) })
+    (λ c. slot (c .before .before .before .before .before))
+    (λ c. record { fits = few (recordOf (c .before .before .before .before .before)) })
     (λ c. search needs)
     arms.again-c1
     -- C2
     (λ c. search needs)
-    (λ c. record { fits = omega (arith, step-low (found (c .before .before))) })
-    (λ c. step-low (found (c .before .before)))
+    (λ c. record { fits = omega (arith, slot (c .before .before)) })
+    (λ c. slot (c .before .before))
     arms.ready-c2
-    (λ c. record { fits = omega (arith, step-low (found (c .before .before .before .before .before))) })
-    (λ c. step-low (found (c .before .before .before .before .before)))
-    (λ c. record { fits = few (c .before .before .before .before .before .before .before .before .before .before .before .before .before .before) })
+    (λ c. record { fits = omega (arith, slot (c .before .before .before .before .before)) })
+    (λ c. slot (c .before .before .before .before .before))
+    (λ c. record { fits = few (recordOf (c .before .before .before .before .before)) })
     (λ c. search needs)
     arms.again-c2
     -- C3
     (λ c. search needs)
-    (λ c. record { fits = omega (arith, step-low (found (c .before .before))) })
-    (λ c. step-low (found (c .before .before)))
+    (λ c. record { fits = omega (arith, slot (c .before .before)) })
+    (λ c. slot (c .before .before))
     arms.ready-c3
-    (λ c. record { fits = omega (arith, step-low (found (c .before .before .before .before .before))) })
-    (λ c. step-low (found (c .before .before .before .before .before)))
-    (λ c. record { fits = few (c .before .before .before .before .before .before .before .before .before .before .before .before .before .before) })
+    (λ c. record { fits = omega (arith, slot (c .before .before .before .before .before)) })
+    (λ c. slot (c .before .before .before .before .before))
+    (λ c. record { fits = few (recordOf (c .before .before .before .before .before)) })
     (λ c. search needs)
     arms.again-c3
     -- C4
     (λ c. search needs)
-    (λ c. record { fits = omega (arith, step-low (found (c .before .before))) })
-    (λ c. step-low (found (c .before .before)))
+    (λ c. record { fits = omega (arith, slot (c .before .before)) })
+    (λ c. slot (c .before .before))
     arms.ready-c4
-    (λ c. record { fits = omega (arith, step-low (found (c .before .before .before .before .before .before .before))) })
-    (λ c. step-low (found (c .before .before .before .before .before .before .before)))
-    (λ c. record { fits = few (c .before .before .before .before .before .before .before .before .before .before .before .before .before .before .before .before) })
+    (λ c. record { fits = omega (arith, slot (c .before .before .before .before .before .before .before)) })
+    (λ c. slot (c .before .before .before .before .before .before .before))
+    (λ c. record { fits = few (recordOf (c .before .before .before .before .before .before .before)) })
     (λ c. search needs)
     arms.again-c4
     -- Q
@@ -245,22 +215,22 @@ play-spec =
     (λ c. search needs)
     (λ c. search needs)
     (λ c. search needs)
-    refused-full
-    (λ c. record { fits = omega (arith, step-low (found (c .before .before .before))) })
-    (λ c. step-low (found (c .before .before .before)))
+    arms.full-q
+    (λ c. record { fits = omega (arith, slot (c .before .before .before)) })
+    (λ c. slot (c .before .before .before))
     arms.busy-q
-    ready-q
+    arms.ready-q
     (λ c κs. (omega (arith, few-answers (c .before .before .before .before .before)), c .answer-of .ensures .1 .0, c .answer-of .ensures .1 .1))
     (λ c κs. (omega (arith, few-answers (c .before .before .before .before .before .before .before)), c .before .before .answer-of .ensures .1 .0, c .before .before .answer-of .ensures .1 .1))
     (λ c. record { fits = omega (arith, few-answers (c .before .before .before .before .before .before .before .before .before .before)) })
     (λ c κs. few-steps (c .before .before .before .before .before .before .before .before .before .before .before .before .before))
-    (λ c. record { fits = omega (arith, step-low (found (c .before .before .before .before .before .before .before .before .before .before .before .before .before .before))) })
-    (λ c. step-low (found (c .before .before .before .before .before .before .before .before .before .before .before .before .before .before)))
-    (λ c. record { fits = few (c .before .before .before .before .before .before .before .before .before .before .before .before .before .before .before .before .before .before .before .before .before .before .before) })
-    (λ c. omega (arith, c .before .before .before .before .before .before .before .before .before .before .before .before .before .before .before .before .before .before .before .before .before .before .before .loop-test .taken))
-    again-q
+    (λ c. record { fits = omega (arith, slot (c .before .before .before .before .before .before .before .before .before .before .before .before .before .before)) })
+    (λ c. slot (c .before .before .before .before .before .before .before .before .before .before .before .before .before .before))
+    (λ c. record { fits = few (recordOf (c .before .before .before .before .before .before .before .before .before .before .before .before .before .before)) })
+    (λ c. omega (arith, recordOf (c .before .before .before .before .before .before .before .before .before .before .before .before .before .before) .loop-test .taken))
+    arms.again-q
     -- another record
-    (λ c κs. omega (arith, c .before .before .before .before .loop .inv .count, c .before .before .before .loop-test .taken))
+    (λ c κs. omega (arith, c .before .before .before .loop-test .taken))
     (λ c κs. search needs)
     (λ c κs. search needs)
     (λ c. search needs)
@@ -270,21 +240,18 @@ play-spec =
     -- a begin
     (λ c κs. search needs)
     (λ c. search needs)
-    (λ c. low c)
+    (λ c. begin-slot c)
     (λ c κs. search needs)
     (λ c κs. search needs)
-    (λ c. search needs)
-    (λ c. search needs)
-    (λ c. search needs)
-    refused-busy
     (λ c κs. search needs)
     (λ c. search needs)
     (λ c. search needs)
     (λ c. search needs)
-    refused-all
-    opened-requires
-    (λ c. record { fits = omega (arith, low (c .before .before .before .before .before .before)) })
-    (λ c. low (c .before .before .before .before .before .before))
+    refused-begin
+    (λ c κs. search needs)
+    entered-requires
+    (λ c. record { fits = omega (arith, begin-slot (c .before .before .before .before .before .before)) })
+    (λ c. begin-slot (c .before .before .before .before .before .before))
     (λ c. record { fits = few (c .before .before .before .before .before .before .before .before .before .before .before .before .before) })
     (λ c. search needs)
     again-begin

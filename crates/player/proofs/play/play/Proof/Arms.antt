@@ -1,8 +1,9 @@
--- The arms of `play`'s loop, one a named step: what the step needs, and that the loop's invariant holds after it. Used by its proof alone.
+-- The arms of `play`'s loop, one a named step: what the step needs, and that the loop's invariant holds after it. Used
+-- by its proof alone.
 use mathlib.Core.Path.{refl, ap, sym}
 use Rattle.steps.specs.Process.{idle}
 use Rattle.steps.specs.Machine.{isIdle, isQ}
-use Rattle.player.proofs.StepLoop.{step-named, step-leaf, step-begins, step-ready, step-fits, step-fits-leaf, step-moves}
+use Rattle.player.proofs.StepLoop.{step-named, step-busy, step-leaf, step-begins, step-playing, step-ready, step-fits, step-fits-leaf, step-moves, finish-full, finish-moves}
 use Rattle.player.proofs.play.play.Proof.Places.{Inv-loop, μ-loop, found, few-steps}
 use Rattle.player.proofs.play.play.Tie as tie
 
@@ -182,6 +183,35 @@ again-c4 c =
     step-moves f (b .before .status .given .1) (c .before .before .before .before .before .enum-told14 .given .1) refl _ _ _ refl (c .before .before .step-c4 .kept .0)
     (λ is _ placed. let e = c .before .before .step-c4 .ensures .0 _ _ is in (e .0, e .1 _ _ _ _ placed))
 
+pub full-q : tie.Need-returns-2 Inv-loop μ-loop
+unfolding idle
+full-q c =
+    let b = c .before .before .before .before in
+    let f = found b in
+    let busy = b .before .status .given .1 in
+    rw (c .ended2 .ensures) (finish-full f (step-busy f busy refl (step-named f busy (c .before .before .enum-told15 .given .1))) (c .before .if3 .taken))
+
 pub busy-q : tie.Need-operation-in-requires Inv-loop μ-loop
 unfolding idle isIdle
 busy-q c κs = ap isIdle (c .before .before .before .before .before .before .before .status .given .1)
+
+pub ready-q : tie.Need-answer-of-requires Inv-loop μ-loop
+unfolding idle
+ready-q c κs =
+    let b = c .before .before .before .before .before .before .before in
+    let f = found b in
+    let busy = b .before .status .given .1 in
+    (step-playing f, step-busy f busy (c .operation-in .ensures) (step-named f busy (c .before .before .before .before .before .enum-told15 .given .1)))
+
+pub again-q : tie.Need-loop-again-14 Inv-loop μ-loop
+unfolding idle
+again-q c =
+    let w = c .before .before .before in
+    let a = w .before .before .before in
+    let e = a .before .before .before .before .before in
+    let b = e .before .before .before in
+    let f = found b in
+    let busy = b .before .status .given .1 in
+    rw (c .rested .ensures)
+    (finish-moves f (step-busy f busy (a .before .operation-in .ensures) (step-named f busy (e .before .enum-told15 .given .1))) (e .if3 .left) _ _ _ (w .write-answer .kept .0)
+    (a .answer-of .ensures .0) (w .before .before .equal-after .ensures) (w .write-answer .ensures))

@@ -1,42 +1,73 @@
--- The loop of `play`: its invariant, its measure, and what is known at the places that many of its needs share. Used by its proof alone.
-use Prim.Native.Nat.{_+_, _*_, _-_, _/_, _<_}
+-- The loop of `play`: its invariant, its measure, and what is known at the places that many of its needs share. Used by
+-- its proof alone.
+use Prim.Native.Nat.{_+_, _*_, _-_, _<_}
 use native.Mathlib.Omega.{arith}
-use mathlib.Core.Bool.{true, false}
+use mathlib.Core.Bool.{false}
 use mathlib.Core.Path.{_≡_, sym, _∙_}
 use mathlib.Core.Logic.{⊎-elim}
-use lib.ListN.{length, getD}
-use borrow.Author.Tests.{not-false}
+use lib.ListN.{getD}
 use Rattle.record.specs.StepRecords.{illFormed}
 use Rattle.steps.specs.declared.Status.the-variants.{Idle}
 use Rattle.steps.specs.Process.{idle}
-use Rattle.steps.specs.Machine.{isIdle}
 use Rattle.answer.proofs.PlaysLaws.{steps-small}
-use Rattle.player.proofs.Loop.{Loop}
-use Rattle.player.proofs.StepLoop.{StepAt, step-plays}
+use Rattle.player.proofs.LoopStates.{Call, State}
+use Rattle.player.proofs.LoopInvariant.{LoopInvariant}
+use Rattle.player.proofs.StepLoop.{StepAt, step-low, step-plays}
 use Rattle.player.proofs.BeginLoop.{OtherAt, begin-low}
 use Rattle.player.proofs.play.play.Tie as tie
 
 abbrev pub Inv-loop : tie.InvT-loop
 Inv-loop p l starts records heads₀ table₀ room out₀ log procs₀ n answers₀ equal₀ free₀ i₀ heads table out procs answers equal free i =
-    Loop p l starts records heads₀ table₀ room out₀ log n heads table out procs answers equal free i
+    LoopInvariant
+    (record { p = p; l = l; starts = starts; records = records; heads = heads₀; table = table₀; room = room; out = out₀; log = log })
+    (record { heads = heads; table = table; out = out; procs = procs; answers = answers; equal = equal; left = free })
+    i
 
 abbrev pub μ-loop : tie.MeasureT-loop
 μ-loop p l starts records heads₀ table₀ room out₀ log procs₀ n answers₀ equal₀ free₀ i₀ heads table out procs answers equal free i =
     n - i
 
--- at each record: the loop's counter stays small
-pub few : (c : tie.In-loop Inv-loop μ-loop) → c .before .loop .i + 1 < 18446744073709551616
-few c = omega (arith, c .loop-test .taken, c .before .loop .inv .count, c .before .before .before .before .before .before .before .before .good .1 .1 .1 .0 .0)
+-- ---- at each record
 
--- at a step record, after its process was found
-abbrev pub At : tie.After-wide Inv-loop μ-loop → Type 0
-At c =
-    let a = c .before .before .before .before .before .before .before .before .before .before .before .before .before .args in
-    let g = c .before .before .before .before .before .before .loop in
-    StepAt (a .p) (a .l) (a .starts .now) (a .records .now) (a .heads .now) (a .table .now) (a .room) (a .out .now) (a .log .now) (length (a .records .now) / 8)
-    (g .heads) (g .table) (g .out) (g .procs) (g .answers) (g .equal) (g .free) (g .i) (c .before .before .before .before .word-at .result) (c .wide .result)
+abbrev pub AtRecord : Type 0
+AtRecord = tie.In-loop Inv-loop μ-loop
 
-pub step-at : (c : tie.After-wide Inv-loop μ-loop) → At c
+abbrev pub callAt : AtRecord → Call
+callAt c =
+    let a = c .before .before .before .before .before .before .before .before .args in
+    record {
+      p = a .p;
+      l = a .l;
+      starts = a .starts .now;
+      records = a .records .now;
+      heads = a .heads .now;
+      table = a .table .now;
+      room = a .room;
+      out = a .out .now;
+      log = a .log .now;
+    }
+
+abbrev pub stateAt : AtRecord → State
+stateAt c =
+    let g = c .before .loop in
+    record { heads = g .heads; table = g .table; out = g .out; procs = g .procs; answers = g .answers; equal = g .equal; left = g .free }
+
+-- the loop's counter stays small
+pub few : (c : AtRecord) → c .before .loop .i + 1 < 18446744073709551616
+few c = omega (arith, c .loop-test .taken, c .before .before .before .before .before .before .before .before .good .1 .1 .1 .0 .0)
+
+-- ---- at a step record
+
+-- after its process was found
+abbrev pub AtStep : Type 0
+AtStep = tie.After-wide Inv-loop μ-loop
+
+abbrev pub StepIs : AtStep → Type 0
+StepIs c =
+    let r = c .before .before .before .before .before in
+    StepAt (callAt r) (stateAt r) (r .before .loop .i) (c .before .before .before .before .word-at .result) (c .wide .result)
+
+pub step-at : (c : AtStep) → StepIs c
 step-at c =
     record {
       inv = c .before .before .before .before .before .before .loop .inv;
@@ -48,29 +79,37 @@ step-at c =
     }
 
 -- where that process is busy
-pub found : (b : tie.After-known-told Inv-loop μ-loop) → At (b .before .before .before .before)
+abbrev pub AtBusy : Type 0
+AtBusy = tie.After-known-told Inv-loop μ-loop
+
+abbrev pub recordOf : AtBusy → AtRecord
+recordOf b = b .before .before .before .before .before .before .before .before .before
+
+pub found : (b : AtBusy) → StepIs (b .before .before .before .before)
 found b = step-at (b .before .before .before .before)
 
-pub few-steps : (b : tie.After-known-told Inv-loop μ-loop)
-    → getD (b .before .before .before .before .before .before .before .before .before .before .loop .procs) (b .before .before .before .before .wide .result) (record { status = Idle; begun = 0; steps = 0 }) .steps
-    < 65536
+pub slot : (b : AtBusy) → b .before .before .before .before .wide .result < 8
+slot b = step-low (found b)
+
+pub few-steps : (b : AtBusy)
+    → getD (stateAt (recordOf b) .procs) (b .before .before .before .before .wide .result) (record { status = Idle; begun = 0; steps = 0 }) .steps < 65536
 unfolding idle
 few-steps b = omega (arith, steps-small _ _ _ _ _ _ _ (step-plays (found b)))
 
 -- where there is room for an answer
-pub few-answers : (c : tie.Else3 Inv-loop μ-loop)
-    → 16 * c .before .before .before .before .before .before .before .before .before .before .before .before .before .loop .answers + 16 < 18446744073709551616
+pub few-answers : (c : tie.Else3 Inv-loop μ-loop) → 16 * stateAt (recordOf (c .before .before .before)) .answers + 16 < 18446744073709551616
 few-answers c =
-    let g = c .before .before .before .before .before .before .before .before .before .before .before .before .before in
-    omega (arith, c .if3 .left, g .loop .inv .going .spare, g .before .before .before .before .before .before .before .fits .room)
+    let g = recordOf (c .before .before .before) .before in
+    omega (arith, c .if3 .left, g .loop .inv .so-far .spare, g .before .before .before .before .before .before .before .fits .room)
 
--- at another record
-pub other-at : (c : tie.After-step-record Inv-loop μ-loop) →
-    let a = c .before .before .before .before .before .before .before .before .before .before .before .before .args in
-    let g = c .before .before .before .before .before .loop in
-    OtherAt (a .p) (a .l) (a .starts .now) (a .records .now) (a .heads .now) (a .table .now) (a .room) (a .out .now) (a .log .now) (length (a .records .now) / 8)
-    (g .heads) (g .table) (g .out) (g .procs) (g .answers) (g .equal) (g .free) (g .i)
-    (c .before .before .before .word-at .result) (c .before .before .word-at2 .result) (c .step-record .result)
+-- ---- at another record
+
+abbrev pub AtOther : Type 0
+AtOther = tie.After-step-record Inv-loop μ-loop
+
+pub other-at : (c : AtOther) →
+    let r = c .before .before .before .before in
+    OtherAt (callAt r) (stateAt r) (r .before .loop .i) (c .before .before .before .word-at .result) (c .before .before .word-at2 .result) (c .step-record .result)
 other-at c =
     record {
       inv = c .before .before .before .before .before .loop .inv;
@@ -82,16 +121,12 @@ other-at c =
     }
 
 -- where it is well-formed
-pub well : (c : tie.Else4 Inv-loop μ-loop)
-    → illFormed (c .before .before .before .before .before .before .before .before .before .before .before .before .before .before .args .p) (c .before .before .step-record .result) ≡ false
+pub well : (c : tie.Else4 Inv-loop μ-loop) → illFormed (callAt (c .before .before .before .before .before .before) .p) (c .before .before .step-record .result) ≡ false
 well c = sym (c .before .ill-formed .ensures) ∙ c .if4 .left
 
 -- after its process was found
-pub low : (w : tie.After-wide2 Inv-loop μ-loop) → w .wide2 .result < 8
-low w = begin-low (other-at (w .before .before .before)) (well (w .before)) (w .wide2 .ensures)
+abbrev pub AtBegin : Type 0
+AtBegin = tie.After-wide2 Inv-loop μ-loop
 
--- where that process is idle
-pub idles : (c : tie.Else5 Inv-loop μ-loop)
-    → isIdle (getD (c .before .before .before .before .before .before .before .before .before .before .before .loop .procs) (c .before .before .before .wide2 .result) idle .status) ≡ true
-unfolding idle
-idles c = sym (c .before .is-idle .ensures) ∙ not-false _ (c .if5 .left)
+pub begin-slot : (w : AtBegin) → w .wide2 .result < 8
+begin-slot w = begin-low (other-at (w .before .before .before)) (well (w .before)) (w .wide2 .ensures)

@@ -13,8 +13,9 @@ use Rattle.calls.specs.Run.{Played}
 use Rattle.log.specs.Contracts.Leading.{leadingOf, written}
 use Rattle.player.specs.declared.Outcome.{Outcome}
 
--- the memory is that of the start, of a tree of shape s whose parts begin at the starts, and there are `room` answer bytes or none
-pub record Starts (s : Shape) (starts heads table : List ℕ) (room bytes : ℕ) : Type 0 where
+-- the memory is that of the start, of a tree of shape s whose parts begin at the starts, and there are `room` answer
+-- bytes or none
+pub record AtStart (s : Shape) (starts heads table : List ℕ) (room bytes : ℕ) : Type 0 where
   pub inner : 1 ≤ s .height
   pub tall : s .height ≤ 3
   pub few : s .most ≤ 500
@@ -23,8 +24,9 @@ pub record Starts (s : Shape) (starts heads table : List ℕ) (room bytes : ℕ)
   pub ones : heads ≡ replicate (2 * processes s) 1
   pub bounded : (bytes ≡ 0) ⊎ (bytes ≡ room)
 
--- the outcome, the memory and the answer bytes are those of g, whose answers were written in some bytes and compared with a log
-pub record Leaves (g : Played) (log before : List ℕ) (o : Outcome) (table heads out : List ℕ) : Type 0 where
+-- the outcome, the memory and the answer bytes are those of g, whose answers were written in some bytes and compared
+-- with a log
+pub record PlayResult (g : Played) (log before : List ℕ) (o : Outcome) (table heads out : List ℕ) : Type 0 where
   pub refusal : o .refusal ≡ g .refusal
   pub taken : o .taken ≡ g .taken
   pub answered : o .answers ≡ length (g .answers)
@@ -35,7 +37,7 @@ pub record Leaves (g : Played) (log before : List ℕ) (o : Outcome) (table head
 
 -- p and l are allowed, each head is 1, the table has the words needed, and there are `room` answer bytes or none
 pub record Callable (p l : ℕ) (heads : List ℕ) (words room bytes : ℕ) : Type 0 where
-  pub some : processesAllowed p ≡ true
+  pub processes : processesAllowed p ≡ true
   pub most : operationsAllowed l ≡ true
   pub ones : heads ≡ replicate (2 * p) 1
   pub enough : wordsNeeded (shapeFor p l) ≤ words

@@ -1,9 +1,9 @@
--- `records::rested` meets its contract. Assumes nothing.
+-- `Process::rested` meets its contract. Assumes nothing.
 use mathlib.Core.Path.{refl}
-use Rattle.player.specs.Contracts.Turns.{rested}
 use borrow.Author.Needs.{needs}
-use Rattle.player.proofs.records.rested.Statement.{statement}
-use Rattle.player.proofs.records.rested.Tie as tie
+use Rattle.steps.specs.Contracts.Next.{rested}
+use Rattle.steps.proofs.Process.rested.Statement.{statement}
+use Rattle.steps.proofs.Process.rested.Tie as tie
 
 add-t3 : tie.Need-add-t3
 add-t3 c = search needs

@@ -1,8 +1,8 @@
--- `records::is_idle` meets its contract. Assumes nothing.
+-- `Process::is_idle` meets its contract. Assumes nothing.
 use borrow.Author.Needs.{needs}
 use Rattle.steps.specs.Machine.{isIdle}
-use Rattle.player.proofs.records.is_idle.Statement.{statement}
-use Rattle.player.proofs.records.is_idle.Tie as tie
+use Rattle.steps.proofs.Process.is_idle.Statement.{statement}
+use Rattle.steps.proofs.Process.is_idle.Tie as tie
 
 enum-told : tie.Need-enum-told
 enum-told c = search needs
