@@ -2,7 +2,7 @@
 use log::compare::verdict;
 use player::call::play_unanswered;
 use refusals::numbers::accepted;
-use refusals::sooner::of_check;
+use refusals::before::of_check;
 use rules::Verdict;
 use steps::heads::wide;
 ghost use mathlib.Core.Path.{_≡_};

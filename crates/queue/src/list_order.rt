@@ -6,7 +6,7 @@ use order::roots::list_length;
 use player::call::play_unanswered;
 use refusals::numbers::accepted;
 use refusals::sooner::height_for;
-use refusals::sooner::of_call;
+use refusals::before::of_call;
 use rules::Refusal;
 use steps::heads::wide;
 use tree::layout::starts;

@@ -2,7 +2,7 @@
 use crate::Ran;
 use player::call::play_call;
 use refusals::numbers::accepted;
-use refusals::sooner::of_call;
+use refusals::before::of_call;
 use steps::heads::wide;
 ghost use mathlib.Core.Path.{_≡_};
 ghost use mathlib.Core.Bool.{true};

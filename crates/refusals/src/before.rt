@@ -1,0 +1,63 @@
+// The tests that a call makes before its first record: a call that fails one changes nothing.
+use crate::numbers::accepted;
+use crate::sooner::height_for;
+use rules::Refusal;
+use steps::Process;
+use steps::heads::wide;
+use tree::layout::words_needed;
+ghost use mathlib.Core.Path.{_≡_};
+ghost use mathlib.Core.Bool.{true};
+ghost use Rattle.rules.specs.Refusals.{accepted as isAccepted, shapeFor, settingsRefusal, bufferRefusal, callRefusal};
+ghost use Rattle.rules.specs.CheckLog.{checkRefusal};
+
+// The settings of a call, p and l: 1, 2.
+pub fn settings(p: u32, l: u32) -> Refusal
+    ensures { λ r. ⌜ r ≡ settingsRefusal p l ⌝ }
+{
+    if !Process::processes_allowed(p) {
+        return Refusal::Processes;
+    }
+    if !Process::operations_allowed(l) {
+        return Refusal::Operations;
+    }
+    Refusal::None
+}
+
+// Its buffers, a work table of so many words and so many bytes of records: 3, 4.
+fn buffers(p: u32, l: u32, words: usize, bytes: usize) -> Refusal
+    requires { ⌜ isAccepted (settingsRefusal p l) ≡ true ⌝ }
+    ensures { λ r. ⌜ r ≡ bufferRefusal (shapeFor p l) words bytes ⌝ }
+{
+    if words < words_needed(height_for(p), wide(l)) {
+        return Refusal::TableShort;
+    }
+    if bytes % 8 != 0 {
+        return Refusal::RecordsTorn;
+    }
+    Refusal::None
+}
+
+// A call: 1, 2, 3, 4.
+pub fn of_call(p: u32, l: u32, words: usize, bytes: usize) -> Refusal
+    ensures { λ r. ⌜ r ≡ callRefusal p l words bytes ⌝ }
+{
+    let n = settings(p, l);
+    if !accepted(n) {
+        return n;
+    }
+    buffers(p, l, words, bytes)
+}
+
+// The same with so many bytes of a log: then 11.
+pub fn of_check(p: u32, l: u32, words: usize, bytes: usize, log: usize) -> Refusal
+    ensures { λ r. ⌜ r ≡ checkRefusal p l words bytes log ⌝ }
+{
+    let n = of_call(p, l, words, bytes);
+    if !accepted(n) {
+        return n;
+    }
+    if log % 16 != 0 {
+        return Refusal::LogTorn;
+    }
+    Refusal::None
+}
