@@ -1,7 +1,7 @@
 -- What is known of a call that is not turned down. Used by proofs; no exported promise names it.
 use Prim.Native.Nat.{ℕ, _%_, _≤_}
 use mathlib.Core.Path.{_≡_, refl, sym, _∙_}
-use mathlib.Core.Bool.{Bool, true, false, not, _&&_, false≢true}
+use mathlib.Core.Bool.{Bool, true, false, not, false≢true}
 use lib.Dec.{ltb, eqb}
 use borrow.Author.Tests.{eqb-true, eq-eqb, ltb-false, not-false}
 use Rattle.base.specs.Choice.{if_then_else_}
@@ -11,7 +11,7 @@ use Rattle.tree.specs.Layout.{wordsNeeded}
 use Rattle.steps.specs.Process.{processesAllowed, operationsAllowed}
 use Rattle.calls.specs.declared.Refusal.{Refusal}
 use Rattle.calls.specs.declared.Refusal.the-variants.{None, Processes, Operations, TableShort, RecordsTorn, LogTorn}
-use Rattle.calls.specs.Refusals.{refusalNumber, accepted, torn, callRefusal}
+use Rattle.calls.specs.Refusals.{refusalNumber, accepted, torn, firstRefusal, settingsRefusal, bufferRefusal, callRefusal}
 use Rattle.tree.specs.Shape.{shapeFor}
 use Rattle.calls.specs.CheckLog.{checkRefusal}
 
@@ -29,50 +29,62 @@ pub whole-records : (bytes : ℕ) → torn stepSize bytes ≡ false → bytes % 
 unfolding torn stepSize
 whole-records bytes e = eqb-true (bytes % 8) 0 (not-false (eqb (bytes % 8) 0) e)
 
--- no test of a call failed
-tests : (a b c d : Bool) → accepted (if a then Processes else if b then Operations else if c then TableShort else if d then RecordsTorn else None) ≡ true
-    → (a ≡ false) × (b ≡ false) × (c ≡ false) × (d ≡ false)
-unfolding accepted refusalNumber
-tests true b c d e = absurd (false≢true e)
-tests false true c d e = absurd (false≢true e)
-tests false false true d e = absurd (false≢true e)
-tests false false false true e = absurd (false≢true e)
-tests false false false false e = (refl, refl, refl, refl)
+-- none of two tests refuses
+both-accepted : (a b : Refusal) → accepted (firstRefusal a b) ≡ true → (accepted a ≡ true) × (accepted b ≡ true)
+unfolding firstRefusal
+both-accepted a b e = on (accepted a) refl e
+  where
+    on : (x : Bool) → accepted a ≡ x → accepted (if x then b else a) ≡ true → (accepted a ≡ true) × (accepted b ≡ true)
+    on true z h = (z, h)
+    on false z h = absurd (false≢true (sym z ∙ h))
+
+-- a test that would refuse did not fail
+passed : (b : Bool) (n m : Refusal) → accepted n ≡ false → accepted (if b then n else m) ≡ true → (b ≡ false) × (accepted m ≡ true)
+passed true n m z e = absurd (false≢true (sym z ∙ e))
+passed false n m z e = (refl, e)
+
+module _ (p l : ℕ) (ok : accepted (settingsRefusal p l) ≡ true) where
+  pub settings-processes : processesAllowed p ≡ true
+  unfolding settingsRefusal accepted refusalNumber
+  settings-processes = not-false (processesAllowed p) (passed (not (processesAllowed p)) Processes _ refl ok .0)
+
+  pub settings-operations : operationsAllowed l ≡ true
+  unfolding settingsRefusal accepted refusalNumber
+  settings-operations =
+      not-false (operationsAllowed l) (passed (not (operationsAllowed l)) Operations None refl (passed (not (processesAllowed p)) Processes _ refl ok .1) .0)
 
 module _ (p l words bytes : ℕ) (ok : accepted (callRefusal p l words bytes) ≡ true) where
-  passed : (not (processesAllowed p) ≡ false) × (not (operationsAllowed l) ≡ false) × (ltb words (wordsNeeded (shapeFor p l)) ≡ false) × (torn stepSize bytes ≡ false)
+  call-tests : (accepted (settingsRefusal p l) ≡ true) × (accepted (bufferRefusal (shapeFor p l) words bytes) ≡ true)
   unfolding callRefusal
-  passed = tests (not (processesAllowed p)) (not (operationsAllowed l)) (ltb words (wordsNeeded (shapeFor p l))) (torn stepSize bytes) ok
-
-  pub accepted-whole : torn stepSize bytes ≡ false
-  accepted-whole = passed .3
+  call-tests = both-accepted (settingsRefusal p l) (bufferRefusal (shapeFor p l) words bytes) ok
 
   pub accepted-processes : processesAllowed p ≡ true
-  accepted-processes = not-false (processesAllowed p) (passed .0)
+  accepted-processes = settings-processes p l (call-tests .0)
 
   pub accepted-operations : operationsAllowed l ≡ true
-  accepted-operations = not-false (operationsAllowed l) (passed .1)
+  accepted-operations = settings-operations p l (call-tests .0)
+
+  buffer-tests : (ltb words (wordsNeeded (shapeFor p l)) ≡ false) × (torn stepSize bytes ≡ false)
+  unfolding bufferRefusal accepted refusalNumber
+  buffer-tests =
+      let z = passed (ltb words (wordsNeeded (shapeFor p l))) TableShort _ refl (call-tests .1) in
+      (z .0, passed (torn stepSize bytes) RecordsTorn None refl (z .1) .0)
 
   pub accepted-enough : wordsNeeded (shapeFor p l) ≤ words
-  accepted-enough = ltb-false words (wordsNeeded (shapeFor p l)) (passed .2)
+  accepted-enough = ltb-false words (wordsNeeded (shapeFor p l)) (buffer-tests .0)
+
+  pub accepted-whole : torn stepSize bytes ≡ false
+  accepted-whole = buffer-tests .1
 
 -- the same of check a log, whose log has whole records
-both-tests : (n : Refusal) (b : Bool) → accepted (if accepted n && b then LogTorn else n) ≡ true → (accepted n ≡ true) × (b ≡ false)
-unfolding accepted refusalNumber
-both-tests n b e = on (accepted n) b refl e
-  where
-    on : (a c : Bool) → accepted n ≡ a → accepted (if a && c then LogTorn else n) ≡ true → (accepted n ≡ true) × (c ≡ false)
-    on true true z h = absurd (false≢true h)
-    on true false z h = (z, refl)
-    on false c z h = absurd (false≢true (sym z ∙ h))
-
 module _ (p l words bytes log : ℕ) (ok : accepted (checkRefusal p l words bytes log) ≡ true) where
-  log-tests : (accepted (callRefusal p l words bytes) ≡ true) × (torn answerSize log ≡ false)
+  check-tests : (accepted (callRefusal p l words bytes) ≡ true) × (accepted (if torn answerSize log then LogTorn else None) ≡ true)
   unfolding checkRefusal
-  log-tests = both-tests (callRefusal p l words bytes) (torn answerSize log) ok
+  check-tests = both-accepted (callRefusal p l words bytes) (if torn answerSize log then LogTorn else None) ok
 
   pub check-call : accepted (callRefusal p l words bytes) ≡ true
-  check-call = log-tests .0
+  check-call = check-tests .0
 
   pub check-whole : torn answerSize log ≡ false
-  check-whole = log-tests .1
+  unfolding accepted refusalNumber
+  check-whole = passed (torn answerSize log) LogTorn None refl (check-tests .1) .0

@@ -11,10 +11,10 @@ use Rattle.record.specs.AnswerRecords.{answerSize, answerBytes}
 use Rattle.tree.specs.Shape.{Shape, shapeFor}
 use Rattle.tree.specs.Layout.{wordsNeeded}
 use Rattle.calls.specs.declared.Refusal.{Refusal}
-use Rattle.calls.specs.declared.Refusal.the-variants.{LogTorn}
+use Rattle.calls.specs.declared.Refusal.the-variants.{None, LogTorn}
 use Rattle.calls.specs.declared.Verdict.{Verdict}
 use Rattle.calls.specs.declared.Verdict.the-variants.{Same, Differs, Refused}
-use Rattle.calls.specs.Refusals.{refusalNumber, accepted, torn, callRefusal}
+use Rattle.calls.specs.Refusals.{refusalNumber, accepted, torn, firstRefusal, callRefusal}
 use Rattle.calls.specs.Run.{Played}
 use Rattle.calls.specs.ListOrder.{playAll}
 
@@ -34,9 +34,7 @@ compared i (x ∷ xs) (y ∷ ys) = let r = compared (suc i) xs ys in if sameByte
 
 -- 1 to 4; 11 log bytes not a multiple of 16
 unfoldable pub checkRefusal : ℕ → ℕ → ℕ → ℕ → ℕ → Refusal
-checkRefusal p l words bytes log =
-    let n = callRefusal p l words bytes in
-    if accepted n && torn answerSize log then LogTorn else n
+checkRefusal p l words bytes log = firstRefusal (callRefusal p l words bytes) (if torn answerSize log then LogTorn else None)
 
 -- a verdict in numbers: 0 same, 1 differs, 2 refused; the index of the first record that differs, and the paper's number of the refusal, each 0 where there is none
 unfoldable pub verdictNumber : Verdict → ℕ

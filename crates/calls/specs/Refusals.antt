@@ -36,14 +36,27 @@ accepted n = eqb (refusalNumber n) 0
 unfoldable pub torn : ℕ → ℕ → Bool
 torn size bytes = not (eqb (bytes % size) 0)
 
--- a call with p, l, a work table of so many words and so many bytes of records, before its first record: 1, 2, 3, 4
-unfoldable pub callRefusal : ℕ → ℕ → ℕ → ℕ → Refusal
-callRefusal p l words bytes =
+-- of two tests, the first that refuses
+unfoldable pub firstRefusal : Refusal → Refusal → Refusal
+firstRefusal a b = if accepted a then b else a
+
+-- the settings of a call, p and l: 1, 2
+unfoldable pub settingsRefusal : ℕ → ℕ → Refusal
+settingsRefusal p l =
     if not (processesAllowed p) then Processes
     else if not (operationsAllowed l) then Operations
-    else if ltb words (wordsNeeded (shapeFor p l)) then TableShort
+    else None
+
+-- its buffers, a work table of so many words for a tree of shape s and so many bytes of records: 3, 4
+unfoldable pub bufferRefusal : Shape → ℕ → ℕ → Refusal
+bufferRefusal s words bytes =
+    if ltb words (wordsNeeded s) then TableShort
     else if torn stepSize bytes then RecordsTorn
     else None
+
+-- a call before its first record: 1, 2, 3, 4
+unfoldable pub callRefusal : ℕ → ℕ → ℕ → ℕ → Refusal
+callRefusal p l words bytes = firstRefusal (settingsRefusal p l) (bufferRefusal (shapeFor p l) words bytes)
 
 -- a begin by process q, where a process has at most l operations: 6, 8
 unfoldable pub beginRefusal : ℕ → Process → Refusal

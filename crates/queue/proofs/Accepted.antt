@@ -4,6 +4,7 @@ use native.Mathlib.Omega.{arith}
 use mathlib.Core.Path.{_≡_, ap, _∙_}
 use mathlib.Core.Logic.{_⊎_}
 use mathlib.Core.Bool.{true}
+use mathlib.Core.List.{List}
 use lib.ListN.{length, take, replicate}
 use lib.Seq.{length-take-le}
 use Rattle.base.proofs.Repeats.{take-replicate}
@@ -14,22 +15,26 @@ use Rattle.calls.proofs.CallAccepted.{accepted-processes, accepted-operations, 
 use Rattle.refusals.proofs.Limits.{allowed-most, allowed-width, short-for}
 use Rattle.player.specs.Contracts.PlayCalls.{Callable}
 
-module _ (p l words bytes : ℕ) (ok : accepted (callRefusal p l words bytes) ≡ true) where
-  pub accepted-narrow : p ≤ 8
+-- with 16 heads of which each is 1
+module _ (p l words bytes : ℕ) (ok : accepted (callRefusal p l words bytes) ≡ true) (heads : List ℕ) (ones : heads ≡ replicate 16 1) (j : ℕ) (is : j ≡ p) where
+  narrow : p ≤ 8
   unfolding shapeFor
-  accepted-narrow =
+  narrow =
       omega (arith, allowed-width p l (accepted-processes p l words bytes ok), processes-most (shapeFor p l) (short-for p l) (allowed-most l (accepted-operations p l words bytes ok) .1))
 
-  pub accepted-heads : (j : ℕ) → j ≡ p → length {A = ℕ} (take (2 * j) (replicate 16 1)) ≡ 2 * j
-  accepted-heads j e = length-take-le (2 * j) (replicate 16 1) (omega (arith, accepted-narrow))
+  -- the first 2p are those of the nodes
+  pub accepted-heads : 2 * j ≤ length heads
+  accepted-heads = omega (arith, narrow, ap length ones)
 
-  -- with 16 heads of which each is 1
-  pub accepted-callable : (j room size : ℕ) → j ≡ p → (size ≡ 0) ⊎ (size ≡ room) → Callable p l (take (2 * j) (replicate 16 1)) words room size
-  accepted-callable j room size e b =
+  pub accepted-nodes : length (take (2 * j) heads) ≡ 2 * j
+  accepted-nodes = length-take-le (2 * j) heads accepted-heads
+
+  pub accepted-callable : {room size : ℕ} → (size ≡ 0) ⊎ (size ≡ room) → Callable p l (take (2 * j) heads) words room size
+  accepted-callable b =
       record {
         processes = accepted-processes p l words bytes ok;
         most = accepted-operations p l words bytes ok;
-        ones = take-replicate 1 (2 * j) 16 (omega (arith, accepted-narrow)) ∙ ap (λ (n : ℕ). replicate (2 * n) 1) e;
+        ones = ap (take (2 * j)) ones ∙ take-replicate 1 (2 * j) 16 (omega (arith, narrow)) ∙ ap (λ (n : ℕ). replicate (2 * n) 1) is;
         enough = accepted-enough p l words bytes ok;
         bounded = b;
       }

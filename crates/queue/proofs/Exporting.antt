@@ -2,14 +2,12 @@
 use Prim.Native.Nat.{ℕ}
 use mathlib.Core.Path.{_≡_, ap, _∙_, subst}
 use mathlib.Core.List.{List}
-use lib.ListN.{length}
 use Rattle.calls.specs.declared.Verdict.{Verdict}
 use Rattle.calls.specs.Refusals.{refusalNumber}
 use Rattle.calls.specs.Run.{RunLeaves}
 use Rattle.calls.specs.ListOrder.{ListLeaves}
-use Rattle.calls.specs.CheckLog.{CheckLeaves, checked, checkLog}
+use Rattle.calls.specs.CheckLog.{CheckLeaves, verdictNumber, verdictIndex, checked}
 use Rattle.calls.specs.LogVerdict.{Judges}
-use Rattle.calls.proofs.LogVerdict.{check-judges}
 use Rattle.queue.specs.declared.Ran.{Ran}
 use Rattle.queue.specs.declared.Listed.{Listed}
 use Rattle.queue.specs.declared.OtqCheck.{OtqCheck}
@@ -43,7 +41,8 @@ pub check-export : (v : Verdict) (r : OtqCheck) (table : List ℕ) (e : CheckLea
 unfolding checkLeft
 check-export v r table e h x = subst (λ (z : CheckLeaves). CheckExport z r table) h x
 
--- the numbers that check a log returned are those of the definition
-pub check-told : (p l : ℕ) (records log table table' : List ℕ) (r : OtqCheck) → CheckExport (checkLog p l records log table) r table'
-    → Judges p l (length table) records log (r .verdict) (r .index)
-check-told p l records log table table' r x = rw (x .verdict, x .index) (check-judges p l records log table)
+-- what a verdict tells, its numbers tell
+pub check-told : (p l words : ℕ) (records log table : List ℕ) (v : Verdict) (r : OtqCheck) → CheckExport (checked v table) r table
+    → Judges p l words records log (verdictNumber v) (verdictIndex v) → Judges p l words records log (r .verdict) (r .index)
+unfolding checked
+check-told p l words records log table v r x told = rw (x .verdict, x .index) told

@@ -8,6 +8,7 @@ use Rattle.record.specs.AnswerRecords.{answerSize}
 use Rattle.record.specs.StepRecords.{stepRecords}
 use Rattle.tree.specs.Shape.{Shape, shapeFor}
 use Rattle.tree.specs.Layout.{wordsNeeded}
+use Rattle.calls.specs.declared.Refusal.{Refusal}
 use Rattle.calls.specs.Refusals.{refusalNumber, accepted, callRefusal}
 use Rattle.calls.specs.Run.{Played, play, runTurnedDown, runPlayed, run}
 use Rattle.calls.specs.Demand3.{Demand3, RunKeeps}
@@ -18,6 +19,7 @@ use Rattle.superblocks.proofs.RunSupers.{supers-run}
 use Rattle.log.proofs.Written.{written-fits}
 use Rattle.player.specs.declared.Outcome.{Outcome}
 use Rattle.player.specs.Contracts.PlayCalls.{PlayResult}
+use Rattle.queue.specs.declared.Ran.{Ran}
 use Rattle.queue.specs.Left.{runLeft}
 use Rattle.queue.proofs.PlayAll.{table-left}
 
@@ -28,14 +30,30 @@ module _ (p l : ℕ) (records table answers : List ℕ) where
   abbrev g : Played
   g = play s (length answers) (stepRecords records)
 
+  abbrev n : Refusal
+  n = callRefusal p l (length table) (length records)
+
+  -- what the equation then tells: demand 3 of what a call that is not turned down leaves, and where superblocks stand
+  pub with-demand3 : (r : Ran) (table' answers' : List ℕ) → runLeft r table' answers' ≡ run p l records table answers
+      → (runLeft r table' answers' ≡ run p l records table answers)
+      × ((accepted n ≡ true → Demand3 p l (take (r .taken) (stepRecords records)) (take (answerSize * r .answers) answers') (take (wordsNeeded s) table'))
+      × (accepted n ≡ true → SupersNear s (take (wordsNeeded s) table')))
+  unfolding runLeft
+  with-demand3 r table' answers' e = (
+    e,
+    (
+      λ ok. subst (RunKeeps p l records) (sym e) (demand3-run p l records table answers ok),
+      λ ok. subst (RunSupers p l) (sym e) (supers-run p l records table answers ok),
+    ),
+  )
+
   -- turned down
-  pub run-down : accepted (callRefusal p l (length table) (length records)) ≡ false
-      → runLeft (record { refusal = callRefusal p l (length table) (length records); taken = 0; answers = 0 }) table answers ≡ run p l records table answers
+  pub run-down : (m : Refusal) → m ≡ n → accepted n ≡ false → runLeft (record { refusal = m; taken = 0; answers = 0 }) table answers ≡ run p l records table answers
   unfolding runLeft run runTurnedDown
-  run-down e = rw e
+  run-down m e down = rw (e, down)
 
   -- played
-  module _ (ok : accepted (callRefusal p l (length table) (length records)) ≡ true) (o : Outcome) (log table' heads' answers' : List ℕ)
+  module _ (ok : accepted n ≡ true) (o : Outcome) (log table' heads' answers' : List ℕ)
       (leaves : PlayResult g log answers o (take (wordsNeeded s) table') heads' answers')
       (rest : drop (wordsNeeded s) table' ≡ drop (wordsNeeded s) table)
     where
@@ -51,13 +69,3 @@ module _ (p l : ℕ) (records table answers : List ℕ) where
             table = table-left g log answers o (wordsNeeded s) table table' heads' answers' leaves rest i;
             answers = (leaves .bytes ∙ written-fits answers (g .answers) (played-room s (length answers) (stepRecords records))) i;
           })
-
-      -- demand 3, on what it leaves
-      pub run-keeps : Demand3 p l (take (o .taken) (stepRecords records)) (take (answerSize * o .answers) answers') (take (wordsNeeded s) table')
-      unfolding runLeft
-      run-keeps = subst (RunKeeps p l records) (sym run-left) (demand3-run p l records table answers ok)
-
-      -- where superblocks stand, in what it leaves
-      pub run-supers : SupersNear s (take (wordsNeeded s) table')
-      unfolding runLeft
-      run-supers = subst (RunSupers p l) (sym run-left) (supers-run p l records table answers ok)

@@ -2,6 +2,7 @@
 pub mod check_log;
 pub mod exports;
 pub mod list_order;
+mod play_all;
 pub mod run;
 
 use calls::Refusal;

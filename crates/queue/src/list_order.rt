@@ -1,27 +1,31 @@
 // List the order.
 use crate::Listed;
+use crate::play_all::play_all;
 use calls::Refusal;
 use order::list::write_order;
 use order::roots::last_root;
 use order::roots::list_length;
-use player::call::play_unanswered;
+use refusals::before::of_call;
 use refusals::numbers::accepted;
-use refusals::sooner::of_call;
 use tree::heads::wide;
 use tree::layout::height_for;
 use tree::layout::starts;
 use tree::layout::words_needed;
 ghost use mathlib.Core.Path.{_≡_};
+ghost use mathlib.Core.Bool.{true};
 ghost use mathlib.Core.List.{List};
-ghost use Prim.Native.Nat.{ℕ};
+ghost use Prim.Native.Nat.{ℕ, _*_};
+ghost use lib.ListN.{length, take};
+ghost use Rattle.tree.specs.Layout.{wordsNeeded};
+ghost use Rattle.calls.specs.Refusals.{accepted as isAccepted, callRefusal};
 ghost use Rattle.tree.specs.Shape.{shapeFor};
 ghost use Rattle.calls.specs.ListOrder.{listOrder};
 ghost use Rattle.queue.specs.Left.{listLeft};
-ghost use Rattle.queue.specs.Contracts.Listing.{Listing, listFrom};
+ghost use Rattle.queue.specs.Contracts.ListingCall.{ListingCall, listFrom};
 
 // The list of the root order that a played table has, written to the output if it is not longer than that.
 fn write_list(p: u32, l: u32, heads: &[u32], table: &[u32], output: &mut [u8]) -> Listed
-    requires { ⌜ Listing p l (now heads) (now table) ⌝ }
+    requires { ⌜ ListingCall p l (now heads) (now table) ⌝ }
     ensures { λ r. ⌜ ((rest : List ℕ) → listLeft r rest (now (output .exit)) ≡ listFrom (shapeFor p l) (now (table .entry)) rest (now (output .entry))) ⌝ }
 {
     let height = height_for(p);
@@ -41,8 +45,36 @@ fn write_list(p: u32, l: u32, heads: &[u32], table: &[u32], output: &mut [u8]) -
     }
 }
 
-// Plays step records as Run does, without answers, and lists the root order that they leave. What it returns and all that it leaves in the table and in the output is what the
-// rules say.
+// The same of all heads and of a whole table, of which the first 2p and the needed words were played.
+fn list_played(p: u32, l: u32, heads: &[u32], table: &[u32], output: &mut [u8]) -> Listed
+    requires { ⌜ ListingCall p l (take (2 * p) (now heads)) (take (wordsNeeded (shapeFor p l)) (now table)) ⌝ }
+    ensures { λ r. ⌜ listLeft r (now (table .entry)) (now (output .exit))
+        ≡ listFrom (shapeFor p l) (take (wordsNeeded (shapeFor p l)) (now (table .entry))) (now (table .entry)) (now (output .entry)) ⌝ }
+{
+    let nodes = 2 * wide(p);
+    let needed = words_needed(height_for(p), wide(l));
+    write_list(p, l, &heads[..nodes], &table[..needed], output)
+}
+
+// List the order, of a call that is not turned down.
+fn list_accepted(p: u32, l: u32, records: &[u8], table: &mut [u32], output: &mut [u8]) -> Listed
+    requires { ⌜ isAccepted (callRefusal p l (length (now table)) (length (now records))) ≡ true ⌝ }
+    ensures { λ r. ⌜ listLeft r (now (table .exit)) (now (output .exit)) ≡ listOrder p l (now (records .entry)) (now (table .entry)) (now (output .entry)) ⌝ }
+{
+    let mut heads = [1u32; 16];
+    let o = play_all(p, l, records, &mut heads, table, &records[..0]);
+    let why = o.refusal;
+    if !accepted(why) {
+        return Listed {
+            refusal: why,
+            length: 0,
+        };
+    }
+    list_played(p, l, &heads, table, output)
+}
+
+// Plays step records as Run does, without answers, and lists the root order that they leave. What it returns and all
+// that it leaves in the table and in the output is what the rules say.
 pub fn list_order(p: u32, l: u32, records: &[u8], table: &mut [u32], output: &mut [u8]) -> Listed
     ensures { λ r. ⌜ listLeft r (now (table .exit)) (now (output .exit)) ≡ listOrder p l (now (records .entry)) (now (table .entry)) (now (output .entry)) ⌝ }
 {
@@ -53,16 +85,5 @@ pub fn list_order(p: u32, l: u32, records: &[u8], table: &mut [u32], output: &mu
             length: 0,
         };
     }
-    let mut heads = [1u32; 16];
-    let nodes = 2 * wide(p);
-    let o = play_unanswered(p, l, records, &mut heads[..nodes], table, &records[..0]);
-    let why = o.refusal;
-    if !accepted(why) {
-        return Listed {
-            refusal: why,
-            length: 0,
-        };
-    }
-    let needed = words_needed(height_for(p), wide(l));
-    write_list(p, l, &heads[..nodes], &table[..needed], output)
+    list_accepted(p, l, records, table, output)
 }

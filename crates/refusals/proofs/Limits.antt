@@ -3,16 +3,13 @@ use Prim.Native.Nat.{ℕ, _^_, _≤_}
 use native.Mathlib.Omega.{arith}
 use mathlib.Core.Path.{_≡_, refl, ap, sym}
 use mathlib.Core.Bool.{Bool, true, false, _||_, false≢true}
-use lib.Dec.{ltb, eqb, leb}
+use lib.Dec.{eqb, leb}
 use borrow.Author.Tests.{eqb-true, leb-true}
 use Rattle.base.specs.Choice.{if_then_else_}
 use Rattle.base.proofs.Cases.{and-true, both}
-use Rattle.record.specs.StepRecords.{stepSize}
 use Rattle.tree.specs.Shape.{processes, heightFor, shapeFor}
 use Rattle.tree.specs.Layout.{wordsNeeded}
 use Rattle.steps.specs.Process.{processesAllowed, operationsAllowed}
-use Rattle.calls.specs.declared.Refusal.the-variants.{None, TableShort, RecordsTorn}
-use Rattle.calls.specs.Refusals.{torn, callRefusal}
 
 -- L is 1 to 500
 pub allowed-most : (l : ℕ) → operationsAllowed l ≡ true → (1 ≤ l) × (l ≤ 500)
@@ -42,9 +39,3 @@ needed-for p l h w e f = ap wordsNeeded (shape-is p l h w e f)
 pub short-for : (p l : ℕ) → shapeFor p l .height ≤ 3
 unfolding shapeFor heightFor
 short-for p l = both (λ (x : ℕ). x ≤ 3) (eqb p 2) (omega arith) (both (λ (x : ℕ). x ≤ 3) (eqb p 4) (omega arith) (omega arith))
-
--- the refusal of a call whose p and l are allowed, with the words that were worked out
-pub call-from : (p l words bytes needed : ℕ) → processesAllowed p ≡ true → operationsAllowed l ≡ true → needed ≡ wordsNeeded (shapeFor p l)
-    → callRefusal p l words bytes ≡ (if ltb words needed then TableShort else if torn stepSize bytes then RecordsTorn else None)
-unfolding callRefusal
-call-from p l words bytes needed a b e = rw (a, b, e)

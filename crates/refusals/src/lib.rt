@@ -1,4 +1,4 @@
-// What a call turns down before its first record, what a begin is refused for, and the paper's number of each refusal.
+// What a call turns down before its first record, the tests of a begin, and the number of each refusal.
+pub mod before;
 pub mod begin;
 pub mod numbers;
-pub mod sooner;

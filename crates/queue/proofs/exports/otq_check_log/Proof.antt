@@ -16,8 +16,8 @@ same-length c = search needs
 returns : tie.Need-returns
 returns c =
     let r = c .before .before .before .check-log in
-    let x = check-export (r .result) _ _ _ (r .ensures .0) (c .checked .ensures _) in
-    (x, check-told _ _ _ _ _ _ _ x)
+    let x = c .checked .ensures _ in
+    (check-export (r .result) _ _ _ (r .ensures .0) x, check-told _ _ _ _ _ _ (r .result) _ x (r .ensures .1))
 
 pub otq-check-log-spec : {M : Type 1} → statement M
 otq-check-log-spec = tie.close (tie.spec check-log-requires checked-requires same-length returns)

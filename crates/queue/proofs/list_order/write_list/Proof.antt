@@ -13,7 +13,7 @@ wide-requires : tie.Need-wide-requires
 wide-requires c κs = search needs
 
 starts-requires : tie.Need-starts-requires
-starts-requires c κs = (c .before .height-for .ensures .2, omega (arith, c .wide .ensures, allowed-most _ (c .before .before .before .before .before .pre .most) .1))
+starts-requires c κs = (c .before .height-for .ensures .2, omega (arith, c .wide .ensures, allowed-most _ (c .before .before .before .before .before .pre .operations) .1))
 
 last-root-requires : tie.Need-last-root-requires
 last-root-requires c κs =

@@ -12,9 +12,9 @@ use Rattle.calls.specs.ListOrder.{ListLeaves, listRefusal, listed}
 use Rattle.order.specs.OrderList.{orderList}
 
 -- p and l are allowed, and the table and the heads are a sound memory of their tree
-pub record Listing (p l : ℕ) (heads table : List ℕ) : Type 0 where
-  pub some : processesAllowed p ≡ true
-  pub most : operationsAllowed l ≡ true
+pub record ListingCall (p l : ℕ) (heads table : List ℕ) : Type 0 where
+  pub processes : processesAllowed p ≡ true
+  pub operations : operationsAllowed l ≡ true
   pub sized : Sized (shapeFor p l) (record { table = table; heads = heads })
   pub sound : Sound (shapeFor p l) (record { table = table; heads = heads })
 

@@ -6,12 +6,14 @@ use tree::heads::wide;
 use tree::layout::height_for;
 use tree::layout::words_needed;
 ghost use mathlib.Core.Path.{_≡_};
-ghost use Rattle.calls.specs.Refusals.{callRefusal};
+ghost use mathlib.Core.Bool.{true};
+ghost use Rattle.calls.specs.Refusals.{accepted as isAccepted, settingsRefusal, bufferRefusal, callRefusal};
+ghost use Rattle.tree.specs.Shape.{shapeFor};
 ghost use Rattle.calls.specs.CheckLog.{checkRefusal};
 
-// A call with p, l, a work table of so many words and so many bytes of records: 1, 2, 3, 4.
-pub fn of_call(p: u32, l: u32, words: usize, bytes: usize) -> Refusal
-    ensures { λ r. ⌜ r ≡ callRefusal p l words bytes ⌝ }
+// The settings of a call, p and l: 1, 2.
+pub fn settings(p: u32, l: u32) -> Refusal
+    ensures { λ r. ⌜ r ≡ settingsRefusal p l ⌝ }
 {
     if !Process::processes_allowed(p) {
         return Refusal::Processes;
@@ -19,6 +21,14 @@ pub fn of_call(p: u32, l: u32, words: usize, bytes: usize) -> Refusal
     if !Process::operations_allowed(l) {
         return Refusal::Operations;
     }
+    Refusal::None
+}
+
+// Its buffers, a work table of so many words and so many bytes of records: 3, 4.
+fn buffers(p: u32, l: u32, words: usize, bytes: usize) -> Refusal
+    requires { ⌜ isAccepted (settingsRefusal p l) ≡ true ⌝ }
+    ensures { λ r. ⌜ r ≡ bufferRefusal (shapeFor p l) words bytes ⌝ }
+{
     if words < words_needed(height_for(p), wide(l)) {
         return Refusal::TableShort;
     }
@@ -26,6 +36,17 @@ pub fn of_call(p: u32, l: u32, words: usize, bytes: usize) -> Refusal
         return Refusal::RecordsTorn;
     }
     Refusal::None
+}
+
+// A call: 1, 2, 3, 4.
+pub fn of_call(p: u32, l: u32, words: usize, bytes: usize) -> Refusal
+    ensures { λ r. ⌜ r ≡ callRefusal p l words bytes ⌝ }
+{
+    let n = settings(p, l);
+    if !accepted(n) {
+        return n;
+    }
+    buffers(p, l, words, bytes)
 }
 
 // The same with so many bytes of a log: then 11.
@@ -39,5 +60,5 @@ pub fn of_check(p: u32, l: u32, words: usize, bytes: usize, log: usize) -> Refus
     if log % 16 != 0 {
         return Refusal::LogTorn;
     }
-    n
+    Refusal::None
 }
