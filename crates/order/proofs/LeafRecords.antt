@@ -17,7 +17,7 @@ use Rattle.order.specs.declared.Listing.{Listing}
 use Rattle.order.specs.declared.Subtree.{Subtree}
 use Rattle.order.specs.Contracts.Opens.{leafAt, addsTo, BlockOf}
 use Rattle.order.specs.Contracts.Listed.{Room, Lists, blockRecords}
-use Rattle.order.proofs.Subblocks.{stands-low, stands-reads}
+use Rattle.order.proofs.Subblocks.{subtree-low, subtree-reads}
 
 -- a kind fits in a byte
 pub kind-small : (κ : Kind) → kindNumber κ < 256
@@ -33,18 +33,18 @@ module _ {starts table : List ℕ} {x : Listing} {v b : ℕ} {s : Shape} {heads 
   -- the number of the leaf's process is not below 0, and fits in a byte
   pub leaf-process : x .processes ≤ v
   unfolding leafOf
-  leaf-process = let k = level-leaf s v (g .stands .level) in omega (arith, k .2, g .stands .number)
+  leaf-process = let k = level-leaf s v (g .within .level) in omega (arith, k .2, g .within .number)
 
   pub leaf-small : v < 16
-  leaf-small = stands-low (g .stands)
+  leaf-small = subtree-low (g .within)
 
   pub leaf-none : addsTo starts table (x .kind) v b ≡ false → blockRecords table x (leafAt v) b s ≡ []
   unfolding blockRecords opened flatMap block
-  leaf-none e = rw (← stands-reads (g .stands) (b - 1), ← stands-reads (g .stands) b, e)
+  leaf-none e = rw (← subtree-reads (g .within) (b - 1), ← subtree-reads (g .within) b, e)
 
   pub leaf-one : addsTo starts table (x .kind) v b ≡ true → blockRecords table x (leafAt v) b s ≡ orderBytes (leafRecord x v b)
   unfolding blockRecords opened flatMap block placed orderRecord
-  leaf-one e = rw (← stands-reads (g .stands) (b - 1), ← stands-reads (g .stands) b, e, ← g .stands .number) (append-nil _)
+  leaf-one e = rw (← subtree-reads (g .within) (b - 1), ← subtree-reads (g .within) b, e, ← g .within .number) (append-nil _)
 
 -- a node of height 0 is a leaf
 leaf-at : (y : Subtree) → y .height ≡ 0 → y ≡ leafAt (y .node)

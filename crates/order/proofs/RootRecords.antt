@@ -40,7 +40,7 @@ module _ {starts table : List ℕ} {h b : ℕ} (p : ℕ) (e : p ≡ 2 ^ h) where
   unfolding processes root
   root-block κ s heads g =
       record {
-        stands = record { settles = g .settles; number = rw (← g .height) e; level = rw (g .height) (level-root s) };
+        within = record { tree = g .tree; number = rw (← g .height) e; level = rw (g .height) (level-root s) };
         present = g .present;
       }
 

@@ -20,7 +20,7 @@ use Rattle.tree.specs.Contracts.Access.{HasPlace, nodeBlock}
 use Rattle.order.specs.OrderList.{orderRecord}
 use Rattle.order.specs.declared.Listing.{Listing}
 use Rattle.order.specs.declared.Subtree.{Subtree}
-use Rattle.order.specs.Contracts.Opens.{Stands, BlockOf, RangeOf}
+use Rattle.order.specs.Contracts.Opens.{InTree, BlockOf, RangeOf}
 use Rattle.order.specs.Contracts.Listed.{blockRecords, gathered}
 use Rattle.order.proofs.Storing.{Parts}
 use Rattle.tree.proofs.Places.{node-low, node-reads, written-small, places-upto}
@@ -37,34 +37,34 @@ bytesOf x o = orderBytes (orderRecord (placed (x .kind) (x .block) o))
 abbrev pub child : Side → Subtree → Subtree
 child d y = record { node = childOf d (y .node); height = y .height - 1 }
 
-module _ {starts table : List ℕ} {x : Listing} {y : Subtree} {s : Shape} {heads : List ℕ} (g : Stands starts table x y s heads) where
-  stands-node : Node s (y .node)
-  stands-node = level-node s (y .height) (y .node) (g .level)
+module _ {starts table : List ℕ} {x : Listing} {y : Subtree} {s : Shape} {heads : List ℕ} (g : InTree starts table x y s heads) where
+  subtree-node : Node s (y .node)
+  subtree-node = level-node s (y .height) (y .node) (g .level)
 
-  pub stands-low : y .node < 16
-  stands-low = node-low (g .settles) (y .node) stands-node
+  pub subtree-low : y .node < 16
+  subtree-low = node-low (g .tree) (y .node) subtree-node
 
-  pub stands-reads : (i : ℕ) → nodeBlock starts table (y .node) i ≡ block s (memoryOf table heads) (y .node) i
-  stands-reads i = node-reads (g .settles) (y .node) i stands-node
+  pub subtree-reads : (i : ℕ) → nodeBlock starts table (y .node) i ≡ block s (memoryOf table heads) (y .node) i
+  subtree-reads i = node-reads (g .tree) (y .node) i subtree-node
 
 module _ {starts table : List ℕ} {x : Listing} {y : Subtree} {b : ℕ} {s : Shape} {heads : List ℕ} (g : BlockOf starts table x y b s heads) where
   node : Node s (y .node)
-  node = stands-node (g .stands)
+  node = subtree-node (g .within)
 
   -- block 0 is absent
   pub block-first : 1 ≤ b
   block-first = on b (g .present)
     where
       on : (i : ℕ) → Present s (memoryOf table heads) (y .node) i → 1 ≤ i
-      on zero f = absurd (omega (arith, g .stands .settles .sound .node (y .node) node .first))
+      on zero f = absurd (omega (arith, g .within .tree .sound .node (y .node) node .first))
       on (suc i) f = omega arith
 
   pub block-small : b ≤ 4000
-  block-small = written-small (g .stands .settles) (y .node) b node (inr (g .present))
+  block-small = written-small (g .within .tree) (y .node) b node (inr (g .present))
 
   -- the node has the block's place and those before it
   pub block-place : (i : ℕ) → i ≤ b → HasPlace starts table (y .node) i
-  block-place = places-upto (g .stands .settles) (y .node) b node (inr (g .present))
+  block-place = places-upto (g .within .tree) (y .node) b node (inr (g .present))
 
   -- ---- above the leaves
   module _ (above : y .height ≡ 0 → ⊥) where
@@ -76,7 +76,7 @@ module _ {starts table : List ℕ} {x : Listing} {y : Subtree} {b : ℕ} {s : Sh
     whole = omega (arith, block-first)
 
     higher : Level s (suc (y .height - 1)) (y .node)
-    higher = let e : suc (y .height - 1) ≡ y .height = omega arith in rw e (g .stands .level)
+    higher = let e : suc (y .height - 1) ≡ y .height = omega arith in rw e (g .within .level)
 
     later : Present s (memoryOf table heads) (y .node) (suc (b - 1))
     later = rw whole (g .present)
@@ -84,11 +84,11 @@ module _ {starts table : List ℕ} {x : Listing} {y : Subtree} {b : ℕ} {s : Sh
     -- the subblocks on a side are present
     subblocks : (d : Side) → RangeOf starts table x (child d y) (endAt d (b - 1)) (endAt d b) s heads
     subblocks d =
-        let q = g .stands .settles in
+        let q = g .within .tree in
         let inner : Inner s (y .node) = level-inner s (y .height - 1) (y .node) higher in
-        rw (stands-reads (g .stands) (b - 1), stands-reads (g .stands) b)
+        rw (subtree-reads (g .within) (b - 1), subtree-reads (g .within) b)
         record {
-          stands = record { settles = q; number = g .stands .number; level = level-child s (y .height - 1) (y .node) higher d };
+          within = record { tree = q; number = g .within .number; level = level-child s (y .height - 1) (y .node) higher d };
           rises = rw whole at (subblocks-rise (q .sound) (y .node) inner (b - 1) later d);
           present = λ i l. subblock-present (q .sound) (y .node) inner (b - 1) later d i (rw whole l);
         }
@@ -100,7 +100,7 @@ module _ {starts table : List ℕ} {x : Listing} {y : Subtree} {b : ℕ} {s : Sh
     side : (d : Side) → flatMap (bytesOf x) (openedAt d) ≡ gathered (blockRecords table x (child d y)) (endAt d (b - 1)) (endAt d b) s
     unfolding blockRecords gathered
     side d =
-        rw (whole, stands-reads (g .stands) (b - 1), stands-reads (g .stands) b)
+        rw (whole, subtree-reads (g .within) (b - 1), subtree-reads (g .within) b)
         (flatMap-twice (bytesOf x) (opened s table (x .kind) (y .height - 1) (childOf d (y .node))) _)
 
     sides : blockRecords table x y b s
@@ -117,7 +117,7 @@ module _ {starts table : List ℕ} {x : Listing} {y : Subtree} {b : ℕ} {s : Sh
 -- a block of a range
 pub range-block : {starts table : List ℕ} {x : Listing} {y : Subtree} {from to : ℕ} (b : ℕ) → b < to
     → (s : Shape) (heads : List ℕ) → RangeOf starts table x y from to s heads → BlockOf starts table x y (b + 1) s heads
-range-block b l s heads g = record { stands = g .stands; present = rw (add-one b) (g .present b l) }
+range-block b l s heads g = record { within = g .within; present = rw (add-one b) (g .present b l) }
 
 -- a block above the leaves is its left subblocks, then its right ones
 module _ {starts table : List ℕ} {x : Listing} {y : Subtree} {b : ℕ} (above : y .height ≡ 0 → ⊥) where

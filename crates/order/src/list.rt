@@ -12,12 +12,9 @@ ghost use mathlib.Core.List.{List, _++_};
 ghost use Prim.Native.Nat.{ℕ, _-_, _≤_};
 ghost use lib.ListN.{length, drop};
 ghost use Rattle.tree.specs.Shape.{Shape};
-ghost use Rattle.tree.specs.Order.{lastRoot};
 ghost use Rattle.tree.specs.Contracts.Access.{HasPlace};
-ghost use Rattle.tree.specs.Contracts.SoundTree.{SoundTree};
 ghost use Rattle.order.specs.OrderList.{kindNumber, orderList};
-ghost use Rattle.order.specs.Contracts.Settled.{Listable};
-ghost use Rattle.order.specs.Contracts.Opens.{leafAt, addsTo, BlockOf, RangeOf, RootOf};
+ghost use Rattle.order.specs.Contracts.Opens.{leafAt, addsTo, BlockOf, RangeOf, RootOf, TreeOf};
 ghost use Rattle.order.specs.Contracts.Listed.{Room, Lists, blockRecords, rootRecords, gathered};
 
 // The number of a kind in an order record.
@@ -166,9 +163,8 @@ fn list_root(
 
 // All root blocks in order. What stands in the output past the list stays.
 pub fn write_order(table: &[u32], starts: &[usize; 17], height: usize, last: u32, out: &mut [u8])
-    requires { ⌜ Listable (now starts) (now table) height last (length (now out)) ⌝ }
-    ensures { λ _. ⌜ ((s : Shape) (heads : List ℕ) → SoundTree s (now (starts .entry)) heads (now (table .entry)) →
-        height ≡ s .height → last ≡ lastRoot s (now (table .entry)) →
+    requires { ⌜ Room (TreeOf (now starts) (now table) height last) (λ s. orderList s (now table)) 0 (length (now out)) ⌝ }
+    ensures { λ _. ⌜ ((s : Shape) (heads : List ℕ) → TreeOf (now (starts .entry)) (now (table .entry)) height last s heads →
         now (out .exit) ≡ orderList s (now (table .entry)) ++ drop (length (orderList s (now (table .entry)))) (now (out .entry))) ⌝ }
 {
     let mut b = 0;

@@ -21,7 +21,7 @@ use Rattle.answer.proofs.PlaysLaws.{begun-small}
 use Rattle.player.proofs.StepWords.{formed, step-words}
 use Rattle.player.proofs.RecordResults.{Refused, Moved}
 use Rattle.player.proofs.ResultLaws as laws
-use Rattle.player.proofs.LoopStates.{Call, State, shapeOf, countOf, memoryOf, processesOf, machineAt, afterMove, PlaysAs, Gives, EndsWith}
+use Rattle.player.proofs.LoopStates.{Call, State, shapeOf, countOf, memoryAt, processesOf, machineAt, afterMove, PlaysAs, Gives, EndsWith}
 use Rattle.player.proofs.LoopInvariant.{LoopInvariant, loop-narrow, loop-plays, loop-fits, loop-record, loop-refused, loop-moves}
 
 -- record i, which is before the last one, is r, and its words, `first` and `second`, are not those of a step
@@ -34,7 +34,7 @@ pub record OtherAt (c : Call) (t : State) (i first second : ℕ) (r : StepRecord
   pub no-step : second ≡ 0 → c .p ≤ first
 
 module _ {c : Call} {t : State} {i first second : ℕ} {r : StepRecord} (w : OtherAt c t i first second r) where
-  other-refused : (x : Refusal) → Gives c t r (memoryOf t) (Refused x) → EndsWith c t x i
+  other-refused : (x : Refusal) → Gives c t r (memoryAt t) (Refused x) → EndsWith c t x i
   other-refused = loop-refused (w .inv) (w .more) r (w .is ∙ loop-record (w .inv) (w .more))
 
   pub other-ill : illFormed (c .p) r ≡ true → EndsWith c t IllFormed i
@@ -79,10 +79,10 @@ module _ {c : Call} {t : State} {i first second : ℕ} {r : StepRecord} (w : Oth
       unfolding shapeFor
       begin-refused e = other-refused x (laws.begin-refused (shapeOf c) (t .left) (machineAt c t) r well-formed begins x tests e)
 
-      pub begin-moves : accepted x ≡ true → LoopInvariant c (afterMove t j (entered q (operationOf r)) (memoryOf t)) (i + 1)
+      pub begin-moves : accepted x ≡ true → LoopInvariant c (afterMove t j (entered q (operationOf r)) (memoryAt t)) (i + 1)
       unfolding shapeFor
       begin-moves e =
           let given = laws.begin-moves (shapeOf c) (t .left) (machineAt c t) r well-formed begins (ap accepted tests ∙ e) in
-          subst (λ (k : ℕ). LoopInvariant c (afterMove t k (entered q (operationOf r)) (memoryOf t)) (i + 1)) (sym at)
-          (loop-moves (w .inv) (w .more) r (w .is ∙ loop-record (w .inv) (w .more)) (entered q (operationOf r)) (memoryOf t) low refl refl
-          (subst (λ (y : Process). Gives c t r (memoryOf t) (Moved (entered y (operationOf r)))) (plays .here) given))
+          subst (λ (k : ℕ). LoopInvariant c (afterMove t k (entered q (operationOf r)) (memoryAt t)) (i + 1)) (sym at)
+          (loop-moves (w .inv) (w .more) r (w .is ∙ loop-record (w .inv) (w .more)) (entered q (operationOf r)) (memoryAt t) low refl refl
+          (subst (λ (y : Process). Gives c t r (memoryAt t) (Moved (entered y (operationOf r)))) (plays .here) given))

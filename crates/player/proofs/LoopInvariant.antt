@@ -27,7 +27,7 @@ use Rattle.log.specs.Contracts.Leading.{leadingOf, written}
 use Rattle.log.proofs.Counted.{leading-none}
 use Rattle.log.proofs.Written.{written-none}
 use Rattle.player.proofs.RecordResults.{Refused, Moved, Finished}
-use Rattle.player.proofs.LoopStates.{Call, State, shapeOf, listOf, countOf, playedTo, CallAtStart, memoryOf, machineAt, startOf, afterMove, afterAnswer, PlaysAs, Gives, EndsWith}
+use Rattle.player.proofs.LoopStates.{Call, State, shapeOf, listOf, countOf, playedTo, CallAtStart, memoryAt, machineAt, startOf, afterMove, afterAnswer, PlaysAs, Gives, EndsWith}
 use Rattle.player.proofs.PlayedSoFar.{PlayedSoFar, so-far-plays, so-far-ends, so-far-refused, so-far-moves, so-far-finishes}
 
 -- at record i: the run so far, in memory and answer bytes of the same lengths as at the start
@@ -92,7 +92,7 @@ module _ {c : Call} {t : State} {i : ℕ} (k : LoopInvariant c t i) where
     loop-record = sym (record-at (c .records) i (omega arith))
 
     module _ (r : StepRecord) (is : r ≡ getD (listOf c) i (stepRecord [])) where
-      pub loop-refused : (x : Refusal) → Gives c t r (memoryOf t) (Refused x) → EndsWith c t x i
+      pub loop-refused : (x : Refusal) → Gives c t r (memoryAt t) (Refused x) → EndsWith c t x i
       loop-refused = so-far-refused (k .so-far) r within is
 
       pub loop-moves : (q : Process) (n : Memory) → r .process < c .p → length (n .heads) ≡ length (t .heads) → length (n .table) ≡ length (t .table)
@@ -108,7 +108,7 @@ module _ {c : Call} {t : State} {i : ℕ} (k : LoopInvariant c t i) where
           }
 
       pub loop-finishes : (o : Operation) (a : AnswerRecord) (out : List ℕ) (equal : ℕ) → r .process < c .p → length out ≡ length (t .out)
-          → Gives c t r (memoryOf t) (Finished o) → a ≡ answerOf (shapeOf c) (machineAt c t) (r .process) o → 16 ≤ t .left
+          → Gives c t r (memoryAt t) (Finished o) → a ≡ answerOf (shapeOf c) (machineAt c t) (r .process) o → 16 ≤ t .left
           → equal ≡ leadingOf (playedTo c i .answers ++ (a ∷ [])) (c .log) → out ≡ written (c .out) (playedTo c i .answers ++ (a ∷ []))
           → LoopInvariant c (afterAnswer t (r .process) (rested (getD (t .procs) (r .process) idle)) out equal) (i + 1)
       loop-finishes o a out equal low eo h is-a enough same bytes =

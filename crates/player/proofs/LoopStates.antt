@@ -5,7 +5,7 @@ use lib.ListN.{length, take, set, replicate}
 use Rattle.record.specs.declared.StepRecord.{StepRecord}
 use Rattle.record.specs.StepRecords.{stepRecords}
 use Rattle.tree.specs.Shape.{Shape, processes, shapeFor}
-use Rattle.tree.specs.Memory.{Memory}
+use Rattle.tree.specs.Memory.{Memory, memoryOf}
 use Rattle.steps.specs.declared.Process.{Process}
 use Rattle.steps.specs.Process.{idle}
 use Rattle.steps.specs.Machine.{Machine}
@@ -58,8 +58,8 @@ CallAtStart c = AtStart (shapeOf c) (c .starts) (c .heads) (c .table) (c .room) 
 
 -- ---- of a state: its memory, its processes and its machine
 
-abbrev pub memoryOf : State → Memory
-memoryOf t = record { table = t .table; heads = t .heads }
+abbrev pub memoryAt : State → Memory
+memoryAt t = memoryOf (t .table) (t .heads)
 
 abbrev pub processesOf : Call → State → List Process
 processesOf c t = take (processes (shapeOf c)) (t .procs)

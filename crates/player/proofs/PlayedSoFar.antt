@@ -33,7 +33,7 @@ use Rattle.answer.specs.Contracts.Playing.{machineOf, Plays}
 use Rattle.player.specs.Contracts.PlayCalls.{PlayResult}
 use Rattle.player.proofs.RecordResults.{RecordResult, Refused, Moved, Finished, ResultOf}
 use Rattle.player.proofs.PlayLaws.{PlayedAs, played-agrees, play-refused, play-moved, play-finished, play-over}
-use Rattle.player.proofs.LoopStates.{Call, State, shapeOf, listOf, playedTo, CallAtStart, memoryOf, machineAt, afterMove, afterAnswer, PlaysAs, Gives, EndsWith}
+use Rattle.player.proofs.LoopStates.{Call, State, shapeOf, listOf, playedTo, CallAtStart, memoryAt, machineAt, afterMove, afterAnswer, PlaysAs, Gives, EndsWith}
 
 -- after the first i records none is refused, and the state is what the run so far left
 pub record PlayedSoFar (c : Call) (t : State) (i : ℕ) : Type 0 where
@@ -136,11 +136,11 @@ module _ {c : Call} {t : State} {i : ℕ} (k : PlayedSoFar c t i) where
         (subst (λ (room : ℕ). ResultOf s room (machineAt c t) r n x) e h)
 
     -- refused: the run is over
-    pub so-far-refused : (x : Refusal) → Gives c t r (memoryOf t) (Refused x) → EndsWith c t x i
+    pub so-far-refused : (x : Refusal) → Gives c t r (memoryAt t) (Refused x) → EndsWith c t x i
     unfolding refusing
     so-far-refused x h =
         let e : playedTo c (i + 1) ≡ refusing g x =
-        ap (play s (c .room)) next ∙ play-refused s (c .room) (take i (listOf c)) (k .going) r (memoryOf t) x (as-played (memoryOf t) (Refused x) h)
+        ap (play s (c .room)) next ∙ play-refused s (c .room) (take i (listOf c)) (k .going) r (memoryAt t) x (as-played (memoryAt t) (Refused x) h)
         in
         over x (play-over s (c .room) (listOf c) (i + 1) (ap (λ (y : Played). accepted (y .refusal)) e ∙ h .1) ∙ e)
 
@@ -169,12 +169,12 @@ module _ {c : Call} {t : State} {i : ℕ} (k : PlayedSoFar c t i) where
 
     -- finished: one more answer, written and compared
     pub so-far-finishes : (o : Operation) (a : AnswerRecord) (out : List ℕ) (equal : ℕ) → r .process < processes s
-        → Gives c t r (memoryOf t) (Finished o) → a ≡ answerOf s (machineAt c t) (r .process) o → 16 ≤ t .left
+        → Gives c t r (memoryAt t) (Finished o) → a ≡ answerOf s (machineAt c t) (r .process) o → 16 ≤ t .left
         → equal ≡ leadingOf (g .answers ++ (a ∷ [])) (c .log) → out ≡ written (c .out) (g .answers ++ (a ∷ []))
         → PlayedSoFar c (afterAnswer t (r .process) (rested (getD (t .procs) (r .process) idle)) out equal) (i + 1)
     unfolding processOf
     so-far-finishes o a out equal low h is-a enough same bytes =
-        let n = memoryOf t in
+        let n = memoryAt t in
         let e = ap (play s (c .room)) next ∙ play-finished s (c .room) (take i (listOf c)) (k .going) r n o (as-played n (Finished o) h) in
         let x =
         ap (λ (y : Played). y .answers) e

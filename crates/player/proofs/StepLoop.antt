@@ -10,7 +10,7 @@ use Rattle.record.specs.Bytes.{numberOf}
 use Rattle.record.specs.AnswerRecords.{answerSize}
 use Rattle.record.specs.StepRecords.{isStep, stepRecord, illFormed}
 use Rattle.tree.specs.Shape.{Shape, processes, leafOf}
-use Rattle.tree.specs.Memory.{Memory}
+use Rattle.tree.specs.Memory.{Memory, memoryOf}
 use Rattle.steps.specs.declared.Operation.{Operation}
 use Rattle.steps.specs.declared.Step.{Step}
 use Rattle.steps.specs.declared.Step.the-variants.{A, V1, V2, V3, R1, R2, R3, R4, R5, C1, C2, C3, C4, Q}
@@ -31,7 +31,7 @@ use Rattle.log.proofs.Written.{written-after}
 use Rattle.answer.proofs.PlaysLaws.{plays-ready}
 use Rattle.answer.specs.Contracts.Playing.{machineOf, Plays, Playing}
 use Rattle.player.proofs.StepWords.{stepOf, step-formed, words-step}
-use Rattle.player.proofs.LoopStates.{Call, State, shapeOf, listOf, countOf, playedTo, memoryOf, processesOf, afterMove, afterAnswer, PlaysAs, EndsWith}
+use Rattle.player.proofs.LoopStates.{Call, State, shapeOf, listOf, countOf, playedTo, memoryAt, processesOf, afterMove, afterAnswer, PlaysAs, EndsWith}
 use Rattle.player.proofs.StepResults.{gives-idle, gives-full, gives-answer, gives-step}
 use Rattle.player.proofs.LoopInvariant.{LoopInvariant, loop-narrow, loop-laid, loop-spare, loop-plays, loop-fits, loop-record, loop-refused, loop-moves, loop-finishes}
 
@@ -124,15 +124,15 @@ module _ {c : Call} {t : State} {i first j : ℕ} (w : StepAt c t i first j) whe
     abbrev pub StepsTo : Memory → Process → Type 0
     StepsTo n r =
         Moves q r
-        × (step s first (operationIn (q .status)) (memoryOf t) (stepIn (q .status)) ≡ go s first (operationIn (q .status)) (memoryOf t) n (stepIn (r .status)))
+        × (step s first (operationIn (q .status)) (memoryAt t) (stepIn (q .status)) ≡ go s first (operationIn (q .status)) (memoryAt t) n (stepIn (r .status)))
 
     pub step-moves : {y : Step} → x ≡ y → isQ y ≡ false → (table heads : List ℕ) (r : Process) → length heads ≡ length (t .heads) → length table ≡ length (t .table)
         → (stepIn (q .status) ≡ y → Ready (c .starts) (t .heads) (t .table) (c .p + first) y → Placed s (c .starts) (stepIn (q .status))
-        → StepsTo (record { table = table; heads = heads }) r)
-        → LoopInvariant c (afterMove t j r (record { table = table; heads = heads })) (i + 1)
+        → StepsTo (memoryOf table heads) r)
+        → LoopInvariant c (afterMove t j r (memoryOf table heads)) (i + 1)
     unfolding isStep
     step-moves {y} is goes table heads r eh et by-rules =
-        let n : Memory = record { table = table; heads = heads } in
+        let n = memoryOf table heads in
         let told : stepIn (q .status) ≡ y = ap stepIn busy ∙ is in
         let ready = step-ready told goes in
         let e = by-rules told ready (subst (Placed s (c .starts)) (sym told) (placed y ready)) in

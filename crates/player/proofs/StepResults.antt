@@ -16,26 +16,26 @@ use Rattle.steps.specs.Contracts.Next.{moved}
 use Rattle.calls.specs.declared.Refusal.the-variants.{StepWhileIdle, AnswersFull}
 use Rattle.player.proofs.RecordResults.{Refused, Moved, Finished}
 use Rattle.player.proofs.ResultLaws.{idle-refused, full-refused, step-finishes, step-goes}
-use Rattle.player.proofs.LoopStates.{Call, State, shapeOf, memoryOf, machineAt, PlaysAs, Gives}
+use Rattle.player.proofs.LoopStates.{Call, State, shapeOf, memoryAt, machineAt, PlaysAs, Gives}
 
 module _ (c : Call) (t : State) (r : StepRecord) (q : Process) (plays : PlaysAs c t (r .process) q) (formed : illFormed (processes (shapeOf c)) r ≡ false)
     (steps : isStep r ≡ true)
   where
-    pub gives-idle : isIdle (q .status) ≡ true → Gives c t r (memoryOf t) (Refused StepWhileIdle)
+    pub gives-idle : isIdle (q .status) ≡ true → Gives c t r (memoryAt t) (Refused StepWhileIdle)
     gives-idle e = idle-refused (shapeOf c) (t .left) (machineAt c t) r formed steps (ap (λ (x : Process). isIdle (x .status)) (plays .here) ∙ e)
 
     module _ (o : Operation) (n : Step) (busy : q .status ≡ Busy o n) where
       is-busy : processOf (machineAt c t) (r .process) .status ≡ Busy o n
       is-busy = ap (λ (x : Process). x .status) (plays .here) ∙ busy
 
-      pub gives-full : isQ n ≡ true → t .left < 16 → Gives c t r (memoryOf t) (Refused AnswersFull)
+      pub gives-full : isQ n ≡ true → t .left < 16 → Gives c t r (memoryAt t) (Refused AnswersFull)
       gives-full = full-refused (shapeOf c) (t .left) (machineAt c t) r formed steps o n is-busy
 
-      pub gives-answer : isQ n ≡ true → 16 ≤ t .left → Gives c t r (memoryOf t) (Finished o)
+      pub gives-answer : isQ n ≡ true → 16 ≤ t .left → Gives c t r (memoryAt t) (Finished o)
       gives-answer = step-finishes (shapeOf c) (t .left) (machineAt c t) r formed steps o n is-busy
 
       pub gives-step : isQ n ≡ false → (after : Memory) (x : Step)
-          → step (shapeOf c) (r .process) o (memoryOf t) n ≡ go (shapeOf c) (r .process) o (memoryOf t) after x → Gives c t r after (Moved (moved q o x))
+          → step (shapeOf c) (r .process) o (memoryAt t) n ≡ go (shapeOf c) (r .process) o (memoryAt t) after x → Gives c t r after (Moved (moved q o x))
       gives-step z after x e =
           subst (λ (y : Process). Gives c t r after (Moved (moved y o x))) (plays .here)
           (step-goes (shapeOf c) (t .left) (machineAt c t) r formed steps o n is-busy z after x e)

@@ -9,7 +9,7 @@ use Rattle.record.specs.StepRecords.{stepRecords}
 use Rattle.record.specs.AnswerRecords.{answerSize}
 use Rattle.tree.specs.Shape.{Shape, processes, heightFor, shapeFor}
 use Rattle.tree.specs.Layout.{partStart, wordsNeeded}
-use Rattle.tree.specs.Memory.{Memory}
+use Rattle.tree.specs.Memory.{Memory, memoryOf}
 use Rattle.tree.specs.Contracts.Invariant.{Sized, Sound}
 use Rattle.tree.specs.Contracts.SoundTree.{SoundTree}
 use Rattle.steps.proofs.Invariant.{Invariant}
@@ -34,11 +34,11 @@ use Rattle.queue.proofs.PlayAll.{all-left}
 -- ---- the list of a played table
 
 -- its parts begin at the starts that are worked out
-pub listing-settles : (p l : ℕ) (heads table : List ℕ) → ListingCall p l heads table → (h w : ℕ) → h ≡ heightFor p → w ≡ l → (firsts : List ℕ)
+pub listing-tree : (p l : ℕ) (heads table : List ℕ) → ListingCall p l heads table → (h w : ℕ) → h ≡ heightFor p → w ≡ l → (firsts : List ℕ)
     → ((v : ℕ) → v ≤ 2 * processes (record { height = h; most = w }) → getD firsts v 0 ≡ partStart (record { height = h; most = w }) v)
     → SoundTree (shapeFor p l) firsts heads table
 unfolding shapeFor
-listing-settles p l heads table k h w eh ew firsts parts =
+listing-tree p l heads table k h w eh ew firsts parts =
     record {
       inner = tall-for p l;
       tall = short-for p l;
@@ -109,7 +109,7 @@ module _ {p l : ℕ} {records log table : List ℕ} {o : Outcome} {heads' table'
     unfolding playAll
     list-listing =
         let keeps : Invariant s (g .machine) = played-agrees s (tall-for p l) (answerSize * length (stepRecords records)) (stepRecords records) .invariant in
-        let same : _≡_ {A = Memory} (g .machine .memory) (record { table = take (wordsNeeded s) table'; heads = heads' }) =
+        let same : _≡_ {A = Memory} (g .machine .memory) (memoryOf (take (wordsNeeded s) table') heads') =
         λ i. record { table = sym (k .leaves .words) i; heads = sym (k .leaves .nodes) i }
         in
         record {

@@ -24,30 +24,35 @@ abbrev pub addsTo : List ℕ → List ℕ → Kind → ℕ → ℕ → Bool
 addsTo starts table κ v b = ltb (total κ (nodeBlock starts table v (b - 1))) (total κ (nodeBlock starts table v b))
 
 -- a table and heads are a sound memory of shape s, x has its number of processes, and y is a node of it with its height
-pub record Stands (starts table : List ℕ) (x : Listing) (y : Subtree) (s : Shape) (heads : List ℕ) : Type 0 where
-  pub settles : SoundTree s starts heads table
+pub record InTree (starts table : List ℕ) (x : Listing) (y : Subtree) (s : Shape) (heads : List ℕ) : Type 0 where
+  pub tree : SoundTree s starts heads table
   pub number : x .processes ≡ processes s
   pub level : Level s (y .height) (y .node)
 
 -- y's block b is present
 pub record BlockOf (starts table : List ℕ) (x : Listing) (y : Subtree) (b : ℕ) (s : Shape) (heads : List ℕ) : Type 0 where
-  pub stands : Stands starts table x y s heads
+  pub within : InTree starts table x y s heads
   pub present : Present s (memoryOf table heads) (y .node) b
 
 -- y's blocks up to and with `to` are present, and `from` is at most that
 pub record RangeOf (starts table : List ℕ) (x : Listing) (y : Subtree) (from to : ℕ) (s : Shape) (heads : List ℕ) : Type 0 where
-  pub stands : Stands starts table x y s heads
+  pub within : InTree starts table x y s heads
   pub rises : from ≤ to
   pub present : (i : ℕ) → i < to → Present s (memoryOf table heads) (y .node) (suc i)
 
 -- root block b is present in a tree of height h
 pub record RootOf (starts table : List ℕ) (h b : ℕ) (s : Shape) (heads : List ℕ) : Type 0 where
-  pub settles : SoundTree s starts heads table
+  pub tree : SoundTree s starts heads table
   pub height : h ≡ s .height
   pub present : Present s (memoryOf table heads) root b
 
 -- root block b is the last one in a tree of height h
 pub record TreeOf (starts table : List ℕ) (h b : ℕ) (s : Shape) (heads : List ℕ) : Type 0 where
-  pub settles : SoundTree s starts heads table
+  pub tree : SoundTree s starts heads table
   pub height : h ≡ s .height
+  pub last : b ≡ lastRoot s table
+
+-- root block b is the last one
+pub record LastRootIs (starts table : List ℕ) (b : ℕ) (s : Shape) (heads : List ℕ) : Type 0 where
+  pub tree : SoundTree s starts heads table
   pub last : b ≡ lastRoot s table

@@ -10,13 +10,14 @@ use Rattle.steps.specs.Process.{processesAllowed, operationsAllowed}
 use Rattle.calls.specs.declared.Refusal.the-variants.{None}
 use Rattle.calls.specs.ListOrder.{ListLeaves, listRefusal, listed}
 use Rattle.order.specs.OrderList.{orderList}
+use Rattle.tree.specs.Memory.{memoryOf}
 
 -- p and l are allowed, and the table and the heads are a sound memory of their tree
 pub record ListingCall (p l : ℕ) (heads table : List ℕ) : Type 0 where
   pub processes : processesAllowed p ≡ true
   pub operations : operationsAllowed l ≡ true
-  pub sized : Sized (shapeFor p l) (record { table = table; heads = heads })
-  pub sound : Sound (shapeFor p l) (record { table = table; heads = heads })
+  pub sized : Sized (shapeFor p l) (memoryOf table heads)
+  pub sound : Sound (shapeFor p l) (memoryOf table heads)
 
 -- the list of a played table t: 10 if it is longer than the output; `table` is all that the call leaves in the work table
 unfoldable pub listFrom : Shape → List ℕ → List ℕ → List ℕ → ListLeaves

@@ -13,7 +13,7 @@ use Rattle.order.specs.Contracts.Opens.{RangeOf}
 use Rattle.order.specs.Contracts.Listed.{Lists, blockRecords, gathered}
 use Rattle.base.proofs.Stored.{stored-none}
 use Rattle.order.proofs.Storing.{room-first, room-second, lists-both, gathered-none, gathered-room, gathered-more}
-use Rattle.order.proofs.Subblocks.{stands-low, block-first, block-place, range-block, block-parts}
+use Rattle.order.proofs.Subblocks.{subtree-low, block-first, block-place, range-block, block-parts}
 use Rattle.order.proofs.LeafRecords.{leaf-room, leaf-lists}
 use Rattle.order.proofs.list.list_block.Reads as list-block
 use Rattle.order.proofs.list.list_block.Kinds as list-block-kinds
@@ -76,16 +76,16 @@ list-block-block-at-requires-2 : (t : ℕ) → list-block-lts.Need-block-at-requ
 list-block-block-at-requires-2 t c κs = block-place (c .before .before .before .before .before .pre .1 .holds) _ (omega arith)
 
 list-block-mul-child : (t : ℕ) → list-block-lts.Need-mul-child (block-claims t) (list-block-at t) list-block.Post
-list-block-mul-child t c = omega (arith, stands-low (c .before .before .before .before .before .before .before .pre .1 .holds .stands))
+list-block-mul-child t c = omega (arith, subtree-low (c .before .before .before .before .before .before .before .pre .1 .holds .within))
 
 list-block-child-requires : (t : ℕ) → list-block-lts.Need-child-requires (block-claims t) (list-block-at t) list-block.Post
 list-block-child-requires t c κs = let n = c .before .before .before .if1 .left in omega arith
 
 list-block-mul-child-2 : (t : ℕ) → list-block-lts.Need-mul-child-2 (block-claims t) (list-block-at t) list-block.Post
-list-block-mul-child-2 t c = omega (arith, stands-low (c .before .before .before .before .before .before .before .before .before .pre .1 .holds .stands))
+list-block-mul-child-2 t c = omega (arith, subtree-low (c .before .before .before .before .before .before .before .before .before .pre .1 .holds .within))
 
 list-block-add-child : (t : ℕ) → list-block-lts.Need-add-child (block-claims t) (list-block-at t) list-block.Post
-list-block-add-child t c = omega (arith, stands-low (c .before .before .before .before .before .before .before .before .before .pre .1 .holds .stands))
+list-block-add-child t c = omega (arith, subtree-low (c .before .before .before .before .before .before .before .before .before .pre .1 .holds .within))
 
 list-block-child-requires-2 : (t : ℕ) → list-block-lts.Need-child-requires-2 (block-claims t) (list-block-at t) list-block.Post
 list-block-child-requires-2 t c κs = let n = c .before .before .before .before .before .if1 .left in omega arith

@@ -47,8 +47,7 @@ returns : tie.Need-returns Inv-loop μ-loop
 returns c =
     let i = c .before .loop .inv in
     let e : c .before .loop .b ≡ c .before .before .before .before .args .last = omega arith in
-    λ s heads q h l.
-    tree-stored (c .before .before .before .before .pre) (λ s heads g. rw e at (i .2 s heads g)) s heads (record { settles = q; height = h; last = l })
+    tree-stored (c .before .before .before .before .pre) (λ s heads g. rw e at (i .2 s heads g))
 
 pub write-order-spec : {M : Type 1} → statement M
 write-order-spec =

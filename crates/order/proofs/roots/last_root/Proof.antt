@@ -4,13 +4,13 @@ use Rattle.order.proofs.roots.last_root.Statement.{statement}
 use Rattle.order.proofs.roots.last_root.Tie as tie
 
 head-of-requires : tie.Need-head-of-requires
-head-of-requires c κs = root-head (c .before .before .pre .settles)
+head-of-requires c κs = root-head (c .before .before .pre .holds)
 
 absent-at-requires : tie.Need-absent-at-requires
-absent-at-requires c κs = root-part (c .before .before .before .pre .settles)
+absent-at-requires c κs = root-part (c .before .before .before .pre .holds)
 
 sub-result : tie.Need-sub-result
-sub-result c = rw (c .before .before .head-of .ensures) (head-first (c .before .before .before .before .before .pre .settles))
+sub-result c = rw (c .before .before .head-of .ensures) (head-first (c .before .before .before .before .before .pre .holds))
 
 returns : tie.Need-returns
 returns c = λ s q.

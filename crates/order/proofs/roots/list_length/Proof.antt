@@ -6,7 +6,7 @@ use Rattle.order.proofs.roots.list_length.Statement.{statement}
 use Rattle.order.proofs.roots.list_length.Tie as tie
 
 block-at-requires : tie.Need-block-at-requires
-block-at-requires c κs = let g = c .before .pre in rw (g .last) (last-place (g .settles))
+block-at-requires c κs = let g = c .before .pre .holds .holds in rw (g .last) (last-place (g .tree))
 
 wide-requires : tie.Need-wide-requires
 wide-requires c κs = search needs
@@ -24,9 +24,9 @@ returns : tie.Need-returns
 returns c =
     let e = c .before .before .block-at .ensures in
     let a = c .before .before .before .before .args in
-    let g = c .before .before .before .before .pre in (
-      rw (c .wide2 .ensures, c .before .wide .ensures, e) (omega (arith, root-small (g .settles) (a .last))),
-      λ s heads q l. rw (c .wide2 .ensures, c .before .wide .ensures, e, l, last-counts q),
+    let g = c .before .before .before .before .pre .holds .holds in (
+      rw (c .wide2 .ensures, c .before .wide .ensures, e) (omega (arith, root-small (g .tree) (a .last))),
+      λ s heads q. rw (c .wide2 .ensures, c .before .wide .ensures, e, q .last, last-counts (q .tree)),
     )
 
 pub list-length-spec : {M : Type 1} → statement M
