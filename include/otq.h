@@ -32,13 +32,13 @@ extern "C" {
 /* Why a call or a record is turned down. */
 enum OtqRefusal {
     OTQ_NONE = 0,            /* nothing is turned down */
-    OTQ_PROCESS_COUNT = 1,   /* p is not 2, 4 or 8 */
-    OTQ_OPERATION_LIMIT = 2, /* l is not 1 to 500 */
+    OTQ_PROCESSES = 1,   /* p is not 2, 4 or 8 */
+    OTQ_OPERATIONS = 2, /* l is not 1 to 500 */
     OTQ_TABLE_SHORT = 3,     /* the table has fewer than OTQ_TABLE_WORDS(p, l) words */
     OTQ_RECORDS_TORN = 4,    /* the record bytes are not a multiple of 8 */
     OTQ_ILL_FORMED = 5,      /* a process not below p, a kind above 2, or a byte that must be zero */
-    OTQ_BEGIN_NOT_IDLE = 6,  /* a begin while the process is not idle */
-    OTQ_STEP_IDLE = 7,       /* a step while the process is idle */
+    OTQ_BEGIN_WHILE_BUSY = 6,  /* a begin while the process is not idle */
+    OTQ_STEP_WHILE_IDLE = 7,       /* a step while the process is idle */
     OTQ_BEGUN_ALL = 8,       /* a begin by a process that has begun l operations */
     OTQ_ANSWERS_FULL = 9,    /* an operation ends with fewer than 16 answer bytes left */
     OTQ_OUTPUT_SHORT = 10,   /* the order list is longer than the output */

@@ -9,13 +9,13 @@ use std::process::Command;
 use crate::support::{needed, repository};
 
 const REFUSALS: [(&str, Refusal); 11] = [
-    ("OTQ_PROCESS_COUNT", Refusal::ProcessCount),
-    ("OTQ_OPERATION_LIMIT", Refusal::OperationLimit),
+    ("OTQ_PROCESSES", Refusal::Processes),
+    ("OTQ_OPERATIONS", Refusal::Operations),
     ("OTQ_TABLE_SHORT", Refusal::TableShort),
     ("OTQ_RECORDS_TORN", Refusal::RecordsTorn),
     ("OTQ_ILL_FORMED", Refusal::IllFormed),
-    ("OTQ_BEGIN_NOT_IDLE", Refusal::BeginNotIdle),
-    ("OTQ_STEP_IDLE", Refusal::StepIdle),
+    ("OTQ_BEGIN_WHILE_BUSY", Refusal::BeginWhileBusy),
+    ("OTQ_STEP_WHILE_IDLE", Refusal::StepWhileIdle),
     ("OTQ_BEGUN_ALL", Refusal::BegunAll),
     ("OTQ_ANSWERS_FULL", Refusal::AnswersFull),
     ("OTQ_OUTPUT_SHORT", Refusal::OutputShort),

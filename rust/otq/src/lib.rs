@@ -69,7 +69,7 @@ pub struct Played {
 /// let step_of_an_idle_process = [0; 8];
 /// let mut table = vec![9; otq::table_words(2, 1).unwrap() + 1];
 /// let run = otq::run(2, 1, &step_of_an_idle_process, &mut table, &mut []);
-/// assert_eq!(run.refusal, Some(otq::Refusal::StepIdle));
+/// assert_eq!(run.refusal, Some(otq::Refusal::StepWhileIdle));
 /// assert_eq!((run.taken, run.answers), (0, 0));
 /// assert_eq!(table.last(), Some(&9));
 /// assert!(table[..table.len() - 1].iter().all(|&word| word == 0));
@@ -157,7 +157,7 @@ pub fn check_log(p: u32, l: u32, records: &[u8], log: &[u8], table: &mut [u32]) 
 /// let played = otq::play(2, 24, &[0, 1, 0, 0, 7, 0, 0, 0]);
 /// assert_eq!(played.run.taken, 1);
 /// assert!(played.answers.is_empty());
-/// assert_eq!(otq::play(3, 24, &[]).run.refusal, Some(otq::Refusal::ProcessCount));
+/// assert_eq!(otq::play(3, 24, &[]).run.refusal, Some(otq::Refusal::Processes));
 /// ```
 pub fn play(p: u32, l: u32, records: &[u8]) -> Played {
     let mut table = vec![0; table_words(p, l).unwrap_or(0)];

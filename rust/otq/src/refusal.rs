@@ -8,9 +8,9 @@ use std::fmt;
 #[repr(u32)]
 pub enum Refusal {
     /// p is not 2, 4 or 8.
-    ProcessCount = 1,
+    Processes = 1,
     /// l is not 1 to 500.
-    OperationLimit = 2,
+    Operations = 2,
     /// The work table is shorter than the words needed.
     TableShort = 3,
     /// The record bytes are not a multiple of 8.
@@ -18,9 +18,9 @@ pub enum Refusal {
     /// A process not below p, a kind above 2, or a byte that must be zero.
     IllFormed = 5,
     /// A begin while the process is not idle.
-    BeginNotIdle = 6,
+    BeginWhileBusy = 6,
     /// A step while the process is idle.
-    StepIdle = 7,
+    StepWhileIdle = 7,
     /// A begin by a process that has begun l.
     BegunAll = 8,
     /// A Q with fewer than 16 answer bytes left.
@@ -33,13 +33,13 @@ pub enum Refusal {
 
 impl Refusal {
     const ALL: [Refusal; 11] = [
-        Refusal::ProcessCount,
-        Refusal::OperationLimit,
+        Refusal::Processes,
+        Refusal::Operations,
         Refusal::TableShort,
         Refusal::RecordsTorn,
         Refusal::IllFormed,
-        Refusal::BeginNotIdle,
-        Refusal::StepIdle,
+        Refusal::BeginWhileBusy,
+        Refusal::StepWhileIdle,
         Refusal::BegunAll,
         Refusal::AnswersFull,
         Refusal::OutputShort,
@@ -49,7 +49,7 @@ impl Refusal {
     /// The paper's number.
     ///
     /// ```
-    /// assert_eq!(otq::Refusal::ProcessCount.number(), 1);
+    /// assert_eq!(otq::Refusal::Processes.number(), 1);
     /// assert_eq!(otq::Refusal::LogTorn.number(), 11);
     /// ```
     pub fn number(self) -> u32 {
@@ -66,13 +66,13 @@ impl Refusal {
 impl fmt::Display for Refusal {
     fn fmt(&self, f: &mut fmt::Formatter) -> fmt::Result {
         f.write_str(match self {
-            Refusal::ProcessCount => "the number of processes is not 2, 4 or 8",
-            Refusal::OperationLimit => "the most operations of a process are not 1 to 500",
+            Refusal::Processes => "the number of processes is not 2, 4 or 8",
+            Refusal::Operations => "the most operations of a process are not 1 to 500",
             Refusal::TableShort => "the work table is too short",
             Refusal::RecordsTorn => "the record bytes are not a multiple of 8",
             Refusal::IllFormed => "a record is ill-formed",
-            Refusal::BeginNotIdle => "a process begins while it is not idle",
-            Refusal::StepIdle => "a process steps while it is idle",
+            Refusal::BeginWhileBusy => "a process begins while it is not idle",
+            Refusal::StepWhileIdle => "a process steps while it is idle",
             Refusal::BegunAll => "a process begins more operations than it may",
             Refusal::AnswersFull => "fewer than 16 answer bytes are left",
             Refusal::OutputShort => "the order list is longer than the output",
