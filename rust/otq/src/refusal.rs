@@ -3,7 +3,8 @@
 use std::error::Error;
 use std::fmt;
 
-/// Why a call or a record is turned down; the discriminants are the paper's numbers.
+/// Why a call or a record is turned down; the discriminants are the paper's numbers. Shown, it is a
+/// line of text, the same as `otq_text.h` has for C.
 #[derive(Clone, Copy, PartialEq, Eq, Hash, Debug)]
 #[repr(u32)]
 pub enum Refusal {
@@ -32,7 +33,8 @@ pub enum Refusal {
 }
 
 impl Refusal {
-    const ALL: [Refusal; 11] = [
+    /// All of them, in the order of their numbers.
+    pub const ALL: [Refusal; 11] = [
         Refusal::Processes,
         Refusal::Operations,
         Refusal::TableShort,
@@ -56,10 +58,16 @@ impl Refusal {
         self as u32
     }
 
-    /// The refusal that the library returned as a number; 0 is none.
-    pub(crate) fn from_number(number: u32) -> Option<Refusal> {
-        let index = number.checked_sub(1)?;
-        Some(Self::ALL[index as usize])
+    /// The refusal with this number; 0 is none, and those past the last are none.
+    ///
+    /// ```
+    /// assert_eq!(otq::Refusal::from_number(11), Some(otq::Refusal::LogTorn));
+    /// assert_eq!(otq::Refusal::from_number(0), None);
+    /// ```
+    pub fn from_number(number: u32) -> Option<Refusal> {
+        Self::ALL
+            .into_iter()
+            .find(|refusal| refusal.number() == number)
     }
 }
 
@@ -71,10 +79,10 @@ impl fmt::Display for Refusal {
             Refusal::TableShort => "the work table is too short",
             Refusal::RecordsTorn => "the record bytes are not a multiple of 8",
             Refusal::IllFormed => "a record is ill-formed",
-            Refusal::BeginWhileBusy => "a process begins while it is not idle",
-            Refusal::StepWhileIdle => "a process steps while it is idle",
+            Refusal::BeginWhileBusy => "a process begins an operation while it is inside another",
+            Refusal::StepWhileIdle => "a process steps while it is inside no operation",
             Refusal::BegunAll => "a process begins more operations than it may",
-            Refusal::AnswersFull => "fewer than 16 answer bytes are left",
+            Refusal::AnswersFull => "an operation ends with fewer than 16 answer bytes left",
             Refusal::OutputShort => "the order list is longer than the output",
             Refusal::LogTorn => "the log bytes are not a multiple of 16",
         })
@@ -88,11 +96,9 @@ mod tests {
     use super::Refusal;
 
     #[test]
-    fn numbers_and_refusals_agree() {
-        assert_eq!(Refusal::from_number(0), None);
-        for number in 1..=11 {
-            let refusal = Refusal::from_number(number);
-            assert_eq!(refusal.map(Refusal::number), Some(number));
-        }
+    fn numbers_follow_each_other() {
+        let numbers = Refusal::ALL.map(Refusal::number);
+        assert!(numbers.into_iter().eq(1..=11));
+        assert_eq!(Refusal::from_number(12), None);
     }
 }
