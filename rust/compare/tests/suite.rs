@@ -10,4 +10,5 @@ mod printing;
 mod random;
 mod records;
 mod support;
+mod usage;
 mod whole_lists;

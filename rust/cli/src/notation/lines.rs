@@ -17,7 +17,8 @@ pub struct Line {
 /// let put = [1, 1, 0, 0, 7, 0, 0, 0];
 /// let step = [1, 0, 0, 0, 0, 0, 0, 0];
 /// let unknown_kind = [0, 3, 0, 0, 0, 0, 0, 0];
-/// let lines = cli::notation::lines(&[put, step, step, unknown_kind]);
+/// let records = [put, step, step, unknown_kind];
+/// let lines = cli::notation::lines(&records);
 /// let text: Vec<String> = lines.map(|line| line.to_string()).collect();
 /// assert_eq!(text, ["put 7 by 1", "step 1 x2", "raw 00 03 00 00 00 00 00 00"]);
 /// ```

@@ -14,7 +14,7 @@ use reference::tree::Shape;
 use told::Told;
 
 /// About how many records and table words the comparisons of one trace may cost.
-const BUDGET: u64 = 200_000_000;
+const BUDGET: u64 = 50_000_000;
 
 /// The Rust version after some records of a list.
 pub struct Traced<'a> {
