@@ -75,6 +75,11 @@ impl List {
         self.exercise.line_of(record)
     }
 
+    /// The line of a text's heading with this first word.
+    pub fn heading_line(&self, word: &str) -> Option<usize> {
+        self.exercise.heading_line(word)
+    }
+
     /// Run, with the buffers that the heading lends.
     pub fn run(&self) -> Result<Played, Failure> {
         let played = self.run_with(self.heading(), self.bytes());

@@ -47,7 +47,7 @@ pub struct Refused<'a> {
     list: &'a List,
     /// The refused record, from 0; `None` if the call was turned down before its records.
     pub record: Option<usize>,
-    /// How the refused record meets its process.
+    /// How the refused record meets its process, or what the call was given.
     standing: Option<String>,
     cause: Option<String>,
 }
@@ -67,7 +67,10 @@ impl Refused<'_> {
             refusal,
             list,
             record,
-            standing: record.and_then(|record| standing(list, refusal, record)),
+            standing: match record {
+                Some(record) => standing(list, refusal, record),
+                None => given(list, refusal),
+            },
             cause: cause(list, refusal),
         }
     }
@@ -140,6 +143,25 @@ pub fn told(list: &List, record: usize) -> String {
     }
 }
 
+/// What a call was given that is turned down before its records; with the line of the heading.
+fn given(list: &List, refusal: Refusal) -> Option<String> {
+    let heading = list.heading();
+    let (word, given) = match refusal {
+        Refusal::Processes => ("processes", format!("p is {}", list.p())),
+        Refusal::Operations => ("operations", format!("L is {}", list.l())),
+        Refusal::TableShort => {
+            let needed = otq::table_words(list.p(), list.l())?;
+            let lent = count(heading.table_words(), "table word");
+            ("table", format!("{lent} are lent, and {needed} are needed"))
+        }
+        _ => return None,
+    };
+    Some(match list.heading_line(word) {
+        Some(line) => format!("{given}, {}:{line}", list.name),
+        None => given,
+    })
+}
+
 /// How the refused record meets its process, read off the records before it.
 fn standing(list: &List, refusal: Refusal, record: usize) -> Option<String> {
     let bytes = list.records()[record];
@@ -186,18 +208,10 @@ fn ill_formed(record: Record, p: u32) -> String {
 
 /// What may have caused a refusal, where that is cheap to know.
 fn cause(list: &List, refusal: Refusal) -> Option<String> {
-    let heading = list.heading();
     match refusal {
         Refusal::RecordsTorn => Some(torn(list.bytes().len(), Step::BYTES, "record", "plays")),
-        Refusal::TableShort => {
-            let needed = otq::table_words(list.p(), list.l())?;
-            let lent = heading.table_words();
-            Some(format!(
-                "the heading lends {lent} table words, and {needed} are needed"
-            ))
-        }
         Refusal::AnswersFull => {
-            let lent = heading.answer_bytes();
+            let lent = list.heading().answer_bytes();
             let room = count(lent / Answer::BYTES, "answer");
             Some(format!(
                 "the heading lends {lent} answer bytes, which have room for {room}"
@@ -206,7 +220,7 @@ fn cause(list: &List, refusal: Refusal) -> Option<String> {
         Refusal::IllFormed if holds_answers(list) => {
             Some("the file holds answer records: it is a log, and not a list of steps".to_string())
         }
-        Refusal::OutputShort | Refusal::LogTorn => None,
+        Refusal::TableShort | Refusal::OutputShort | Refusal::LogTorn => None,
         _ => other_numbers(list),
     }
 }

@@ -28,39 +28,27 @@ fn each(file: &str, check: impl Fn(&[&str], Said)) {
     }
 }
 
-#[test]
-fn missing_files() {
-    let missing = path("no such file");
-    each(&missing, |words, said| {
-        let message = format!("otq: {missing}: No such file or directory (os error 2)\n");
-        assert_eq!(
-            said,
-            Said {
-                status: 2,
-                out: String::new(),
-                err: message
-            },
-            "{words:?}"
-        );
+/// Each command fails on the file, and says this of it.
+fn each_fails(file: &str, message: &str) {
+    each(file, |words, said| {
+        let expected = Said {
+            status: 2,
+            out: String::new(),
+            err: format!("otq: {file}: {message}\n"),
+        };
+        assert_eq!(said, expected, "{words:?}");
     });
 }
 
 #[test]
-fn directories() {
+fn missing_files_and_directories() {
+    each_fails(
+        &path("no such file"),
+        "No such file or directory (os error 2)",
+    );
     let folder = path("a folder");
     fs::create_dir_all(&folder).expect("a folder");
-    each(&folder, |words, said| {
-        let message = format!("otq: {folder}: Is a directory (os error 21)\n");
-        assert_eq!(
-            said,
-            Said {
-                status: 2,
-                out: String::new(),
-                err: message
-            },
-            "{words:?}"
-        );
-    });
+    each_fails(&folder, "Is a directory (os error 21)");
 }
 
 #[test]

@@ -75,21 +75,21 @@ fn each_refusal_of_a_text() {
             &format!("processes 3\n{put}")[..],
             "end 1 0\n",
             "otq: refused with 1: the number of processes is not 2, 4 or 8\n  \
-             likely cause: with `processes 2` or `processes 4` or `processes 8` the whole list",
+             p is 3, FILE:1\n  likely cause: with `processes 2` or `processes 4` or `processes 8` the whole list",
         ),
         (
             "operations",
             &format!("processes 2\noperations 0\n{put}"),
             "end 2 0\n",
             "otq: refused with 2: the most operations of a process are not 1 to 500\n  \
-             likely cause: with `operations 1` the whole list is taken\n",
+             L is 0, FILE:2\n  likely cause: with `operations 1` the whole list is taken\n",
         ),
         (
             "table",
             "processes 2\noperations 1\ntable 41\n",
             "end 3 0\n",
             "otq: refused with 3: the work table is too short\n  \
-             likely cause: the heading lends 41 table words, and 42 are needed\n",
+             41 table words are lent, and 42 are needed, FILE:3\n  `otq explain 3`",
         ),
         (
             "ill-formed",

@@ -130,7 +130,7 @@ fn long_lists() {
     let list = file("traced-long.txt", made.as_bytes());
     let (first, lines) = traced(&["trace", &list]);
     assert!(lines.len() > 15_000);
-    assert!(first.contains("th of records 1 to "), "{first}");
+    assert!(first.contains(" of records 1 to "), "{first}");
     assert!(
         first.contains(", and the last, the proved library has the same"),
         "{first}"

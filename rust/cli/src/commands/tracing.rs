@@ -80,15 +80,15 @@ fn range(given: &Given, taken: usize) -> Result<(usize, usize), Failure> {
 
 /// Where the trace comes from, and what it was compared with.
 fn first_line(from: usize, to: usize, every: usize) -> String {
-    let after = match (from <= to, every) {
+    let compared = match (from <= to, every) {
         (false, _) => "There was no record to compare.".to_string(),
-        (true, 1) => format!("After each of records {from} to {to}"),
-        (true, every) => format!("After every {every}th of records {from} to {to}, and the last,"),
+        (true, every) => {
+            let after = match every {
+                1 => format!("each of records {from} to {to}"),
+                every => format!("every {every} of records {from} to {to}, and the last,"),
+            };
+            format!("After {after} the proved library has the same table and answers.")
+        }
     };
-    let same = if from <= to {
-        " the proved library has the same table and answers."
-    } else {
-        ""
-    };
-    format!("# By the Rust version of the rules, not by the proved library. {after}{same}")
+    format!("# By the Rust version of the rules, not by the proved library. {compared}")
 }

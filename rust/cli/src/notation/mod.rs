@@ -104,6 +104,8 @@ pub struct Exercise {
     pub records: Vec<u8>,
     /// Whether there are records past [`MOST_PLAYED`], which are read but not kept.
     pub longer: bool,
+    /// The first word of each line of the heading, and its number.
+    said: Vec<(String, usize)>,
     /// For each line with records its first record, from 0, and its number.
     begins: Vec<(usize, usize)>,
 }
@@ -117,6 +119,7 @@ impl Exercise {
             exercise.keep(line, record, count as usize);
         }
         exercise.heading = reader.heading();
+        exercise.said = reader.said();
         Ok(exercise)
     }
 
@@ -137,6 +140,12 @@ impl Exercise {
             records,
             ..Exercise::default()
         }
+    }
+
+    /// The line of the heading with this first word.
+    pub fn heading_line(&self, word: &str) -> Option<usize> {
+        let said = self.said.iter().find(|(first, _)| first == word);
+        said.map(|(_, line)| *line)
     }
 
     /// The line that says a record, from 0; `None` if there is none.

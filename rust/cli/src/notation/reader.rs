@@ -48,6 +48,8 @@ pub struct Reader<T> {
     bytes: Vec<u8>,
     line: usize,
     heading: Heading,
+    /// The first word of each line of the heading, and its number.
+    said: Vec<(String, usize)>,
     /// Whether there was a record.
     begun: bool,
 }
@@ -59,6 +61,7 @@ impl<T: BufRead> Reader<T> {
             bytes: Vec::new(),
             line: 0,
             heading: Heading::default(),
+            said: Vec::new(),
             begun: false,
         }
     }
@@ -66,6 +69,11 @@ impl<T: BufRead> Reader<T> {
     /// What the heading says; all of it once there was a record or the text has ended.
     pub fn heading(&self) -> Heading {
         self.heading
+    }
+
+    /// The first word of each line of the heading so far, and its number.
+    pub fn said(self) -> Vec<(String, usize)> {
+        self.said
     }
 
     /// The next line that says records, with its number; `None` at the end of the text.
@@ -112,7 +120,11 @@ impl<T: BufRead> Reader<T> {
         match slot(&mut self.heading, first) {
             None => read_record(&words).map(Some),
             Some(_) if self.begun => Err(format!("expected `{first}` before the first record")),
-            Some(slot) => read_heading(slot, &words).map(|()| None),
+            Some(slot) => {
+                read_heading(slot, &words)?;
+                self.said.push((first.to_string(), self.line));
+                Ok(None)
+            }
         }
     }
 }
