@@ -19,7 +19,7 @@ impl List {
     /// Reads the list that a command is given as its first file.
     pub fn read(tool: &mut Tool, given: &Given) -> Result<List, Failure> {
         let name = Name::new(&given.files[0]);
-        tool.progress.say(format!("reading {name}"));
+        tool.reading(&name);
         let source = Source::open(&name)?;
         let said = Heading {
             processes: given.small("-p")?,

@@ -1,9 +1,10 @@
 //! Standard output, standard error and the progress line of a command.
 
 use crate::failure::Failure;
+use crate::files::Name;
 use crate::progress::Progress;
 use std::fmt::Display;
-use std::io::{stderr, stdout, BufWriter, ErrorKind, IsTerminal, StdoutLock, Write};
+use std::io::{stderr, stdin, stdout, BufWriter, ErrorKind, IsTerminal, StdoutLock, Write};
 
 /// What a command writes to.
 pub struct Tool {
@@ -22,6 +23,14 @@ impl Tool {
             closed: false,
             screen: stdout().is_terminal(),
             progress: Progress::start(),
+        }
+    }
+
+    /// Says that a file is read; to wait for somebody who types is no work, and a line would disturb.
+    pub fn reading(&mut self, name: &Name) {
+        match *name == Name::Input && stdin().is_terminal() {
+            true => self.progress.end(),
+            false => self.progress.say(format!("reading {name}")),
         }
     }
 

@@ -2,21 +2,21 @@
 
 use crate::support::{assert_fails, file, otq, with_numbers, written, STEPS, TEXT, TORN};
 
-/// The first line and the others.
+/// The second line, which says what was compared, and those of the records.
 fn traced(words: &[&str]) -> (String, Vec<String>) {
     let out = written(words);
-    let (first, rest) = out.split_once('\n').expect("a line");
-    (
-        first.to_string(),
-        rest.lines().map(str::to_string).collect(),
-    )
+    let mut lines = out.lines().map(str::to_string);
+    let first = "# By the Rust version of the rules, not by the proved library.";
+    assert_eq!(lines.next().as_deref(), Some(first));
+    (lines.next().expect("a line"), lines.collect())
 }
 
 #[test]
 fn a_line_a_record() {
-    let (first, lines) = traced(&["trace", TEXT]);
-    let expected = "# By the Rust version of the rules, not by the proved library. After each of records 1 to 110 the proved library has the same table and answers.";
-    assert_eq!(first, expected);
+    let (compared, lines) = traced(&["trace", TEXT]);
+    let expected =
+        "# After each of records 1 to 110 the proved library has the same table and answers.";
+    assert_eq!(compared, expected);
     assert_eq!(lines.len(), 110);
     for (index, line) in lines.iter().enumerate() {
         assert_eq!(
@@ -69,11 +69,11 @@ fn inner_nodes_and_second_refreshes() {
 #[test]
 fn a_part_of_the_records() {
     let (_, all) = traced(&["trace", TEXT]);
-    let (first, part) = traced(&["trace", TEXT, "--from", "20", "--to", "25"]);
+    let (compared, part) = traced(&["trace", TEXT, "--from", "20", "--to", "25"]);
     assert_eq!(part, all[19..25]);
     assert!(
-        first.contains("After each of records 20 to 25 the proved library"),
-        "{first}"
+        compared.contains("After each of records 20 to 25 the proved library"),
+        "{compared}"
     );
     let (_, end) = traced(&["trace", TEXT, "--from", "110", "--to", "200"]);
     assert_eq!(end, all[109..]);
@@ -93,10 +93,10 @@ fn wrong_parts() {
     assert_fails(&words, 2, &format!("otq: --from 5 --to 4: {order}"));
     let message = "otq: --from 111: the library takes 110 records\n";
     assert_fails(&["trace", TEXT, "--from", "111"], 2, message);
-    let (first, lines) = traced(&["trace", &file("tracing.empty", b"")]);
+    let (compared, lines) = traced(&["trace", &file("tracing.empty", b"")]);
     assert!(
-        first.ends_with("There was no record to compare."),
-        "{first}"
+        compared.ends_with("There was no record to compare."),
+        "{compared}"
     );
     assert!(lines.is_empty());
 }
@@ -105,10 +105,10 @@ fn wrong_parts() {
 fn refused_lists() {
     assert_fails(&with_numbers("trace", &[TORN]), 3, "otq: refused with 4: ");
     let said = otq(&with_numbers("trace", &[TORN, "--whole"]));
-    assert_eq!((said.status, said.out.lines().count()), (0, 56));
+    assert_eq!((said.status, said.out.lines().count()), (0, 57));
     let m9 = "examples/known/M9.txt";
     let said = otq(&["trace", m9]);
-    assert_eq!((said.status, said.out.lines().count()), (3, 2), "{said:?}");
+    assert_eq!((said.status, said.out.lines().count()), (3, 3), "{said:?}");
     assert!(said.err.starts_with("otq: refused with 6: "), "{said:?}");
     // Up to a record before the refused one, nothing is refused.
     assert_eq!(otq(&["trace", m9, "--to", "1"]).status, 0);
@@ -118,7 +118,7 @@ fn refused_lists() {
         "otq: refused with 3: ",
     );
     let full = otq(&["trace", "examples/known/M10.txt"]);
-    assert_eq!((full.status, full.out.lines().count()), (3, 16), "{full:?}");
+    assert_eq!((full.status, full.out.lines().count()), (3, 17), "{full:?}");
 }
 
 /// A list too long to compare both versions after every record.
@@ -128,11 +128,11 @@ fn long_lists() {
         "make", "-p", "2", "-L", "500", "--pace", "uniform", "--seed", "1",
     ]);
     let list = file("traced-long.txt", made.as_bytes());
-    let (first, lines) = traced(&["trace", &list]);
+    let (compared, lines) = traced(&["trace", &list]);
     assert!(lines.len() > 15_000);
-    assert!(first.contains(" of records 1 to "), "{first}");
+    assert!(compared.contains(" of records 1 to "), "{compared}");
     assert!(
-        first.contains(", and the last, the proved library has the same"),
-        "{first}"
+        compared.contains(", and the last, the proved library has the same"),
+        "{compared}"
     );
 }

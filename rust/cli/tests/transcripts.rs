@@ -1,6 +1,6 @@
 //! Documents that show commands with what they print: each does what is shown.
 //!
-//! A code block whose first line begins with `$ otq` is a transcript: lines that begin with `$ ` are
+//! A code block whose first line begins with `$ ` is a transcript: lines that begin with `$ ` are
 //! typed, the others are printed. Its commands are run by one shell.
 
 use crate::support::{path, repository};
@@ -19,7 +19,7 @@ fn blocks(text: &str) -> Vec<String> {
             None => blocks.push(String::new()),
         }
     }
-    blocks.retain(|block| block.starts_with("$ otq "));
+    blocks.retain(|block| block.starts_with("$ "));
     blocks
 }
 
@@ -51,18 +51,17 @@ fn assert_shown(document: &str, block: &str) {
     assert_eq!(String::from_utf8_lossy(&output.stdout), block, "{document}");
 }
 
+/// The documents, and how many transcripts they have at least.
+const DOCUMENTS: [(&str, usize); 2] = [("README.md", 0), ("examples/supplier/README.md", 5)];
+
 #[test]
 fn documents_show_what_is_printed() {
-    for document in ["README.md", "examples/supplier/README.md"] {
+    for (document, least) in DOCUMENTS {
         let text = fs::read_to_string(repository().join(document)).expect(document);
-        for block in blocks(&text) {
+        let blocks = blocks(&text);
+        assert!(blocks.len() >= least, "{document}");
+        for block in blocks {
             assert_shown(document, &block);
         }
     }
-}
-
-#[test]
-fn the_example_has_transcripts() {
-    let text = fs::read_to_string(repository().join("examples/supplier/README.md")).unwrap();
-    assert!(blocks(&text).len() >= 3);
 }

@@ -20,7 +20,7 @@ pub const ALL: Choice = Choice {
 pub fn check(tool: &mut Tool, given: &Given) -> Result<Status, Failure> {
     let list = List::read(tool, given)?;
     let name = Name::new(&given.files[1]);
-    tool.progress.say(format!("reading {name}"));
+    tool.reading(&name);
     let mut log = records(&name, "answer records")?;
     if given.has("--whole") {
         leave_out_torn(&name, &mut log, Answer::BYTES);

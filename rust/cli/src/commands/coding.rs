@@ -19,7 +19,7 @@ const AT_ONCE: usize = 8192;
 
 pub fn encode(tool: &mut Tool, given: &Given) -> Result<Status, Failure> {
     let name = Name::new(&given.files[0]);
-    tool.progress.say(format!("encoding {name}"));
+    tool.reading(&name);
     let source = Source::open(&name)?;
     if source.holds == Holds::Records {
         let message = "it holds binary records, and not text; `otq decode` makes text of them";
@@ -65,7 +65,7 @@ pub fn decode(tool: &mut Tool, given: &Given) -> Result<Status, Failure> {
             "records do not say p and L: give -p P and -L L",
         ));
     };
-    tool.progress.say(format!("decoding {name}"));
+    tool.reading(&name);
     let bytes = records(&name, "binary records; it may be played as it is")?;
     let (whole, torn) = bytes.as_chunks();
     if !torn.is_empty() {

@@ -19,7 +19,9 @@ struct Command {
     name: &'static str,
     /// What follows the name.
     usage: &'static str,
+    /// What it does, in a line, and what else is to be said.
     about: &'static str,
+    more: &'static str,
     choices: &'static [&'static Choice],
     /// The least and the most files.
     files: (usize, usize),
@@ -53,9 +55,10 @@ const COMMANDS: [Command; 9] = [
     Command {
         name: "run",
         usage: "[-p P -L L] STEPS [--log OUT] [--whole] [--json]",
-        about: "plays the steps: a line an answer (put or take, process, serial, own steps, root\n\
-                block, and for a take its value or `none`), last `end`, the refusal number (0 for\n\
-                none) and the records taken",
+        about: "plays the steps, prints the answers, and writes the answer log",
+        more: "A line an answer: put or take, process, serial of the operation in its process, own steps,\n\
+               root block, and for a take its value or `none`. Last `end`, the refusal number (0 for\n\
+               none) and the records taken.",
         choices: &[&P, &L, &playing::LOG, &WHOLE, &JSON],
         files: (1, 1),
         proved: true,
@@ -64,8 +67,8 @@ const COMMANDS: [Command; 9] = [
     Command {
         name: "order",
         usage: "[-p P -L L] STEPS [--raw OUT] [--whole] [--json]",
-        about: "lists the order in which the operations took effect: a line an operation (put or\n\
-                take, process, serial, root block)",
+        about: "lists the order in which the operations took effect",
+        more: "A line an operation: put or take, process, serial, root block.",
         choices: &[&P, &L, &listing::RAW, &WHOLE, &JSON],
         files: (1, 1),
         proved: true,
@@ -74,7 +77,9 @@ const COMMANDS: [Command; 9] = [
     Command {
         name: "check",
         usage: "[-p P -L L] STEPS LOG [--all] [--whole] [--json]",
-        about: "checks a log of answer records against the rules: `same`, or where it differs",
+        about: "checks a log of answer records against the rules",
+        more: "Prints `same`, or where the log differs: both records field by field, the first byte that\n\
+               differs, and the record of the list that ended the operation.",
         choices: &[&P, &L, &checking::ALL, &WHOLE, &JSON],
         files: (2, 2),
         proved: true,
@@ -83,7 +88,8 @@ const COMMANDS: [Command; 9] = [
     Command {
         name: "show",
         usage: "--as steps|log|order FILE",
-        about: "shows a binary file as text: a line a record, with its number",
+        about: "shows a binary file as text",
+        more: "A line a record, with its number; of a torn file the whole records, and where it is torn.",
         choices: &[&showing::AS],
         files: (1, 1),
         proved: false,
@@ -92,7 +98,10 @@ const COMMANDS: [Command; 9] = [
     Command {
         name: "trace",
         usage: "[-p P -L L] STEPS [--from N] [--to N] [--whole]",
-        about: "tells what each record does: a line a record, with what it read and what it wrote",
+        about: "tells what each record does",
+        more: "A line a record: its number, process and named step, what it read, and what it wrote or\n\
+               moved. It comes from the Rust version of the rules, whose table and answers are compared\n\
+               with the proved library before anything is printed.",
         choices: &[&P, &L, &tracing::FROM, &tracing::TO, &WHOLE],
         files: (1, 1),
         proved: true,
@@ -101,7 +110,8 @@ const COMMANDS: [Command; 9] = [
     Command {
         name: "make",
         usage: "-p P -L L --pace PACE --seed S [-o OUT]",
-        about: "makes an exercise, as text, in which every process does L operations",
+        about: "makes an exercise",
+        more: "As text, with L operations of each process, about half of them puts; all of them end.",
         choices: &[&P, &L, &making::PACE, &making::SEED, &making::OUT],
         files: (0, 0),
         proved: true,
@@ -111,6 +121,10 @@ const COMMANDS: [Command; 9] = [
         name: "encode",
         usage: "[--print] FILE",
         about: "writes the step records of a text exercise",
+        more: "A text has a line a record or a run of steps: `put VALUE by PROCESS`, `take by PROCESS`,\n\
+               `step PROCESS`, `step PROCESS xCOUNT`, or `raw` and 8 bytes in hexadecimal. Before them may\n\
+               stand `processes P`, `operations L`, `answers BYTES` and `table WORDS`. A comment goes from\n\
+               # to the end of its line.",
         choices: &[&coding::PRINT],
         files: (1, 1),
         proved: false,
@@ -120,6 +134,7 @@ const COMMANDS: [Command; 9] = [
         name: "decode",
         usage: "-p P -L L FILE",
         about: "writes the text exercise of step records",
+        more: "With p and L in its heading, so that it plays alike.",
         choices: &[&P, &L],
         files: (1, 1),
         proved: false,
@@ -128,7 +143,8 @@ const COMMANDS: [Command; 9] = [
     Command {
         name: "explain",
         usage: "[N|records]",
-        about: "says what refusal N means and what to do about it, or how records are laid out",
+        about: "says what a refusal means and what to do, or how records are laid out",
+        more: "Without a word it lists the refusals.",
         choices: &[],
         files: (0, 1),
         proved: false,
@@ -199,9 +215,13 @@ impl Command {
 
     fn help(&self) -> String {
         let Command {
-            name, usage, about, ..
+            name,
+            usage,
+            about,
+            more,
+            ..
         } = self;
-        let mut help = format!("otq {name} {usage}\n\n{about}\n");
+        let mut help = format!("otq {name} {usage}\n\n{about}\n{more}\n");
         for choice in self.choices {
             let option = format!("{} {}", choice.name, choice.value.unwrap_or(""));
             help += &format!(
@@ -212,7 +232,7 @@ impl Command {
         if self.usage.contains("STEPS") {
             help += &format!("\n\n{STEPS}");
         }
-        help
+        help.trim_end().to_string()
     }
 }
 
@@ -227,8 +247,11 @@ fn help(tool: &mut Tool, words: &[OsString]) -> Result<Status, Failure> {
 fn overview() -> String {
     let mut text =
         "otq plays the steps of a shared queue, lists their order, and checks a log.\n".to_string();
-    for Command { name, usage, .. } in &COMMANDS {
-        text += &format!("\n  otq {name:<8}{usage}");
+    for Command {
+        name, usage, about, ..
+    } in &COMMANDS
+    {
+        text += &format!("\n  otq {name:<8}{usage}\n              {about}");
     }
     format!("{text}\n\n`otq COMMAND --help` says more of one.\n\n{STEPS}")
 }

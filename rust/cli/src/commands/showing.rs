@@ -16,7 +16,7 @@ pub const AS: Choice = Choice {
 pub fn show(tool: &mut Tool, given: &Given) -> Result<Status, Failure> {
     let name = Name::new(&given.files[0]);
     let what = given.value("--as").and_then(|what| what.to_str());
-    tool.progress.say(format!("showing {name}"));
+    tool.reading(&name);
     match what {
         Some("steps") => show_as(tool, &name, &STEP, words::step),
         Some("log") => show_as(tool, &name, &ANSWER, words::answer),

@@ -37,7 +37,7 @@ pub fn trace(tool: &mut Tool, given: &Given) -> Result<Status, Failure> {
     } else {
         1
     };
-    tool.line(first_line(from, to, every))?;
+    tool.line(first_lines(from, to, every))?;
     let mut traced = Traced::start(&list)?;
     for number in 1..=to {
         let line = traced.next()?;
@@ -79,7 +79,7 @@ fn range(given: &Given, taken: usize) -> Result<(usize, usize), Failure> {
 }
 
 /// Where the trace comes from, and what it was compared with.
-fn first_line(from: usize, to: usize, every: usize) -> String {
+fn first_lines(from: usize, to: usize, every: usize) -> String {
     let compared = match (from <= to, every) {
         (false, _) => "There was no record to compare.".to_string(),
         (true, every) => {
@@ -90,5 +90,5 @@ fn first_line(from: usize, to: usize, every: usize) -> String {
             format!("After {after} the proved library has the same table and answers.")
         }
     };
-    format!("# By the Rust version of the rules, not by the proved library. {compared}")
+    format!("# By the Rust version of the rules, not by the proved library.\n# {compared}")
 }
