@@ -81,17 +81,13 @@ impl Difference<'_> {
     }
 
     pub fn json(&self, list: &List) -> Json {
-        let number = |number: usize| Json::Number(number as u64);
         let line = self.ended.and_then(|record| list.line_of(record));
         let answer = |side: Option<&Record>| Json::or_null(side.map(|record| ANSWER.json(record)));
         Json::object([
-            ("index", number(self.index)),
-            ("byte", number(self.byte())),
-            (
-                "record",
-                Json::or_null(self.ended.map(|record| number(record + 1))),
-            ),
-            ("line", Json::or_null(line.map(number))),
+            ("index", Json::number(Some(self.index))),
+            ("byte", Json::number(Some(self.byte()))),
+            ("record", Json::number(self.ended.map(|record| record + 1))),
+            ("line", Json::number(line)),
             ("by_rules", answer(self.by_rules)),
             ("in_log", answer(self.in_log)),
         ])

@@ -17,6 +17,11 @@ impl Json {
         Json::Text(text.to_string())
     }
 
+    /// A number, or null.
+    pub fn number(number: Option<usize>) -> Json {
+        Json::or_null(number.map(|number| Json::Number(number as u64)))
+    }
+
     /// The value, or null.
     pub fn or_null(value: Option<Json>) -> Json {
         value.unwrap_or(Json::Null)

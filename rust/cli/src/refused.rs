@@ -103,8 +103,8 @@ impl Refused<'_> {
     }
 
     pub fn json(&self) -> Json {
-        let number = |number: usize| Json::Number(number as u64);
         let record = self.record;
+        let byte = record.map(|record| record * Step::BYTES);
         let line = record.and_then(|record| self.list.line_of(record));
         let words = record.map(|record| step(self.list.records()[record]));
         let text = |text: &Option<String>| Json::or_null(text.as_ref().map(Json::text));
@@ -112,15 +112,9 @@ impl Refused<'_> {
             ("number", Json::Number(self.refusal.number().into())),
             ("name", Json::text(format!("{:?}", self.refusal))),
             ("meaning", Json::text(self.refusal)),
-            (
-                "record",
-                Json::or_null(record.map(|record| number(record + 1))),
-            ),
-            (
-                "byte",
-                Json::or_null(record.map(|record| number(record * Step::BYTES))),
-            ),
-            ("line", Json::or_null(line.map(number))),
+            ("record", Json::number(record.map(|record| record + 1))),
+            ("byte", Json::number(byte)),
+            ("line", Json::number(line)),
             ("words", text(&words)),
             ("standing", text(&self.standing)),
             ("likely_cause", text(&self.cause)),

@@ -51,98 +51,95 @@ fn a_torn_list() {
     assert_eq!(whole.err, message);
 }
 
-/// A list that is refused, and what is told of it.
-fn assert_refused(name: &str, text: &str, out: &str, told: &str) {
-    let path = file(&format!("refused-{name}.txt"), text.as_bytes());
-    let said = otq(&["run", &path]);
-    assert_eq!(
-        (said.status, said.out.as_str()),
-        (3, out),
-        "{name} {said:?}"
-    );
-    let told = told.replace("FILE", &path);
-    assert!(said.err.starts_with(&told), "{said:?}");
-}
+/// Lists that are refused: a name, the text, what is printed, and how what is told begins.
+const REFUSED: [[&str; 4]; 9] = [
+    [
+        "processes",
+        "processes 3\nput 1 by 0\nstep 0 x15\n",
+        "end 1 0\n",
+        "otq: refused with 1: the number of processes is not 2, 4 or 8\n  p is 3, FILE:1\n  \
+         likely cause: with `processes 2` or `processes 4` or `processes 8` the whole list is taken\n",
+    ],
+    [
+        "operations",
+        "processes 2\noperations 0\nput 1 by 0\nstep 0 x15\n",
+        "end 2 0\n",
+        "otq: refused with 2: the most operations of a process are not 1 to 500\n  L is 0, FILE:2\n  \
+         likely cause: with `operations 1` the whole list is taken\n",
+    ],
+    [
+        "table",
+        "processes 2\noperations 1\ntable 41\n",
+        "end 3 0\n",
+        "otq: refused with 3: the work table is too short\n  \
+         41 table words are lent, and 42 are needed, FILE:3\n  `otq explain 3`",
+    ],
+    [
+        "ill-formed",
+        "processes 2\nraw 00 03 00 00 00 00 00 00\n",
+        "end 5 0\n",
+        "otq: refused with 5: a record is ill-formed\n  \
+         record 1, byte 0: raw 00 03 00 00 00 00 00 00 (00 03 00 00 00 00 00 00), FILE:2\n  \
+         kind 3 is none of 0, 1 and 2\n  `otq explain 5`",
+    ],
+    [
+        "begin-while-busy",
+        "processes 2\nput 1 by 0\nput 2 by 0\n",
+        "end 6 1\n",
+        "otq: refused with 6: a process begins an operation while it is inside another\n  \
+         record 2, byte 8: put 2 by 0 (00 01 00 00 02 00 00 00), FILE:3\n  \
+         process 0 is still inside the operation that record 1 began\n  `otq explain 6`",
+    ],
+    [
+        "step-while-idle",
+        "processes 2\nput 1 by 0\nstep 0 x15\nstep 0\n",
+        "put 0 1 15 1\nend 7 16\n",
+        "otq: refused with 7: a process steps while it is inside no operation\n  \
+         record 17, byte 128: step 0 (00 00 00 00 00 00 00 00), FILE:4\n  \
+         the last operation of process 0 ended with record 16\n  \
+         likely cause: with `processes 4` or `processes 8` the whole list is taken\n",
+    ],
+    [
+        "nothing-begun",
+        "processes 2\nput 1 by 1\nstep 0\n",
+        "end 7 1\n",
+        "otq: refused with 7: a process steps while it is inside no operation\n  \
+         record 2, byte 8: step 0 (00 00 00 00 00 00 00 00), FILE:3\n  \
+         process 0 has begun nothing before\n  `otq explain 7`",
+    ],
+    [
+        "begun-all",
+        "processes 2\noperations 1\nput 1 by 0\nstep 0 x15\nput 2 by 0\n",
+        "put 0 1 15 1\nend 8 16\n",
+        "otq: refused with 8: a process begins more operations than it may\n  \
+         record 17, byte 128: put 2 by 0 (00 01 00 00 02 00 00 00), FILE:5\n  \
+         process 0 has begun 1 operation, and L is 1\n  \
+         likely cause: with `operations 2` the whole list is taken\n",
+    ],
+    [
+        "answers-full",
+        "processes 2\nanswers 15\nput 1 by 0\nstep 0 x15\n",
+        "end 9 15\n",
+        "otq: refused with 9: an operation ends with fewer than 16 answer bytes left\n  \
+         record 16, byte 120: step 0 (00 00 00 00 00 00 00 00), FILE:4\n  \
+         likely cause: the heading lends 15 answer bytes, which have room for 0 answers\n",
+    ],
+];
 
 #[test]
 fn each_refusal_of_a_text() {
-    let put = "put 1 by 0\nstep 0 x15\n";
-    let twice = "processes 2\nput 1 by 0\nput 2 by 0\n";
-    let again = format!("processes 2\noperations 1\n{put}put 2 by 0\n");
-    for (name, text, out, told) in [
-        (
-            "processes",
-            &format!("processes 3\n{put}")[..],
-            "end 1 0\n",
-            "otq: refused with 1: the number of processes is not 2, 4 or 8\n  \
-             p is 3, FILE:1\n  likely cause: with `processes 2` or `processes 4` or `processes 8` the whole list",
-        ),
-        (
-            "operations",
-            &format!("processes 2\noperations 0\n{put}"),
-            "end 2 0\n",
-            "otq: refused with 2: the most operations of a process are not 1 to 500\n  \
-             L is 0, FILE:2\n  likely cause: with `operations 1` the whole list is taken\n",
-        ),
-        (
-            "table",
-            "processes 2\noperations 1\ntable 41\n",
-            "end 3 0\n",
-            "otq: refused with 3: the work table is too short\n  \
-             41 table words are lent, and 42 are needed, FILE:3\n  `otq explain 3`",
-        ),
-        (
-            "ill-formed",
-            "processes 2\nraw 00 03 00 00 00 00 00 00\n",
-            "end 5 0\n",
-            "otq: refused with 5: a record is ill-formed\n  \
-             record 1, byte 0: raw 00 03 00 00 00 00 00 00 (00 03 00 00 00 00 00 00), FILE:2\n  \
-             kind 3 is none of 0, 1 and 2\n  `otq explain 5`",
-        ),
-        (
-            "begin-while-busy",
-            twice,
-            "end 6 1\n",
-            "otq: refused with 6: a process begins an operation while it is inside another\n  \
-             record 2, byte 8: put 2 by 0 (00 01 00 00 02 00 00 00), FILE:3\n  \
-             process 0 is still inside the operation that record 1 began\n  `otq explain 6`",
-        ),
-        (
-            "step-while-idle",
-            &format!("processes 2\n{put}step 0\n"),
-            "put 0 1 15 1\nend 7 16\n",
-            "otq: refused with 7: a process steps while it is inside no operation\n  \
-             record 17, byte 128: step 0 (00 00 00 00 00 00 00 00), FILE:4\n  \
-             the last operation of process 0 ended with record 16\n  \
-             likely cause: with `processes 4` or `processes 8` the whole list is taken\n",
-        ),
-        (
-            "nothing-begun",
-            "processes 2\nput 1 by 1\nstep 0\n",
-            "end 7 1\n",
-            "otq: refused with 7: a process steps while it is inside no operation\n  \
-             record 2, byte 8: step 0 (00 00 00 00 00 00 00 00), FILE:3\n  \
-             process 0 has begun nothing before\n  `otq explain 7`",
-        ),
-        (
-            "begun-all",
-            &again,
-            "put 0 1 15 1\nend 8 16\n",
-            "otq: refused with 8: a process begins more operations than it may\n  \
-             record 17, byte 128: put 2 by 0 (00 01 00 00 02 00 00 00), FILE:5\n  \
-             process 0 has begun 1 operation, and L is 1\n  \
-             likely cause: with `operations 2` the whole list is taken\n",
-        ),
-        (
-            "answers-full",
-            "processes 2\nanswers 15\nput 1 by 0\nstep 0 x15\n",
-            "end 9 15\n",
-            "otq: refused with 9: an operation ends with fewer than 16 answer bytes left\n  \
-             record 16, byte 120: step 0 (00 00 00 00 00 00 00 00), FILE:4\n  \
-             likely cause: the heading lends 15 answer bytes, which have room for 0 answers\n",
-        ),
-    ] {
-        assert_refused(name, text, out, told);
+    for [name, text, out, told] in REFUSED {
+        let path = file(&format!("refused-{name}.txt"), text.as_bytes());
+        let said = otq(&["run", &path]);
+        assert_eq!(
+            (said.status, said.out.as_str()),
+            (3, out),
+            "{name} {said:?}"
+        );
+        assert!(
+            said.err.starts_with(&told.replace("FILE", &path)),
+            "{said:?}"
+        );
     }
 }
 

@@ -50,7 +50,7 @@ pub fn check(tool: &mut Tool, given: &Given) -> Result<Status, Failure> {
                 _ => Refused::of_list(&list, refusal, list.taken()),
             };
             if json {
-                tool.line(beginning("refused", Some(&refused), log.len()) + "], \"count\": null}")?;
+                tool.line(beginning("refused", Some(&refused), log.len()) + &end(None))?;
             }
             Err(refused.failure())
         }
@@ -68,7 +68,7 @@ struct Check<'a> {
 impl Check<'_> {
     fn tell_same(&self, tool: &mut Tool, json: bool) -> Result<(), Failure> {
         match json {
-            true => tool.line(beginning("same", None, self.log.len()) + "], \"count\": 0}"),
+            true => tool.line(beginning("same", None, self.log.len()) + &end(Some(0))),
             false => tool.line(format!("same, {}", answers(self.log))),
         }
     }
@@ -98,10 +98,7 @@ impl Check<'_> {
         let told = self.each(tool, &by_rules, first, |tool, told, difference| {
             tool.write(format!("{}{}", comma(told), difference.json(self.list)).as_bytes())
         })?;
-        match self.all {
-            true => tool.line(format!("], \"count\": {told}}}")),
-            false => tool.line("], \"count\": null}"),
-        }
+        tool.line(end(self.all.then_some(told)))
     }
 
     /// Tells the differences that are wanted, and gives their number. The first is that of the
@@ -146,4 +143,9 @@ fn beginning(verdict: &str, refused: Option<&Refused>, log: usize) -> String {
     ]);
     let text = object.to_string();
     text.strip_suffix("]}").unwrap_or(&text).to_string()
+}
+
+/// The rest of the object: how many differences there are, where that is known.
+fn end(count: Option<usize>) -> String {
+    format!("], \"count\": {}}}", Json::number(count))
 }
