@@ -132,9 +132,6 @@ fn progress() {
     let output = child.wait_with_output().expect("it ends");
     assert!(began.elapsed() > Duration::from_secs(1));
     let told = String::from_utf8_lossy(&output.stderr);
-    assert!(
-        told.starts_with("otq: reading standard input, 1 s\n"),
-        "{told}"
-    );
+    assert!(told.starts_with("otq: reading standard input, "), "{told}");
     assert_eq!(Said::of(output).out, "end 0 0\n");
 }

@@ -27,17 +27,22 @@ pub struct Said {
 
 impl Said {
     pub fn of(output: Output) -> Said {
-        let err = String::from_utf8_lossy(&output.stderr);
-        let lines = err.split_inclusive('\n').filter(|line| !is_progress(line));
         let said = Said {
             status: output.status.code().expect("it ends by itself"),
             out: String::from_utf8_lossy(&output.stdout).into_owned(),
-            err: lines.collect(),
+            err: without_progress(&output.stderr),
         };
         assert!(!said.err.contains("panicked"), "{said:?}");
         assert!((0..=3).contains(&said.status), "{said:?}");
         said
     }
+}
+
+/// What is said besides the progress.
+pub fn without_progress(bytes: &[u8]) -> String {
+    let text = String::from_utf8_lossy(bytes);
+    let lines = text.split_inclusive('\n');
+    lines.filter(|line| !is_progress(line)).collect()
 }
 
 /// Whether a line ends with a number of seconds.

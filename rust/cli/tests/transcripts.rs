@@ -3,7 +3,7 @@
 //! A code block whose first line begins with `$ ` is a transcript: lines that begin with `$ ` are
 //! typed, the others are printed. Its commands are run by one shell.
 
-use crate::support::{path, repository};
+use crate::support::{path, repository, without_progress};
 use std::fs;
 use std::os::unix::fs::symlink;
 use std::path::Path;
@@ -48,7 +48,7 @@ fn assert_shown(document: &str, block: &str) {
         .current_dir(&folder)
         .output()
         .expect("bash starts");
-    assert_eq!(String::from_utf8_lossy(&output.stdout), block, "{document}");
+    assert_eq!(without_progress(&output.stdout), block, "{document}");
 }
 
 /// The documents, and how many transcripts they have at least.
