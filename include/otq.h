@@ -1,6 +1,6 @@
-/* The proved library for C and C++ on x86-64: a first-in first-out queue shared by several processes,
-   played step by step as a list of step records says. `rt staticlib queue` writes the archive to link,
-   target/staticlib/libqueue.a.
+/* The proved library for C and C++ on Linux, x86-64: a first-in first-out queue shared by several
+   processes, played step by step as a list of step records says. `rt staticlib queue` writes the archive
+   to link, target/staticlib/libqueue.a. otq_text.h has the text of each refusal.
 
    Every call takes p, the number of processes (2, 4 or 8), and l, the most operations of one process
    (1 to 500). Any numbers and any contents may be passed: what is turned down is told by a number.
@@ -31,18 +31,18 @@ extern "C" {
 
 /* Why a call or a record is turned down. */
 enum OtqRefusal {
-    OTQ_NONE = 0,            /* nothing is turned down */
-    OTQ_PROCESS_COUNT = 1,   /* p is not 2, 4 or 8 */
-    OTQ_OPERATION_LIMIT = 2, /* l is not 1 to 500 */
-    OTQ_TABLE_SHORT = 3,     /* the table has fewer than OTQ_TABLE_WORDS(p, l) words */
-    OTQ_RECORDS_TORN = 4,    /* the record bytes are not a multiple of 8 */
-    OTQ_ILL_FORMED = 5,      /* a process not below p, a kind above 2, or a byte that must be zero */
-    OTQ_BEGIN_NOT_IDLE = 6,  /* a begin while the process is not idle */
-    OTQ_STEP_IDLE = 7,       /* a step while the process is idle */
-    OTQ_BEGUN_ALL = 8,       /* a begin by a process that has begun l operations */
-    OTQ_ANSWERS_FULL = 9,    /* an operation ends with fewer than 16 answer bytes left */
-    OTQ_OUTPUT_SHORT = 10,   /* the order list is longer than the output */
-    OTQ_LOG_TORN = 11        /* the log bytes are not a multiple of 16 */
+    OTQ_NONE = 0,             /* nothing is turned down */
+    OTQ_PROCESSES = 1,        /* p is not 2, 4 or 8 */
+    OTQ_OPERATIONS = 2,       /* l is not 1 to 500 */
+    OTQ_TABLE_SHORT = 3,      /* the table has fewer than OTQ_TABLE_WORDS(p, l) words */
+    OTQ_RECORDS_TORN = 4,     /* the record bytes are not a multiple of 8 */
+    OTQ_ILL_FORMED = 5,       /* a process not below p, a kind above 2, or a byte that must be zero */
+    OTQ_BEGIN_WHILE_BUSY = 6, /* a begin while the process is not idle */
+    OTQ_STEP_WHILE_IDLE = 7,  /* a step while the process is idle */
+    OTQ_BEGUN_ALL = 8,        /* a begin by a process that has begun l operations */
+    OTQ_ANSWERS_FULL = 9,     /* an operation ends with fewer than 16 answer bytes left */
+    OTQ_OUTPUT_SHORT = 10,    /* the order list is longer than the output */
+    OTQ_LOG_TORN = 11         /* the log bytes are not a multiple of 16 */
 };
 
 /* What the check of a log says. */
@@ -56,14 +56,19 @@ enum OtqVerdict {
 #define OTQ_ANSWER_BYTES 16
 #define OTQ_ORDER_BYTES 8
 
-/* Levels of the tree; used by OTQ_TABLE_WORDS. */
-#define OTQ_LEVELS(p) ((p) == 2 ? 2 : (p) == 4 ? 3 : 4)
+/* Used by the macros below: a number as a size_t, and the levels of the tree. */
+#ifdef __cplusplus
+#define OTQ_SIZE(number) (static_cast<size_t>(number))
+#else
+#define OTQ_SIZE(number) ((size_t)(number))
+#endif
+#define OTQ_LEVELS(p) OTQ_SIZE((p) == 2 ? 2 : (p) == 4 ? 3 : 4)
 
 /* Lengths of buffers for a p and an l that are not turned down; constant if p and l are. The table
    must have so many words; so many answer and output bytes are enough for every list. */
-#define OTQ_TABLE_WORDS(p, l) (6 * (OTQ_LEVELS(p) * (size_t)(p) * (size_t)(l) + 2 * (size_t)(p) - 1))
-#define OTQ_MOST_ANSWER_BYTES(p, l) (OTQ_ANSWER_BYTES * (size_t)(p) * (size_t)(l))
-#define OTQ_MOST_OUTPUT_BYTES(p, l) (OTQ_ORDER_BYTES * (size_t)(p) * (size_t)(l))
+#define OTQ_TABLE_WORDS(p, l) (6 * (OTQ_LEVELS(p) * OTQ_SIZE(p) * OTQ_SIZE(l) + 2 * OTQ_SIZE(p) - 1))
+#define OTQ_MOST_ANSWER_BYTES(p, l) (OTQ_ANSWER_BYTES * OTQ_SIZE(p) * OTQ_SIZE(l))
+#define OTQ_MOST_OUTPUT_BYTES(p, l) (OTQ_ORDER_BYTES * OTQ_SIZE(p) * OTQ_SIZE(l))
 
 typedef struct OtqRun {
     uint32_t refusal; /* enum OtqRefusal */

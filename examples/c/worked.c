@@ -5,6 +5,7 @@
        gcc -std=c99 -Iinclude examples/c/worked.c target/staticlib/libqueue.a -o target/worked
        target/worked */
 #include "otq.h"
+#include "otq_text.h"
 
 #include <inttypes.h>
 #include <stdio.h>
@@ -81,7 +82,7 @@ int main(void)
     } else if (check.verdict == OTQ_DIFFERS) {
         printf("differs at %" PRIu64 "\n", check.index);
     } else {
-        printf("refused %" PRIu32 "\n", check.refusal);
+        printf("refused with %" PRIu32 ": %s\n", check.refusal, otq_refusal_text(check.refusal));
     }
     return 0;
 }

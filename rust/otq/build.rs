@@ -2,7 +2,8 @@
 //!
 //! `rt staticlib queue` writes it. It is not run from here: it proves the library, which takes
 //! minutes that cargo would show nothing of, and builds at the same time would write to one folder.
-//! `.ci/run` calls it between `rt ci`, which removes an older archive, and cargo.
+//! Without it the crate is built all the same, so that a program can say in its own words what is
+//! missing; `BUILT` tells, and cargo warns.
 
 use std::env;
 use std::fs;
@@ -14,12 +15,12 @@ fn main() {
     let repository = here.join("../..");
     let archive = repository.join("target/staticlib/libqueue.a");
     println!("cargo:rerun-if-changed={}", archive.display());
+    println!("cargo:rustc-check-cfg=cfg(archive)");
     if !archive.is_file() {
-        panic!(
-            "there is no {}: run `rt staticlib queue` in the repository first",
-            archive.display()
-        );
+        println!("cargo:warning=the proved library is not there: run `rt staticlib queue`");
+        return;
     }
+    println!("cargo:rustc-cfg=archive");
     warn_if_older(&archive, &repository.join("crates"));
     let folder = archive.parent().expect("a file stands in a folder");
     println!("cargo:rustc-link-search=native={}", folder.display());

@@ -9,6 +9,7 @@ mod safe;
 use ran::Ran;
 use reference::schedules::{schedule, Pace, Plan};
 use std::hint::black_box;
+use std::process::ExitCode;
 use std::time::Instant;
 
 type Player = fn(u32, u32, &[u8], &mut [u32], &mut [u8]) -> Ran;
@@ -161,7 +162,12 @@ fn print_growth(schedules: &[Schedule]) {
     println!();
 }
 
-fn main() {
+fn main() -> ExitCode {
+    #[cfg(feature = "proved")]
+    if !otq::BUILT {
+        eprintln!("{}", otq::NOT_BUILT);
+        return ExitCode::from(2);
+    }
     let schedules = schedules();
     let growing = [5, 50, 500].map(|l| {
         let plan = Plan::new(P, l, Pace::Uniform, 1);
@@ -178,4 +184,5 @@ fn main() {
     );
     print_schedules(&schedules);
     print_growth(&growing);
+    ExitCode::SUCCESS
 }

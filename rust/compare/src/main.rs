@@ -3,20 +3,29 @@
 
 use compare::random_calls::compare;
 use std::io::{stderr, Write};
+use std::process::ExitCode;
 use std::time::{Duration, Instant};
 
-fn main() {
-    let mut arguments = std::env::args()
-        .skip(1)
-        .map(|argument| argument.parse().expect("a number"));
-    let records = arguments.next().expect("how many records");
-    let seed = arguments.next().unwrap_or(1);
+fn main() -> ExitCode {
+    let words: Vec<String> = std::env::args().skip(1).collect();
+    let numbers: Option<Vec<u64>> = words.iter().map(|word| word.parse().ok()).collect();
+    let message = match numbers.as_deref() {
+        _ if !otq::BUILT => otq::NOT_BUILT,
+        Some(&[records]) => return compare_records(records, 1),
+        Some(&[records, seed]) => return compare_records(records, seed),
+        _ => "usage: compare RECORDS [SEED], such as compare 10000000",
+    };
+    eprintln!("{message}");
+    ExitCode::from(2)
+}
+
+fn compare_records(records: u64, seed: u64) -> ExitCode {
     let began = Instant::now();
     let mut shown = began;
     let tally = compare(records, seed, |tally| {
         if shown.elapsed() >= Duration::from_secs(1) {
             shown = Instant::now();
-            let done = 100 * tally.records / records;
+            let done = 100 * tally.records / records.max(1);
             eprint!(
                 "\r{done} %: {} records, {} lists",
                 tally.records, tally.lists
@@ -33,4 +42,5 @@ fn main() {
     );
     println!("calls by refusal number, from 0: {:?}", tally.refusals);
     println!("verdicts same, differs, refused: {:?}", tally.verdicts);
+    ExitCode::SUCCESS
 }

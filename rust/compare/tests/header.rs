@@ -3,19 +3,19 @@
 
 use otq::{most_answer_bytes, most_order_bytes, Refusal};
 use std::fs;
-use std::path::PathBuf;
+use std::path::{Path, PathBuf};
 use std::process::Command;
 
 use crate::support::{needed, repository};
 
 const REFUSALS: [(&str, Refusal); 11] = [
-    ("OTQ_PROCESS_COUNT", Refusal::ProcessCount),
-    ("OTQ_OPERATION_LIMIT", Refusal::OperationLimit),
+    ("OTQ_PROCESSES", Refusal::Processes),
+    ("OTQ_OPERATIONS", Refusal::Operations),
     ("OTQ_TABLE_SHORT", Refusal::TableShort),
     ("OTQ_RECORDS_TORN", Refusal::RecordsTorn),
     ("OTQ_ILL_FORMED", Refusal::IllFormed),
-    ("OTQ_BEGIN_NOT_IDLE", Refusal::BeginNotIdle),
-    ("OTQ_STEP_IDLE", Refusal::StepIdle),
+    ("OTQ_BEGIN_WHILE_BUSY", Refusal::BeginWhileBusy),
+    ("OTQ_STEP_WHILE_IDLE", Refusal::StepWhileIdle),
     ("OTQ_BEGUN_ALL", Refusal::BegunAll),
     ("OTQ_ANSWERS_FULL", Refusal::AnswersFull),
     ("OTQ_OUTPUT_SHORT", Refusal::OutputShort),
@@ -27,13 +27,28 @@ fn scratch(name: &str) -> PathBuf {
     PathBuf::from(env!("CARGO_TARGET_TMPDIR")).join(name)
 }
 
-/// gcc with the header and all its warnings as errors.
-fn gcc(standard: &str) -> Command {
-    let mut gcc = Command::new("gcc");
-    gcc.arg(format!("-std={standard}"))
-        .args(["-Wall", "-Wextra", "-Werror", "-pedantic", "-I"])
-        .arg(repository().join("include"));
-    gcc
+/// Warnings of both languages, and of C++ alone.
+const WARNINGS: [&str; 6] = [
+    "-Wall",
+    "-Wextra",
+    "-Wconversion",
+    "-Wsign-conversion",
+    "-Werror",
+    "-pedantic",
+];
+const WARNINGS_CPP: [&str; 1] = ["-Wold-style-cast"];
+
+/// gcc or g++ with the header, and warnings as errors.
+fn compiler(standard: &str) -> Command {
+    let (name, more) = match standard.starts_with("c++") {
+        true => ("g++", &WARNINGS_CPP[..]),
+        false => ("gcc", &[][..]),
+    };
+    let mut compiler = Command::new(name);
+    compiler.arg(format!("-std={standard}"));
+    compiler.args(WARNINGS).args(more);
+    compiler.arg("-I").arg(repository().join("include"));
+    compiler
 }
 
 /// What the program writes; it must succeed.
@@ -44,28 +59,67 @@ fn written(command: &mut Command) -> String {
     String::from_utf8(output.stdout).expect("text")
 }
 
-/// The worked example compiled, linked with the archive, and run.
-fn assert_worked(language: &str, standard: &str) {
-    let example = repository().join("examples/c");
-    let program = scratch(&format!("worked-{standard}"));
-    let mut compile = gcc(standard);
-    compile.args(["-x", language]);
-    compile.arg(example.join("worked.c"));
+/// The program of a source that is compiled and linked with the archive.
+fn program(standard: &str, source: &Path) -> PathBuf {
+    let language = if standard.starts_with("c++") {
+        "c++"
+    } else {
+        "c"
+    };
+    let name = source.file_stem().expect("a file").to_string_lossy();
+    let program = scratch(&format!("{name}-{standard}"));
+    let mut compile = compiler(standard);
+    compile.args(["-x", language]).arg(source);
     compile.args(["-x", "none"]);
     compile.arg(repository().join("target/staticlib/libqueue.a"));
     written(compile.arg("-o").arg(&program));
+    program
+}
+
+fn assert_worked(standard: &str) {
+    let example = repository().join("examples/c");
+    let program = program(standard, &example.join("worked.c"));
     let expected = fs::read_to_string(example.join("worked.expected")).expect("a text");
     assert_eq!(written(&mut Command::new(program)), expected);
 }
 
 #[test]
 fn the_worked_example_in_c() {
-    assert_worked("c", "c99");
+    assert_worked("c99");
 }
 
 #[test]
 fn the_worked_example_in_cpp() {
-    assert_worked("c++", "c++11");
+    assert_worked("c++11");
+}
+
+/// Every macro and the texts, under the same warnings.
+const USER: &str = "#include \"otq_text.h\"
+#include <stdio.h>
+int main(void)
+{
+    int p = 2, l = 1;
+    uint32_t number;
+    printf(\"%d %d %d\\n\", OTQ_TABLE_WORDS(p, l) == 42, OTQ_MOST_ANSWER_BYTES(p, l) == 32,
+           OTQ_MOST_OUTPUT_BYTES(p, l) == 16);
+    for (number = 0; number <= 12; number++) {
+        puts(otq_refusal_text(number));
+    }
+    return 0;
+}
+";
+
+#[test]
+fn macros_and_texts() {
+    let texts = REFUSALS.map(|(_, refusal)| format!("{refusal}\n"));
+    let texts = texts.concat();
+    let expected = format!("1 1 1\nnothing is refused\n{texts}no refusal has this number\n");
+    let source = scratch("user.c");
+    fs::write(&source, USER).expect("the file is written");
+    for standard in ["c99", "c++11"] {
+        let program = program(standard, &source);
+        assert_eq!(written(&mut Command::new(program)), expected);
+    }
 }
 
 #[test]
@@ -100,5 +154,5 @@ fn numbers_and_sizes() {
     let source = format!("#include \"otq.h\"\n{}", lines.collect::<String>());
     let file = scratch("numbers_and_sizes.c");
     fs::write(&file, source).expect("the file is written");
-    written(gcc("c99").arg("-fsyntax-only").arg(&file));
+    written(compiler("c99").arg("-fsyntax-only").arg(&file));
 }

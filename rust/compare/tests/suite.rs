@@ -10,4 +10,6 @@ mod printing;
 mod random;
 mod records;
 mod support;
+mod types;
+mod usage;
 mod whole_lists;

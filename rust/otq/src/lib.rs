@@ -2,28 +2,49 @@
 //! records says. The code is the proved Rattle library; these functions lend it slices.
 //!
 //! Every function takes p, the number of processes (2, 4 or 8), and l, the most operations of one
-//! process (1 to 500). What is turned down is told by a [`Refusal`].
+//! process (1 to 500). What is turned down is told by a [`Refusal`]. [`play`], [`list`] and [`check`]
+//! have buffers of their own; [`run`], [`list_order`] and [`check_log`] are lent theirs.
 //!
 //! A put of 7 by process 0, then a take by process 1, 15 steps each:
 //!
 //! ```
-//! let mut records = vec![0, 1, 0, 0, 7, 0, 0, 0];
-//! records.extend([0; 8].repeat(15));
-//! records.extend([1, 2, 0, 0, 0, 0, 0, 0]);
-//! records.extend([1, 0, 0, 0, 0, 0, 0, 0].repeat(15));
+//! use otq::{Act, Answer, Kind, Order, Outcome, Step};
+//! let mut list = vec![Step { process: 0, act: Act::Put(7) }];
+//! list.extend([Step { process: 0, act: Act::Step }; 15]);
+//! list.push(Step { process: 1, act: Act::Take });
+//! list.extend([Step { process: 1, act: Act::Step }; 15]);
+//! let records = otq::bytes_of(list);
+//!
 //! let played = otq::play(2, 24, &records);
 //! assert_eq!(played.run.refusal, None);
-//! let put = [0, 1, 15, 0, 0, 0, 0, 0, 1, 0, 0, 0, 1, 0, 0, 0];
-//! let take = [1, 2, 15, 0, 7, 0, 0, 0, 1, 0, 0, 0, 2, 0, 0, 0];
-//! assert_eq!(played.answers, [put, take].concat());
+//! let answers: Vec<Answer> = otq::records_of(&played.answers).unwrap();
+//! assert_eq!(answers[1].outcome, Outcome::Value(7));
+//!
+//! let order: Vec<Order> = otq::records_of(&otq::list(2, 24, &records).unwrap()).unwrap();
+//! assert_eq!((order[0].kind, order[1].kind), (Kind::Put, Kind::Take));
+//!
+//! let verdict = otq::check(2, 24, &records, &played.answers);
+//! assert_eq!(verdict, otq::Verdict::Same);
 //! ```
 
+#[cfg_attr(not(archive), path = "absent.rs")]
 mod archive;
+mod records;
 mod refusal;
+mod returned;
 mod sizes;
 
+pub use records::{bytes_of, records_of, Act, Answer, Kind, NoRecord, Order, Outcome, Step};
 pub use refusal::Refusal;
 pub use sizes::{most_answer_bytes, most_order_bytes, table_words};
+
+/// Whether the archive of the proved library was there when this crate was built. If not, the calls
+/// panic; a program asks first, and says [`NOT_BUILT`].
+pub const BUILT: bool = cfg!(archive);
+
+/// What to do where the archive was not there, and how long it takes.
+pub const NOT_BUILT: &str = "the proved library is not built: run `rt staticlib queue` in the \
+    repository (about 5 minutes, it proves it), then build this program again";
 
 /// What a run leaves besides its buffers.
 #[derive(Clone, Copy, PartialEq, Eq, Debug)]
@@ -69,7 +90,7 @@ pub struct Played {
 /// let step_of_an_idle_process = [0; 8];
 /// let mut table = vec![9; otq::table_words(2, 1).unwrap() + 1];
 /// let run = otq::run(2, 1, &step_of_an_idle_process, &mut table, &mut []);
-/// assert_eq!(run.refusal, Some(otq::Refusal::StepIdle));
+/// assert_eq!(run.refusal, Some(otq::Refusal::StepWhileIdle));
 /// assert_eq!((run.taken, run.answers), (0, 0));
 /// assert_eq!(table.last(), Some(&9));
 /// assert!(table[..table.len() - 1].iter().all(|&word| word == 0));
@@ -77,7 +98,7 @@ pub struct Played {
 pub fn run(p: u32, l: u32, records: &[u8], table: &mut [u32], answers: &mut [u8]) -> Run {
     let ran = archive::run(p, l, records, table, answers);
     Run {
-        refusal: Refusal::from_number(ran.refusal),
+        refusal: refusal_of(ran.refusal),
         taken: ran.taken,
         answers: ran.answers,
     }
@@ -116,7 +137,7 @@ pub fn list_order(
     output: &mut [u8],
 ) -> Result<u64, Refusal> {
     let listed = archive::list_order(p, l, records, table, output);
-    match Refusal::from_number(listed.refusal) {
+    match refusal_of(listed.refusal) {
         None => Ok(listed.length),
         Some(refusal) => {
             debug_assert_eq!(listed.length, 0);
@@ -142,11 +163,11 @@ pub fn list_order(
 /// ```
 pub fn check_log(p: u32, l: u32, records: &[u8], log: &[u8], table: &mut [u32]) -> Verdict {
     let checked = archive::check_log(p, l, records, log, table);
-    let refusal = Refusal::from_number(checked.refusal);
+    let refusal = refusal_of(checked.refusal);
     match (checked.verdict, refusal, checked.index) {
-        (archive::SAME, None, 0) => Verdict::Same,
-        (archive::DIFFERS, None, index) => Verdict::Differs(index),
-        (archive::REFUSED, Some(refusal), 0) => Verdict::Refused(refusal),
+        (returned::SAME, None, 0) => Verdict::Same,
+        (returned::DIFFERS, None, index) => Verdict::Differs(index),
+        (returned::REFUSED, Some(refusal), 0) => Verdict::Refused(refusal),
         other => unreachable!("the library returned {other:?}"),
     }
 }
@@ -157,16 +178,52 @@ pub fn check_log(p: u32, l: u32, records: &[u8], log: &[u8], table: &mut [u32]) 
 /// let played = otq::play(2, 24, &[0, 1, 0, 0, 7, 0, 0, 0]);
 /// assert_eq!(played.run.taken, 1);
 /// assert!(played.answers.is_empty());
-/// assert_eq!(otq::play(3, 24, &[]).run.refusal, Some(otq::Refusal::ProcessCount));
+/// assert_eq!(otq::play(3, 24, &[]).run.refusal, Some(otq::Refusal::Processes));
 /// ```
 pub fn play(p: u32, l: u32, records: &[u8]) -> Played {
     let mut table = vec![0; table_words(p, l).unwrap_or(0)];
     let mut answers = vec![0; most_answer_bytes(p, l).unwrap_or(0)];
     let run = run(p, l, records, &mut table, &mut answers);
-    answers.truncate(sizes::ANSWER_BYTES * run.answers as usize);
+    answers.truncate(Answer::BYTES * run.answers as usize);
     Played {
         run,
         answers,
         table,
     }
+}
+
+/// [`list_order`] in buffers of its own, with room for every operation: the order records.
+///
+/// ```
+/// let mut records = vec![0, 1, 0, 0, 7, 0, 0, 0];
+/// records.extend([0; 8].repeat(15));
+/// assert_eq!(otq::list(2, 24, &records), Ok(vec![0, 1, 1, 0, 1, 0, 0, 0]));
+/// assert_eq!(otq::list(2, 501, &records), Err(otq::Refusal::Operations));
+/// ```
+pub fn list(p: u32, l: u32, records: &[u8]) -> Result<Vec<u8>, Refusal> {
+    let mut table = vec![0; table_words(p, l).unwrap_or(0)];
+    let mut output = vec![0; most_order_bytes(p, l).unwrap_or(0)];
+    let length = list_order(p, l, records, &mut table, &mut output)?;
+    output.truncate(length as usize);
+    Ok(output)
+}
+
+/// [`check_log`] in a table of its own.
+///
+/// ```
+/// use otq::Verdict;
+/// let records = [0, 1, 0, 0, 7, 0, 0, 0];
+/// assert_eq!(otq::check(2, 24, &records, &[]), Verdict::Same);
+/// assert_eq!(otq::check(2, 24, &records, &[0; 16]), Verdict::Differs(0));
+/// ```
+pub fn check(p: u32, l: u32, records: &[u8], log: &[u8]) -> Verdict {
+    let mut table = vec![0; table_words(p, l).unwrap_or(0)];
+    check_log(p, l, records, log, &mut table)
+}
+
+/// The refusal that the library returned as a number; 0 is none.
+fn refusal_of(number: u32) -> Option<Refusal> {
+    let refusal = Refusal::from_number(number);
+    assert_eq!(refusal.map_or(0, Refusal::number), number);
+    refusal
 }

@@ -3,14 +3,15 @@
 use std::error::Error;
 use std::fmt;
 
-/// Why a call or a record is turned down; the discriminants are the paper's numbers.
+/// Why a call or a record is turned down; the discriminants are the paper's numbers. Shown, it is a
+/// line of text, the same as `otq_text.h` has for C.
 #[derive(Clone, Copy, PartialEq, Eq, Hash, Debug)]
 #[repr(u32)]
 pub enum Refusal {
     /// p is not 2, 4 or 8.
-    ProcessCount = 1,
+    Processes = 1,
     /// l is not 1 to 500.
-    OperationLimit = 2,
+    Operations = 2,
     /// The work table is shorter than the words needed.
     TableShort = 3,
     /// The record bytes are not a multiple of 8.
@@ -18,9 +19,9 @@ pub enum Refusal {
     /// A process not below p, a kind above 2, or a byte that must be zero.
     IllFormed = 5,
     /// A begin while the process is not idle.
-    BeginNotIdle = 6,
+    BeginWhileBusy = 6,
     /// A step while the process is idle.
-    StepIdle = 7,
+    StepWhileIdle = 7,
     /// A begin by a process that has begun l.
     BegunAll = 8,
     /// A Q with fewer than 16 answer bytes left.
@@ -32,14 +33,15 @@ pub enum Refusal {
 }
 
 impl Refusal {
-    const ALL: [Refusal; 11] = [
-        Refusal::ProcessCount,
-        Refusal::OperationLimit,
+    /// All of them, in the order of their numbers.
+    pub const ALL: [Refusal; 11] = [
+        Refusal::Processes,
+        Refusal::Operations,
         Refusal::TableShort,
         Refusal::RecordsTorn,
         Refusal::IllFormed,
-        Refusal::BeginNotIdle,
-        Refusal::StepIdle,
+        Refusal::BeginWhileBusy,
+        Refusal::StepWhileIdle,
         Refusal::BegunAll,
         Refusal::AnswersFull,
         Refusal::OutputShort,
@@ -49,32 +51,38 @@ impl Refusal {
     /// The paper's number.
     ///
     /// ```
-    /// assert_eq!(otq::Refusal::ProcessCount.number(), 1);
+    /// assert_eq!(otq::Refusal::Processes.number(), 1);
     /// assert_eq!(otq::Refusal::LogTorn.number(), 11);
     /// ```
     pub fn number(self) -> u32 {
         self as u32
     }
 
-    /// The refusal that the library returned as a number; 0 is none.
-    pub(crate) fn from_number(number: u32) -> Option<Refusal> {
-        let index = number.checked_sub(1)?;
-        Some(Self::ALL[index as usize])
+    /// The refusal with this number; 0 is none, and those past the last are none.
+    ///
+    /// ```
+    /// assert_eq!(otq::Refusal::from_number(11), Some(otq::Refusal::LogTorn));
+    /// assert_eq!(otq::Refusal::from_number(0), None);
+    /// ```
+    pub fn from_number(number: u32) -> Option<Refusal> {
+        Self::ALL
+            .into_iter()
+            .find(|refusal| refusal.number() == number)
     }
 }
 
 impl fmt::Display for Refusal {
     fn fmt(&self, f: &mut fmt::Formatter) -> fmt::Result {
         f.write_str(match self {
-            Refusal::ProcessCount => "the number of processes is not 2, 4 or 8",
-            Refusal::OperationLimit => "the most operations of a process are not 1 to 500",
+            Refusal::Processes => "the number of processes is not 2, 4 or 8",
+            Refusal::Operations => "the most operations of a process are not 1 to 500",
             Refusal::TableShort => "the work table is too short",
             Refusal::RecordsTorn => "the record bytes are not a multiple of 8",
             Refusal::IllFormed => "a record is ill-formed",
-            Refusal::BeginNotIdle => "a process begins while it is not idle",
-            Refusal::StepIdle => "a process steps while it is idle",
+            Refusal::BeginWhileBusy => "a process begins an operation while it is inside another",
+            Refusal::StepWhileIdle => "a process steps while it is inside no operation",
             Refusal::BegunAll => "a process begins more operations than it may",
-            Refusal::AnswersFull => "fewer than 16 answer bytes are left",
+            Refusal::AnswersFull => "an operation ends with fewer than 16 answer bytes left",
             Refusal::OutputShort => "the order list is longer than the output",
             Refusal::LogTorn => "the log bytes are not a multiple of 16",
         })
@@ -88,11 +96,9 @@ mod tests {
     use super::Refusal;
 
     #[test]
-    fn numbers_and_refusals_agree() {
-        assert_eq!(Refusal::from_number(0), None);
-        for number in 1..=11 {
-            let refusal = Refusal::from_number(number);
-            assert_eq!(refusal.map(Refusal::number), Some(number));
-        }
+    fn numbers_follow_each_other() {
+        let numbers = Refusal::ALL.map(Refusal::number);
+        assert!(numbers.into_iter().eq(1..=11));
+        assert_eq!(Refusal::from_number(12), None);
     }
 }

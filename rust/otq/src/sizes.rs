@@ -1,7 +1,7 @@
 //! How long a caller's buffers have to be.
 
-pub(crate) const ANSWER_BYTES: usize = 16;
-const ORDER_BYTES: usize = 8;
+use crate::records::{Answer, Order};
+
 const BLOCK_WORDS: usize = 6;
 
 /// Words that the work table must have; `None` if p or l is turned down.
@@ -26,7 +26,7 @@ pub fn table_words(p: u32, l: u32) -> Option<usize> {
 /// assert_eq!(otq::most_answer_bytes(4, 0), None);
 /// ```
 pub fn most_answer_bytes(p: u32, l: u32) -> Option<usize> {
-    Some(ANSWER_BYTES * operations(p, l)?)
+    Some(Answer::BYTES * operations(p, l)?)
 }
 
 /// Bytes of the order records of all operations, the most that
@@ -37,7 +37,7 @@ pub fn most_answer_bytes(p: u32, l: u32) -> Option<usize> {
 /// assert_eq!(otq::most_order_bytes(0, 24), None);
 /// ```
 pub fn most_order_bytes(p: u32, l: u32) -> Option<usize> {
-    Some(ORDER_BYTES * operations(p, l)?)
+    Some(Order::BYTES * operations(p, l)?)
 }
 
 /// The most operations of all processes together.

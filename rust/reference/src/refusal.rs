@@ -3,9 +3,9 @@
 #[derive(Clone, Copy, PartialEq, Eq, Hash, Debug)]
 pub enum Refusal {
     /// p is not 2, 4 or 8.
-    ProcessCount,
+    Processes,
     /// L is not 1 to 500.
-    OperationLimit,
+    Operations,
     /// The work table is shorter than the words needed.
     TableShort,
     /// The record bytes are not a multiple of 8.
@@ -13,9 +13,9 @@ pub enum Refusal {
     /// A process not below p, a kind above 2, or a byte that must be zero.
     IllFormed,
     /// A begin while the process is not idle.
-    BeginNotIdle,
+    BeginWhileBusy,
     /// A step while the process is idle.
-    StepIdle,
+    StepWhileIdle,
     /// A begin by a process that has begun L.
     BegunAll,
     /// A Q with fewer than 16 answer bytes left.
@@ -30,13 +30,13 @@ pub enum Refusal {
 pub fn number(refusal: Option<Refusal>) -> u32 {
     match refusal {
         None => 0,
-        Some(Refusal::ProcessCount) => 1,
-        Some(Refusal::OperationLimit) => 2,
+        Some(Refusal::Processes) => 1,
+        Some(Refusal::Operations) => 2,
         Some(Refusal::TableShort) => 3,
         Some(Refusal::RecordsTorn) => 4,
         Some(Refusal::IllFormed) => 5,
-        Some(Refusal::BeginNotIdle) => 6,
-        Some(Refusal::StepIdle) => 7,
+        Some(Refusal::BeginWhileBusy) => 6,
+        Some(Refusal::StepWhileIdle) => 7,
         Some(Refusal::BegunAll) => 8,
         Some(Refusal::AnswersFull) => 9,
         Some(Refusal::OutputShort) => 10,

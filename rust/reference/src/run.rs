@@ -56,8 +56,8 @@ pub fn test_record(
     let record = StepRecord::read(bytes, shape.p()).ok_or(Refusal::IllFormed)?;
     let idle = machine.idle(record.process);
     match record.act {
-        Act::Begin(_) if !idle => Err(Refusal::BeginNotIdle),
-        Act::Step if idle => Err(Refusal::StepIdle),
+        Act::Begin(_) if !idle => Err(Refusal::BeginWhileBusy),
+        Act::Step if idle => Err(Refusal::StepWhileIdle),
         Act::Begin(_) if machine.process(record.process).begun == shape.l() => {
             Err(Refusal::BegunAll)
         }

@@ -66,10 +66,10 @@ impl Shape {
             2 => 1,
             4 => 2,
             8 => 3,
-            _ => return Err(Refusal::ProcessCount),
+            _ => return Err(Refusal::Processes),
         };
         if !(1..=MOST_OPERATIONS).contains(&l) {
-            return Err(Refusal::OperationLimit);
+            return Err(Refusal::Operations);
         }
         Ok(Shape { p, height, l })
     }

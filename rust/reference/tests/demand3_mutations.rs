@@ -227,7 +227,7 @@ fn a_leaf_block_that_nobody_began() {
 fn records_that_run_does_not_take() {
     let mut left = Left::good();
     left.records.extend([1, 0, 0, 0, 0, 0, 0, 0]);
-    let refusal = Refusal::StepIdle;
+    let refusal = Refusal::StepWhileIdle;
     assert_violation(
         &left,
         Violation::NotTaken {

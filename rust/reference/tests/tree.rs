@@ -15,11 +15,11 @@ fn words_needed_by_the_paper() {
 #[test]
 fn accepted_shapes() {
     for p in [0, 1, 3, 5, 6, 7, 9, 16, 501, u32::MAX] {
-        assert_eq!(Shape::new(p, 0), Err(Refusal::ProcessCount));
+        assert_eq!(Shape::new(p, 0), Err(Refusal::Processes));
     }
     for p in [2, 4, 8] {
         for l in [0, 501, u32::MAX] {
-            assert_eq!(Shape::new(p, l), Err(Refusal::OperationLimit));
+            assert_eq!(Shape::new(p, l), Err(Refusal::Operations));
         }
         for l in [1, 500] {
             let shape = Shape::new(p, l).unwrap();

@@ -1,20 +1,29 @@
 //! Text to records and back, records to text and back.
 
-use notation::{decode, encode, play, MOST};
+use cli::notation::{lines, Exercise, MOST, MOST_PLAYED};
 use reference::lists::List;
 use reference::random::Random;
 
+fn decode(records: &[u8]) -> String {
+    let (whole, torn) = records.as_chunks();
+    assert!(torn.is_empty());
+    lines(whole).map(|line| format!("{line}\n")).collect()
+}
+
+fn encode(text: &str) -> Exercise {
+    Exercise::read(text.as_bytes()).unwrap()
+}
+
 /// Records decoded and encoded again are the same.
 fn assert_returns(records: &[u8]) {
-    let text = decode(records).unwrap();
-    assert_eq!(encode(&text).unwrap().records, records, "{text}");
+    let text = decode(records);
+    assert_eq!(encode(&text).records, records, "{text}");
 }
 
 /// The canonical text of a text, which is its own canonical text.
 fn canonical(text: &str) -> String {
-    let canonical = decode(&encode(text).unwrap().records).unwrap();
-    let again = decode(&encode(&canonical).unwrap().records).unwrap();
-    assert_eq!(again, canonical);
+    let canonical = decode(&encode(text).records);
+    assert_eq!(decode(&encode(&canonical).records), canonical);
     canonical
 }
 
@@ -22,7 +31,7 @@ fn canonical(text: &str) -> String {
 fn every_form_is_read() {
     let text =
         "operations 3\r\n\tput 7 by 0#no space\n\n  # a comment\nstep 0 x2\ntake  by  1\nstep 1";
-    let exercise = encode(text).unwrap();
+    let exercise = encode(text);
     let list = List::new().put(0, 7).steps(0, 2).take(1).steps(1, 1);
     assert_eq!(exercise.records, list.bytes());
     assert_eq!((exercise.heading.p(), exercise.heading.l()), (4, 3));
@@ -58,8 +67,23 @@ fn equal_begins_stay_apart() {
 #[test]
 fn more_steps_than_one_line_says() {
     let records = [3, 0, 0, 0, 0, 0, 0, 0].repeat(MOST as usize + 1);
-    assert_eq!(decode(&records).unwrap(), "step 3 x1000000\nstep 3\n");
-    assert_returns(&records);
+    assert_eq!(decode(&records), "step 3 x1000000\nstep 3\n");
+}
+
+/// More records than any list that is taken whole are read, and not kept.
+#[test]
+fn more_steps_than_are_played() {
+    let most = format!("put 1 by 0\nstep 0 x{}\n", MOST_PLAYED - 1);
+    let exercise = encode(&most);
+    assert_eq!(
+        (exercise.records.len(), exercise.longer),
+        (8 * MOST_PLAYED, false)
+    );
+    assert_eq!(exercise.line_of(MOST_PLAYED - 1), Some(2));
+    let more = encode(&format!("{most}step 0\ntake by 1\n"));
+    assert_eq!((&more.records, more.longer), (&exercise.records, true));
+    assert_eq!(more.line_of(MOST_PLAYED), None);
+    assert!(Exercise::read(format!("{most}step 0\ntake\n").as_bytes()).is_err());
 }
 
 #[test]
@@ -82,9 +106,8 @@ fn random_records() {
             .flat_map(|_| small_record(&mut random))
             .collect();
         assert_returns(&records);
-        let text = decode(&records).unwrap();
+        let text = decode(&records);
         assert_eq!(canonical(&text), text);
-        assert!(play(&encode(&text).unwrap()).contains("end "));
     }
 }
 
@@ -99,19 +122,4 @@ fn small_record(random: &mut Random) -> [u8; 8] {
         record[random.below(8) as usize] = random.below(256) as u8;
     }
     record
-}
-
-#[test]
-fn records_torn_at_every_byte() {
-    let records = encode("put 7 by 0\nstep 0 x3\n").unwrap().records;
-    for length in 0..records.len() {
-        let read = decode(&records[..length]);
-        match length % 8 {
-            0 => assert!(read.is_ok()),
-            bytes => {
-                let torn = read.unwrap_err();
-                assert_eq!((torn.offset, torn.bytes), (length - bytes, bytes));
-            }
-        }
-    }
 }

@@ -1,20 +1,17 @@
 //! The files of the known runs: each has the call and the records of its row, and prints as its
 //! expected print says.
 
-use notation::{encode, play, Exercise};
+use crate::support::{otq, repository};
+use cli::notation::Exercise;
 use reference::known_runs::known_runs;
 use reference::print::print_result;
 use std::fs;
-use std::path::{Path, PathBuf};
+use std::path::PathBuf;
 
 /// The files without their ending, in the order of the rows.
 const NAMES: [&str; 13] = [
     "M1", "M2", "M3", "M4", "M5", "M6", "M7", "M8", "M9", "M10", "M10-16", "M11", "M11-42",
 ];
-
-pub fn repository() -> PathBuf {
-    Path::new(env!("CARGO_MANIFEST_DIR")).join("../..")
-}
 
 fn folder() -> PathBuf {
     repository().join("examples/known")
@@ -25,7 +22,7 @@ fn read(file: &str) -> String {
 }
 
 fn exercise(name: &str) -> Exercise {
-    encode(&read(&format!("{name}.txt"))).expect(name)
+    Exercise::read(read(&format!("{name}.txt")).as_bytes()).expect(name)
 }
 
 #[test]
@@ -51,7 +48,9 @@ fn files_have_the_calls_of_the_rows() {
     for (row, name) in rows.iter().zip(NAMES) {
         let number = name.split('-').next();
         assert_eq!(row.name.split(',').next(), number, "{name}");
-        let Exercise { heading, records } = exercise(name);
+        let Exercise {
+            heading, records, ..
+        } = exercise(name);
         assert_eq!(records, row.list, "{name}");
         assert_eq!((heading.p(), heading.l()), (row.p, row.l), "{name}");
         let lent = (heading.table_words(), heading.answer_bytes());
@@ -70,9 +69,11 @@ fn expected_prints_are_those_of_the_rows() {
 
 #[test]
 fn the_library_plays_them_as_expected() {
-    for name in NAMES {
-        let print = play(&exercise(name));
-        assert_eq!(print, read(&format!("{name}.expected")), "{name}");
+    for (row, name) in known_runs().iter().zip(NAMES) {
+        let said = otq(&["run", &format!("examples/known/{name}.txt")]);
+        assert_eq!(said.out, read(&format!("{name}.expected")), "{name}");
+        let status = if row.result.refusal == 0 { 0 } else { 3 };
+        assert_eq!(said.status, status, "{name}");
     }
 }
 

@@ -1,11 +1,16 @@
 //! What is said of each wrong line.
 
-use notation::encode;
+use cli::notation::Exercise;
+
+/// What is said of a text that is wrong.
+fn mistake(text: &str) -> String {
+    Exercise::read(text.as_bytes()).unwrap_err().to_string()
+}
 
 /// The second line of a text is wrong, and this is said of it.
 fn assert_wrong(line: &str, message: &str) {
-    let wrong = encode(&format!("# a comment\n{line}\nstep 0\n")).unwrap_err();
-    assert_eq!((wrong.line, wrong.message.as_str()), (2, message));
+    let said = mistake(&format!("# a comment\n{line}\nstep 0\n"));
+    assert_eq!(said, format!("2: {message}"));
 }
 
 #[test]
@@ -78,12 +83,13 @@ fn headings() {
         assert_wrong(name, &format!("{form}, found `{name}`"));
         let two = format!("{name} 2 3");
         assert_wrong(&two, &format!("{form}, found `{two}`"));
-        let twice = encode(&format!("{name} 1\n{name} 1\n")).unwrap_err();
-        let said = format!("line 2: expected `{name}` once, found it again");
-        assert_eq!(twice.to_string(), said);
-        let late = encode(&format!("step 0\n\n{name} 1\n")).unwrap_err();
-        let said = format!("line 3: expected `{name}` before the first record");
-        assert_eq!(late.to_string(), said);
+        let twice = mistake(&format!("{name} 1\n{name} 1\n"));
+        assert_eq!(twice, format!("2: expected `{name}` once, found it again"));
+        let late = mistake(&format!("step 0\n\n{name} 1\n"));
+        assert_eq!(
+            late,
+            format!("3: expected `{name}` before the first record")
+        );
     }
     assert_wrong(
         "processes two",

@@ -1,0 +1,61 @@
+//! `otq explain`.
+
+use crate::arguments::Given;
+use crate::failure::{Failure, Status};
+use crate::fields::{Sort, ANSWER, ORDER, STEP};
+use crate::refused::advice;
+use crate::tool::Tool;
+use otq::Refusal;
+
+pub fn explain(tool: &mut Tool, given: &Given) -> Result<Status, Failure> {
+    let word = given.files.first().map(|word| word.to_string_lossy());
+    match word.as_deref() {
+        None => overview(tool)?,
+        Some("records") => {
+            for sort in [STEP, ANSWER, ORDER] {
+                tool.line(layout(&sort))?;
+            }
+            tool.line(
+                "Numbers have their low byte first. Records follow each other, without a header.",
+            )?;
+        }
+        Some(word) => {
+            let refusal = word.parse().ok().and_then(Refusal::from_number);
+            let last = Refusal::ALL.len();
+            let told =
+                || format!("expected a number from 1 to {last} or `records`, found `{word}`");
+            let refusal = refusal.ok_or_else(|| Failure::mistake(told()))?;
+            tool.line(format!(
+                "{} {refusal}.\n{}",
+                refusal.number(),
+                advice(refusal)
+            ))?;
+        }
+    }
+    Ok(Status::Done)
+}
+
+fn overview(tool: &mut Tool) -> Result<(), Failure> {
+    tool.line("0 nothing is refused")?;
+    for refusal in Refusal::ALL {
+        tool.line(format!("{} {refusal}", refusal.number()))?;
+    }
+    tool.line("\n`otq explain N` says what to do, `otq explain records` how records are laid out.")
+}
+
+fn layout(sort: &Sort) -> String {
+    let mut text = format!("{}, {} bytes\n", sort.name, sort.bytes);
+    for field in sort.fields {
+        let codes = field
+            .codes
+            .iter()
+            .map(|(code, word)| format!("{code} {word}"));
+        let codes: Vec<String> = codes.collect();
+        let meaning = match codes.is_empty() {
+            true => field.meaning.to_string(),
+            false => codes.join(", "),
+        };
+        text += &format!("  {:<12}{:<12}{meaning}\n", field.place(), field.name);
+    }
+    text
+}

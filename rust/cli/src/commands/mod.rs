@@ -1,0 +1,266 @@
+//! The commands of `otq`, and which words they know.
+
+mod checking;
+mod coding;
+mod explaining;
+mod listing;
+mod making;
+mod playing;
+mod showing;
+mod tracing;
+
+use crate::arguments::{Choice, Given};
+use crate::failure::{Failure, Status};
+use crate::tool::Tool;
+use std::ffi::OsString;
+
+/// A command of `otq`.
+struct Command {
+    name: &'static str,
+    /// What follows the name.
+    usage: &'static str,
+    /// What it does, in a line, and what else is to be said.
+    about: &'static str,
+    more: &'static str,
+    choices: &'static [&'static Choice],
+    /// The least and the most files.
+    files: (usize, usize),
+    /// Whether it calls the proved library.
+    proved: bool,
+    call: fn(&mut Tool, &Given) -> Result<Status, Failure>,
+}
+
+const P: Choice = Choice {
+    name: "-p",
+    value: Some("P"),
+    about: "the number of processes, 2, 4 or 8",
+};
+const L: Choice = Choice {
+    name: "-L",
+    value: Some("L"),
+    about: "the most operations of one process, 1 to 500",
+};
+const WHOLE: Choice = Choice {
+    name: "--whole",
+    value: None,
+    about: "leaves out bytes after the last whole record",
+};
+const JSON: Choice = Choice {
+    name: "--json",
+    value: None,
+    about: "writes the result as JSON",
+};
+
+const COMMANDS: [Command; 9] = [
+    Command {
+        name: "run",
+        usage: "[-p P -L L] STEPS [--log OUT] [--whole] [--json]",
+        about: "plays the steps, prints the answers, and writes the answer log",
+        more: "A line an answer: put or take, process, serial of the operation in its process, own steps,\n\
+               root block, and for a take its value or `none`. Last `end`, the refusal number (0 for\n\
+               none) and the records taken.",
+        choices: &[&P, &L, &playing::LOG, &WHOLE, &JSON],
+        files: (1, 1),
+        proved: true,
+        call: playing::run,
+    },
+    Command {
+        name: "order",
+        usage: "[-p P -L L] STEPS [--raw OUT] [--whole] [--json]",
+        about: "lists the order in which the operations took effect",
+        more: "A line an operation: put or take, process, serial, root block.",
+        choices: &[&P, &L, &listing::RAW, &WHOLE, &JSON],
+        files: (1, 1),
+        proved: true,
+        call: listing::order,
+    },
+    Command {
+        name: "check",
+        usage: "[-p P -L L] STEPS LOG [--all] [--whole] [--json]",
+        about: "checks a log of answer records against the rules",
+        more: "Prints `same`, or where the log differs: both records field by field, the first byte that\n\
+               differs, and the record of the list that ended the operation.",
+        choices: &[&P, &L, &checking::ALL, &WHOLE, &JSON],
+        files: (2, 2),
+        proved: true,
+        call: checking::check,
+    },
+    Command {
+        name: "show",
+        usage: "--as steps|log|order FILE",
+        about: "shows a binary file as text",
+        more: "A line a record, with its number; of a torn file the whole records, and where it is torn.",
+        choices: &[&showing::AS],
+        files: (1, 1),
+        proved: false,
+        call: showing::show,
+    },
+    Command {
+        name: "trace",
+        usage: "[-p P -L L] STEPS [--from N] [--to N] [--whole]",
+        about: "tells what each record does",
+        more: "A line a record: its number, process and named step, what it read, and what it wrote or\n\
+               moved. It comes from the Rust version of the rules, whose table and answers are compared\n\
+               with the proved library before anything is printed.",
+        choices: &[&P, &L, &tracing::FROM, &tracing::TO, &WHOLE],
+        files: (1, 1),
+        proved: true,
+        call: tracing::trace,
+    },
+    Command {
+        name: "make",
+        usage: "-p P -L L --pace PACE --seed S [-o OUT]",
+        about: "makes an exercise",
+        more: "As text, with L operations of each process, about half of them puts; all of them end.",
+        choices: &[&P, &L, &making::PACE, &making::SEED, &making::OUT],
+        files: (0, 0),
+        proved: true,
+        call: making::make,
+    },
+    Command {
+        name: "encode",
+        usage: "[--print] FILE",
+        about: "writes the step records of a text exercise",
+        more: "A text has a line a record or a run of steps: `put VALUE by PROCESS`, `take by PROCESS`,\n\
+               `step PROCESS`, `step PROCESS xCOUNT`, or `raw` and 8 bytes in hexadecimal. Before them may\n\
+               stand `processes P`, `operations L`, `answers BYTES` and `table WORDS`. A comment goes from\n\
+               # to the end of its line.",
+        choices: &[&coding::PRINT],
+        files: (1, 1),
+        proved: false,
+        call: coding::encode,
+    },
+    Command {
+        name: "decode",
+        usage: "-p P -L L FILE",
+        about: "writes the text exercise of step records",
+        more: "With p and L in its heading, so that it plays alike.",
+        choices: &[&P, &L],
+        files: (1, 1),
+        proved: false,
+        call: coding::decode,
+    },
+    Command {
+        name: "explain",
+        usage: "[N|records]",
+        about: "says what a refusal means and what to do, or how records are laid out",
+        more: "Without a word it lists the refusals.",
+        choices: &[],
+        files: (0, 1),
+        proved: false,
+        call: explaining::explain,
+    },
+];
+
+const STEPS: &str = "\
+STEPS is a text exercise, whose heading gives p and L, or a file of binary step records, for which
+-p and -L are needed. `-` is standard input.
+
+Exit status: 0 done or same, 1 the log differs, 2 a mistake in the command, a file or a text, 3 refused.";
+
+/// Does what the words say.
+pub fn call(tool: &mut Tool, mut words: Vec<OsString>) -> Result<Status, Failure> {
+    if words.is_empty() {
+        return Err(Failure {
+            message: overview(),
+            ..Failure::mistake("")
+        });
+    }
+    let first = words.remove(0);
+    match first.to_str() {
+        Some("--help" | "-h" | "help") => help(tool, &words),
+        Some("--version" | "-V") => version(tool),
+        name => match COMMANDS.iter().find(|command| Some(command.name) == name) {
+            Some(command) => command.start(tool, words),
+            None => {
+                let told = format!(
+                    "there is no command `{}`; `otq --help` lists them",
+                    first.display()
+                );
+                Err(Failure::mistake(told))
+            }
+        },
+    }
+}
+
+impl Command {
+    fn start(&self, tool: &mut Tool, words: Vec<OsString>) -> Result<Status, Failure> {
+        if words.iter().any(|word| word == "--help" || word == "-h") {
+            tool.line(self.help())?;
+            return Ok(Status::Done);
+        }
+        let given = Given::read(self.choices, words).map_err(|mistake| self.wrong(&mistake))?;
+        let (least, most) = self.files;
+        if given.files.len() < least {
+            return Err(self.wrong("a file is missing"));
+        }
+        if given.files.len() > most {
+            let extra = given.files[most].display();
+            return Err(self.wrong(&format!("`{extra}` is too much")));
+        }
+        if given.files.iter().filter(|file| *file == "-").count() > 1 {
+            return Err(self.wrong("standard input can be read once"));
+        }
+        if self.proved && !otq::BUILT {
+            return Err(Failure::mistake(otq::NOT_BUILT));
+        }
+        (self.call)(tool, &given)
+    }
+
+    /// A mistake in the words of this command.
+    fn wrong(&self, mistake: &str) -> Failure {
+        let Command { name, usage, .. } = self;
+        Failure::mistake(format!("{mistake}; usage: otq {name} {usage}"))
+    }
+
+    fn help(&self) -> String {
+        let Command {
+            name,
+            usage,
+            about,
+            more,
+            ..
+        } = self;
+        let mut help = format!("otq {name} {usage}\n\n{about}\n{more}\n");
+        for choice in self.choices {
+            let option = format!("{} {}", choice.name, choice.value.unwrap_or(""));
+            help += &format!(
+                "\n  {option:<12}{}",
+                choice.about.replace('\n', "\n              ")
+            );
+        }
+        if self.usage.contains("STEPS") {
+            help += &format!("\n\n{STEPS}");
+        }
+        help.trim_end().to_string()
+    }
+}
+
+fn help(tool: &mut Tool, words: &[OsString]) -> Result<Status, Failure> {
+    let command = COMMANDS
+        .iter()
+        .find(|command| words.first().is_some_and(|word| word == command.name));
+    tool.line(command.map_or_else(overview, Command::help))?;
+    Ok(Status::Done)
+}
+
+fn overview() -> String {
+    let mut text =
+        "otq plays the steps of a shared queue, lists their order, and checks a log.\n".to_string();
+    for Command {
+        name, usage, about, ..
+    } in &COMMANDS
+    {
+        text += &format!("\n  otq {name:<8}{usage}\n              {about}");
+    }
+    format!("{text}\n\n`otq COMMAND --help` says more of one.\n\n{STEPS}")
+}
+
+fn version(tool: &mut Tool) -> Result<Status, Failure> {
+    let library = if otq::BUILT { "with" } else { "without" };
+    tool.line(format!(
+        "otq {}, {library} the proved library",
+        env!("CARGO_PKG_VERSION")
+    ))?;
+    Ok(Status::Done)
+}

@@ -1,0 +1,38 @@
+//! The library part of `otq`: the text notation of exercises, and the commands.
+//!
+//! All that a command tells of a list is computed by the proved library, through `rust/otq`. The trace
+//! alone is the Rust version's, whose table and answers are compared with the library's before.
+
+mod arguments;
+mod commands;
+mod differences;
+mod failure;
+mod fields;
+mod files;
+mod json;
+mod list;
+pub mod notation;
+mod progress;
+mod refused;
+mod tool;
+mod trace;
+mod words;
+
+use failure::Failure;
+use std::ffi::OsString;
+use std::process::ExitCode;
+use tool::Tool;
+
+/// Does what the words of a command line say, and gives the exit status.
+pub fn main(words: Vec<OsString>) -> ExitCode {
+    let mut tool = Tool::new();
+    let done = commands::call(&mut tool, words);
+    let written = tool.finish();
+    match done.and_then(|status| written.map(|()| status)) {
+        Ok(status) => status.into(),
+        Err(Failure { status, message }) => {
+            tool::tell(&message);
+            status.into()
+        }
+    }
+}

@@ -1,0 +1,280 @@
+//! What is told of a refusal: number and meaning, the record, and what may have caused it.
+
+use crate::failure::{Failure, Status};
+use crate::json::Json;
+use crate::list::List;
+use crate::notation::Record;
+use crate::words::{count, hex, step};
+use otq::{Answer, Refusal, Step};
+
+/// What to do about a refusal.
+pub fn advice(refusal: Refusal) -> &'static str {
+    match refusal {
+        Refusal::Processes => "Give the p that the list was made for, with -p or `processes`.",
+        Refusal::Operations => "Give the L that the list was made for, with -L or `operations`.",
+        Refusal::TableShort => "Take the line `table` out of the heading, or lend more words.",
+        Refusal::RecordsTorn => {
+            "The file was cut, or is no list of steps. Get it again, or play its whole records with \
+             --whole; `otq show --as steps` shows where it is torn."
+        }
+        Refusal::IllFormed => {
+            "The list was made for more processes, or by a program that writes other records. See \
+             `otq explain records`, and `otq show --as steps`."
+        }
+        Refusal::BeginWhileBusy => {
+            "A process ends an operation before it begins another. The list was made for fewer \
+             processes, where an operation has fewer steps, or lacks steps; `otq trace --to N` shows \
+             the steps up to record N."
+        }
+        Refusal::StepWhileIdle => {
+            "A process begins an operation before it steps. The list was made for more processes, \
+             where an operation has more steps, or has steps too many; `otq trace` shows where the \
+             operation ended."
+        }
+        Refusal::BegunAll => "Give a larger L, with -L or `operations`, up to 500.",
+        Refusal::AnswersFull => "Take the line `answers` out of the heading, or lend more bytes.",
+        Refusal::OutputShort => "Lend an output of 8 bytes for each operation.",
+        Refusal::LogTorn => {
+            "The log was cut, or is no log. Get it again, or check its whole answers with --whole; \
+             `otq show --as log` shows where it is torn."
+        }
+    }
+}
+
+/// A refused call.
+pub struct Refused<'a> {
+    pub refusal: Refusal,
+    list: &'a List,
+    /// The refused record, from 0; `None` if the call was turned down before its records.
+    pub record: Option<usize>,
+    /// How the refused record meets its process, or what the call was given.
+    standing: Option<String>,
+    cause: Option<String>,
+}
+
+impl Refused<'_> {
+    /// A refusal of a list of which so many records were taken.
+    pub fn of_list(list: &List, refusal: Refusal, taken: usize) -> Refused<'_> {
+        let of_record = [
+            Refusal::IllFormed,
+            Refusal::BeginWhileBusy,
+            Refusal::StepWhileIdle,
+            Refusal::BegunAll,
+            Refusal::AnswersFull,
+        ];
+        let record = of_record.contains(&refusal).then_some(taken);
+        Refused {
+            refusal,
+            list,
+            record,
+            standing: match record {
+                Some(record) => standing(list, refusal, record),
+                None => given(list, refusal),
+            },
+            cause: cause(list, refusal),
+        }
+    }
+
+    /// The refusal of a torn log.
+    pub fn of_log<'a>(list: &'a List, log: &[u8]) -> Refused<'a> {
+        Refused {
+            cause: Some(torn(log.len(), Answer::BYTES, "answer", "checks")),
+            ..Refused::of_list(list, Refusal::LogTorn, 0)
+        }
+    }
+
+    pub fn failure(&self) -> Failure {
+        let number = self.refusal.number();
+        let mut lines = vec![format!("otq: refused with {number}: {}", self.refusal)];
+        if let Some(record) = self.record {
+            lines.push(format!("  {}", told(self.list, record)));
+        }
+        lines.extend(self.standing.iter().map(|standing| format!("  {standing}")));
+        lines.extend(
+            self.cause
+                .iter()
+                .map(|cause| format!("  likely cause: {cause}")),
+        );
+        lines.push(format!("  `otq explain {number}` says what to do"));
+        Failure {
+            status: Status::Refused,
+            message: lines.join("\n"),
+        }
+    }
+
+    pub fn json(&self) -> Json {
+        let record = self.record;
+        let byte = record.map(|record| record * Step::BYTES);
+        let line = record.and_then(|record| self.list.line_of(record));
+        let words = record.map(|record| step(self.list.records()[record]));
+        let text = |text: &Option<String>| Json::or_null(text.as_ref().map(Json::text));
+        Json::object([
+            ("number", Json::Number(self.refusal.number().into())),
+            ("name", Json::text(format!("{:?}", self.refusal))),
+            ("meaning", Json::text(self.refusal)),
+            ("record", Json::number(record.map(|record| record + 1))),
+            ("byte", Json::number(byte)),
+            ("line", Json::number(line)),
+            ("words", text(&words)),
+            ("standing", text(&self.standing)),
+            ("likely_cause", text(&self.cause)),
+        ])
+    }
+}
+
+/// A record of a list: its number, where it stands, and what it says.
+pub fn told(list: &List, record: usize) -> String {
+    let bytes = list.records()[record];
+    let (number, at) = (record + 1, record * Step::BYTES);
+    let said = format!(
+        "record {number}, byte {at}: {} ({})",
+        step(bytes),
+        hex(&bytes)
+    );
+    match list.line_of(record) {
+        Some(line) => format!("{said}, {}:{line}", list.name),
+        None => said,
+    }
+}
+
+/// What a call was given that is turned down before its records; with the line of the heading.
+fn given(list: &List, refusal: Refusal) -> Option<String> {
+    let heading = list.heading();
+    let (word, given) = match refusal {
+        Refusal::Processes => ("processes", format!("p is {}", list.p())),
+        Refusal::Operations => ("operations", format!("L is {}", list.l())),
+        Refusal::TableShort => {
+            let needed = otq::table_words(list.p(), list.l())?;
+            let lent = count(heading.table_words(), "table word");
+            ("table", format!("{lent} are lent, and {needed} are needed"))
+        }
+        _ => return None,
+    };
+    Some(match list.heading_line(word) {
+        Some(line) => format!("{given}, {}:{line}", list.name),
+        None => given,
+    })
+}
+
+/// How the refused record meets its process, read off the records before it.
+fn standing(list: &List, refusal: Refusal, record: usize) -> Option<String> {
+    let bytes = list.records()[record];
+    let process = bytes[0];
+    let last = |begin: bool| {
+        let of_process = |other: &Record| other[0] == process && (other[1] != 0) == begin;
+        list.records()[..record].iter().rposition(of_process)
+    };
+    match refusal {
+        Refusal::IllFormed => Some(ill_formed(bytes, list.p())),
+        Refusal::BeginWhileBusy => last(true).map(|begin| {
+            let number = begin + 1;
+            format!("process {process} is still inside the operation that record {number} began")
+        }),
+        Refusal::StepWhileIdle => Some(match last(false) {
+            None => format!("process {process} has begun nothing before"),
+            Some(end) => {
+                let number = end + 1;
+                format!("the last operation of process {process} ended with record {number}")
+            }
+        }),
+        Refusal::BegunAll => {
+            let begun = count(list.l() as usize, "operation");
+            Some(format!(
+                "process {process} has begun {begun}, and L is {}",
+                list.l()
+            ))
+        }
+        _ => None,
+    }
+}
+
+/// What is wrong with an ill-formed record.
+fn ill_formed(record: Record, p: u32) -> String {
+    match record {
+        [process, ..] if u32::from(process) >= p => {
+            format!("process {process} is not below p, {p}")
+        }
+        [_, kind, ..] if kind > 2 => format!("kind {kind} is none of 0, 1 and 2"),
+        [_, _, 0, 0, ..] => "it is no begin put, and its value is not 0".to_string(),
+        _ => "its bytes 2 and 3 are not both 0".to_string(),
+    }
+}
+
+/// What may have caused a refusal, where that is cheap to know.
+fn cause(list: &List, refusal: Refusal) -> Option<String> {
+    match refusal {
+        Refusal::RecordsTorn => Some(torn(list.bytes().len(), Step::BYTES, "record", "plays")),
+        Refusal::AnswersFull => {
+            let lent = list.heading().answer_bytes();
+            let room = count(lent / Answer::BYTES, "answer");
+            Some(format!(
+                "the heading lends {lent} answer bytes, which have room for {room}"
+            ))
+        }
+        Refusal::IllFormed if holds_answers(list) => {
+            Some("the file holds answer records: it is a log, and not a list of steps".to_string())
+        }
+        Refusal::TableShort | Refusal::OutputShort | Refusal::LogTorn => None,
+        _ => other_numbers(list),
+    }
+}
+
+/// Where bytes are torn, and what can be done with the whole records.
+fn torn(length: usize, size: usize, what: &str, does: &str) -> String {
+    let (whole, rest) = (length / size, length % size);
+    let at = whole * size;
+    let (records, bytes) = (format!("whole {what}"), count(rest, "byte"));
+    let records = count(whole, &records);
+    format!("{records}, then {bytes} at byte {at}; --whole {does} the {whole}")
+}
+
+fn holds_answers(list: &List) -> bool {
+    let (answers, torn) = list.bytes().as_chunks();
+    let proper = |&answer: &[u8; Answer::BYTES]| Answer::try_from(answer).is_ok();
+    torn.is_empty() && answers.iter().all(proper)
+}
+
+/// Another p, another L, or both, with which the whole list is taken.
+fn other_numbers(list: &List) -> Option<String> {
+    let (p, l) = (list.p(), list.l());
+    let needed = most_begins(list);
+    let tried = |l: u32| {
+        let taken = [2, 4, 8]
+            .into_iter()
+            .filter(move |&p| list.is_taken_with(p, l));
+        taken.map(move |p| (p, l))
+    };
+    let mut found: Vec<(u32, u32)> = tried(l).collect();
+    if found.is_empty() && needed != l {
+        found = tried(needed).collect();
+        // If another L alone is enough, p is not in question.
+        if found.contains(&(p, needed)) {
+            found = vec![(p, needed)];
+        }
+    }
+    let told: Vec<String> = found.iter().map(|&other| numbers(list, other)).collect();
+    let told = told.join(" or ");
+    (!found.is_empty()).then(|| format!("with {told} the whole list is taken"))
+}
+
+/// What has to be said to have another p and L.
+fn numbers(list: &List, (p, l): (u32, u32)) -> String {
+    let [processes, operations] = match list.is_text {
+        true => [format!("`processes {p}`"), format!("`operations {l}`")],
+        false => [format!("-p {p}"), format!("-L {l}")],
+    };
+    match (p == list.p(), l == list.l()) {
+        (false, true) => processes,
+        (true, false) => operations,
+        _ => format!("{processes} {operations}"),
+    }
+}
+
+/// The most begins of one process.
+fn most_begins(list: &List) -> u32 {
+    let mut begins = [0; 256];
+    for record in list.records().iter().filter(|record| record[1] != 0) {
+        begins[usize::from(record[0])] += 1;
+    }
+    begins.into_iter().max().unwrap_or(0)
+}

@@ -1,0 +1,58 @@
+//! A disagreement is found, whichever side it is on.
+
+use super::{compare, Traced};
+use crate::list::List;
+
+fn list(text: &str) -> List {
+    List::of_text(text)
+}
+
+const TEXT: &str = "processes 2\nput 7 by 0\nstep 0 x15\n";
+
+#[test]
+fn both_agree() {
+    assert_eq!(compare(&list(TEXT), 1, 16), Ok(1));
+}
+
+#[test]
+fn another_table() {
+    let list = list(TEXT);
+    let mut traced = Traced::start(&list).unwrap();
+    (0..5).for_each(|_| drop(traced.next().unwrap()));
+    assert_eq!(traced.compare(), Ok(()));
+    traced.machine.memory.set_super(1, 0, 9);
+    let failure = traced.compare().unwrap_err();
+    assert!(failure.message.contains("at record 5"), "{failure:?}");
+    assert!(
+        failure.message.ends_with("disagree on the table"),
+        "{failure:?}"
+    );
+}
+
+#[test]
+fn other_answers() {
+    let list = list(TEXT);
+    let mut traced = Traced::start(&list).unwrap();
+    (0..16).for_each(|_| drop(traced.next().unwrap()));
+    assert_eq!(traced.compare(), Ok(()));
+    traced.answers[0].steps += 1;
+    let failure = traced.compare().unwrap_err();
+    assert!(
+        failure.message.ends_with("disagree on the answers"),
+        "{failure:?}"
+    );
+}
+
+#[test]
+fn a_record_that_one_refuses() {
+    let list = list("processes 2\nstep 0\n");
+    let mut traced = Traced::start(&list).unwrap();
+    let failure = traced.next().unwrap_err();
+    assert!(failure.message.contains("at record 1"), "{failure:?}");
+    traced.played = 1;
+    let failure = traced.compare().unwrap_err();
+    assert!(
+        failure.message.ends_with("the records taken"),
+        "{failure:?}"
+    );
+}

@@ -1,0 +1,73 @@
+//! Records as lines of text.
+
+use crate::notation::{Line, Record};
+use otq::{Answer, Kind, Order, Outcome};
+
+/// A step record in the notation.
+pub fn step(record: Record) -> String {
+    Line { record, count: 1 }.to_string()
+}
+
+/// An answer record as the printing program has it: put or take, process, serial, own steps, root
+/// block, and for a take the value or `none`. Bytes that are no answer are shown as they are.
+pub fn answer(record: [u8; Answer::BYTES]) -> String {
+    let Ok(answer) = Answer::try_from(record) else {
+        return bytes(&record);
+    };
+    let Answer {
+        process,
+        serial,
+        steps,
+        root_block,
+        outcome,
+    } = answer;
+    let line = format!(
+        "{} {process} {serial} {steps} {root_block}",
+        kind(outcome.kind())
+    );
+    match outcome {
+        Outcome::Done => line,
+        Outcome::Value(value) => format!("{line} {value}"),
+        Outcome::Nothing => format!("{line} none"),
+    }
+}
+
+/// An order record: put or take, process, serial, root block.
+pub fn order(record: [u8; Order::BYTES]) -> String {
+    match Order::try_from(record) {
+        Ok(Order {
+            process,
+            serial,
+            root_block,
+            kind: what,
+        }) => {
+            format!("{} {process} {serial} {root_block}", kind(what))
+        }
+        Err(_) => bytes(&record),
+    }
+}
+
+fn kind(kind: Kind) -> &'static str {
+    match kind {
+        Kind::Put => "put",
+        Kind::Take => "take",
+    }
+}
+
+/// Bytes that no other line can say.
+fn bytes(bytes: &[u8]) -> String {
+    format!("raw {}", hex(bytes))
+}
+
+pub fn hex(bytes: &[u8]) -> String {
+    let bytes: Vec<String> = bytes.iter().map(|byte| format!("{byte:02x}")).collect();
+    bytes.join(" ")
+}
+
+/// A number of things, such as `1 put` and `2 puts`.
+pub fn count(number: usize, thing: &str) -> String {
+    match number {
+        1 => format!("1 {thing}"),
+        _ => format!("{number} {thing}s"),
+    }
+}

@@ -1,0 +1,202 @@
+//! `otq check`.
+
+use crate::support::{content, file, otq, with_numbers, written, LOG, STEPS, TEXT, TORN, WRONG};
+
+/// What `check` says of a log, with the example's steps.
+fn checked(name: &str, log: &[u8], more: &[&str]) -> crate::support::Said {
+    let log = file(name, log);
+    otq(&[&["check", TEXT, &log], more].concat())
+}
+
+#[test]
+fn the_same_log() {
+    assert_eq!(written(&["check", TEXT, LOG]), "same, 6 answers\n");
+    assert_eq!(
+        written(&with_numbers("check", &[STEPS, LOG])),
+        "same, 6 answers\n"
+    );
+    let json = written(&["check", TEXT, LOG, "--json"]);
+    let expected = r#"{"verdict": "same", "refusal": null, "answers_in_log": 6, "differences": [], "count": 0}"#;
+    assert_eq!(json, format!("{expected}\n"));
+    let empty = file("checking.empty", b"");
+    assert_eq!(written(&["check", &empty, &empty]), "same, 0 answers\n");
+}
+
+const DIFFERENCE: &str = "\
+differs at answer 4, byte 48 of the log
+              by the rules   in the log
+  process     0              0
+  kind        2 value        2 value
+  own steps   18             18
+  value       30             40             <
+  serial      2              2
+  root block  2              2
+  the first byte that differs is byte 52 of the log: 1e by the rules, 28 in the log
+";
+
+#[test]
+fn a_wrong_answer() {
+    let ended = "  the operation ended with record 82, byte 648: step 0 (00 00 00 00 00 00 00 00)";
+    let lengths = "the log has 6 answers, the rules give 6 answers";
+    let said = otq(&with_numbers("check", &[STEPS, WRONG]));
+    let expected = format!("{DIFFERENCE}{ended}\n{lengths}; --all tells every difference\n");
+    assert_eq!(
+        (said.status, said.out, said.err.as_str()),
+        (1, expected, "")
+    );
+    let said = otq(&["check", TEXT, WRONG, "--all"]);
+    let expected = format!("{DIFFERENCE}{ended}, {TEXT}:16\n1 difference; {lengths}\n");
+    assert_eq!((said.status, said.out), (1, expected));
+}
+
+#[test]
+fn json_of_a_wrong_answer() {
+    let said = otq(&["check", TEXT, WRONG, "--json"]);
+    let rest = r#""own_steps": 18, "value": VALUE, "serial": 2, "root_block": 2}"#;
+    let side = |value| {
+        format!(
+            r#"{{"process": 0, "kind": "value", {}"#,
+            rest.replace("VALUE", value)
+        )
+    };
+    let expected = format!(
+        r#"{{"verdict": "differs", "refusal": null, "answers_in_log": 6, "differences": [{{"index": 3, "byte": 52, "record": 82, "line": 16, "by_rules": {}, "in_log": {}}}], "count": null}}"#,
+        side("30"),
+        side("40")
+    );
+    assert_eq!((said.status, said.out), (1, format!("{expected}\n")));
+    let all = otq(&["check", TEXT, WRONG, "--json", "--all"]);
+    assert_eq!(all.out, format!("{expected}\n").replace("null}\n", "1}\n"));
+}
+
+/// The record that ended each operation, found for every answer of the log.
+#[test]
+fn every_answer_wrong() {
+    let log: Vec<u8> = content(LOG).iter().map(|byte| byte ^ 0x80).collect();
+    let said = checked("all-wrong.log", &log, &["--all"]);
+    assert_eq!(said.status, 1);
+    let ended: Vec<&str> = said
+        .out
+        .lines()
+        .filter_map(|line| line.strip_prefix("  the operation ended with record "))
+        .filter_map(|line| line.split(',').next())
+        .collect();
+    assert_eq!(ended, ["23", "50", "66", "82", "95", "110"]);
+    assert!(said
+        .out
+        .ends_with("\n6 differences; the log has 6 answers, the rules give 6 answers\n"));
+    let json = checked("all-wrong-json.log", &log, &["--all", "--json"]);
+    assert_eq!(json.out.matches("\"index\"").count(), 6);
+    assert!(json.out.ends_with("}], \"count\": 6}\n"), "{json:?}");
+    // A kind that there is none of is shown as its number.
+    assert!(
+        json.out
+            .contains(r#""in_log": {"process": 128, "kind": 129, "#),
+        "{json:?}"
+    );
+}
+
+#[test]
+fn shorter_and_longer_logs() {
+    let log = content(LOG);
+    let shorter = checked("shorter.log", &log[..80], &["--all"]);
+    assert_eq!(shorter.status, 1);
+    assert!(shorter
+        .out
+        .starts_with("differs at answer 6, byte 80 of the log\n"));
+    assert!(shorter
+        .out
+        .contains("\n  own steps   15             -              <\n"));
+    assert!(shorter
+        .out
+        .contains("\n  the log ends at byte 80, before this answer\n"));
+    assert!(shorter
+        .out
+        .contains("\n  the operation ended with record 110, byte 872: step 0 "));
+    assert!(shorter
+        .out
+        .ends_with("\n1 difference; the log has 5 answers, the rules give 6 answers\n"));
+    let longer = checked("longer.log", &[&log[..], &log[..32]].concat(), &["--all"]);
+    assert_eq!(longer.status, 1);
+    assert!(longer
+        .out
+        .starts_with("differs at answer 7, byte 96 of the log\n"));
+    assert!(longer
+        .out
+        .contains("\n  own steps   -              15             <\n"));
+    let none = "\n  the rules give no answer more; in the log one stands at byte 112\n  \
+                the list has no operation that ends here\n";
+    assert!(longer.out.contains(none));
+    assert!(longer
+        .out
+        .ends_with("\n2 differences; the log has 8 answers, the rules give 6 answers\n"));
+    let empty = checked("empty.log", &[], &[]);
+    assert_eq!(empty.status, 1);
+    assert!(empty
+        .out
+        .starts_with("differs at answer 1, byte 0 of the log\n"));
+}
+
+#[test]
+fn torn_logs() {
+    let log = content(LOG);
+    let torn = checked("torn.log", &log[..83], &[]);
+    assert_eq!((torn.status, torn.out.as_str()), (3, ""));
+    assert_eq!(
+        torn.err,
+        "otq: refused with 11: the log bytes are not a multiple of 16\n  \
+         likely cause: 5 whole answers, then 3 bytes at byte 80; --whole checks the 5\n  \
+         `otq explain 11` says what to do\n"
+    );
+    let whole = checked("torn-whole.log", &log[..83], &["--whole"]);
+    assert_eq!(whole.status, 1);
+    assert!(
+        whole
+            .err
+            .contains("left out the last 3 bytes, from byte 80 on"),
+        "{whole:?}"
+    );
+    assert!(whole.out.starts_with("differs at answer 6, "), "{whole:?}");
+    let json = checked("torn-json.log", &log[..83], &["--json"]);
+    assert!(json
+        .out
+        .starts_with(r#"{"verdict": "refused", "refusal": {"number": 11, "#));
+    assert!(
+        json.out
+            .ends_with("\"differences\": [], \"count\": null}\n"),
+        "{json:?}"
+    );
+}
+
+#[test]
+fn refused_lists() {
+    let torn = otq(&with_numbers("check", &[TORN, LOG]));
+    assert_eq!((torn.status, torn.out.as_str()), (3, ""));
+    assert!(torn.err.starts_with("otq: refused with 4: "), "{torn:?}");
+    let whole = otq(&with_numbers("check", &[TORN, LOG, "--whole"]));
+    assert!(
+        whole
+            .out
+            .starts_with("differs at answer 3, byte 32 of the log\n"),
+        "{whole:?}"
+    );
+    let wrong_p = otq(&["check", "-p", "4", "-L", "3", STEPS, LOG]);
+    assert_eq!(wrong_p.status, 3);
+    assert!(
+        wrong_p.err.contains("\n  record 24, byte 184: take by 0 "),
+        "{wrong_p:?}"
+    );
+    assert!(
+        wrong_p
+            .err
+            .contains("likely cause: with -p 2 the whole list"),
+        "{wrong_p:?}"
+    );
+}
+
+#[test]
+fn a_text_in_the_place_of_the_log() {
+    let said = otq(&["check", TEXT, TEXT]);
+    let message = format!("otq: {TEXT}: it holds text, and not answer records\n");
+    assert_eq!((said.status, said.err), (2, message));
+}

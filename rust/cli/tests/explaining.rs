@@ -1,0 +1,37 @@
+//! `otq explain`.
+
+use crate::support::{assert_fails, written};
+
+#[test]
+fn every_refusal() {
+    let all = written(&["explain"]);
+    for number in 1..=11 {
+        let one = written(&["explain", &number.to_string()]);
+        let (meaning, advice) = one.split_once(".\n").unwrap();
+        assert!(meaning.starts_with(&format!("{number} ")), "{one}");
+        assert!(all.contains(&format!("\n{meaning}\n")), "{meaning}");
+        assert!(advice.len() > 20, "{advice}");
+    }
+}
+
+#[test]
+fn records() {
+    let records = written(&["explain", "records"]);
+    for line in [
+        "step record, 8 bytes",
+        "answer record, 16 bytes",
+        "order record, 8 bytes",
+        "  2 to 3      own steps   of the operation, from A to Q",
+        "  1           kind        1 put done, 2 value, 3 none",
+    ] {
+        assert!(records.contains(&format!("{line}\n")), "{line}");
+    }
+}
+
+#[test]
+fn unknown_numbers() {
+    for word in ["0", "12", "-", "six", "4294967296", ""] {
+        let message = format!("otq: expected a number from 1 to 11 or `records`, found `{word}`\n");
+        assert_fails(&["explain", word], 2, &message);
+    }
+}

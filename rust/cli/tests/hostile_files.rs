@@ -1,0 +1,161 @@
+//! Every command on files that are not what it expects: it ends with a status and a message.
+
+use crate::support::{content, file, otq, path, with_numbers, Said, LOG, STEPS, TEXT};
+use reference::random::Random;
+use std::fs;
+
+/// Each command that reads a file, on this file.
+fn commands(file: &str) -> Vec<Vec<&str>> {
+    vec![
+        vec!["run", file],
+        with_numbers("run", &[file]),
+        with_numbers("order", &[file]),
+        with_numbers("trace", &[file]),
+        with_numbers("check", &[file, LOG]),
+        with_numbers("check", &[STEPS, file]),
+        vec!["show", "--as", "steps", file],
+        vec!["show", "--as", "log", file],
+        vec!["show", "--as", "order", file],
+        vec!["encode", file],
+        with_numbers("decode", &[file]),
+    ]
+}
+
+fn each(file: &str, check: impl Fn(&[&str], Said)) {
+    for words in commands(file) {
+        let said = otq(&words);
+        check(&words, said);
+    }
+}
+
+/// Each command fails on the file, and says this of it.
+fn each_fails(file: &str, message: &str) {
+    each(file, |words, said| {
+        let expected = Said {
+            status: 2,
+            out: String::new(),
+            err: format!("otq: {file}: {message}\n"),
+        };
+        assert_eq!(said, expected, "{words:?}");
+    });
+}
+
+#[test]
+fn missing_files_and_directories() {
+    each_fails(
+        &path("no such file"),
+        "No such file or directory (os error 2)",
+    );
+    let folder = path("a folder");
+    fs::create_dir_all(&folder).expect("a folder");
+    each_fails(&folder, "Is a directory (os error 21)");
+}
+
+#[test]
+fn empty_files() {
+    let empty = file("hostile.empty", b"");
+    each(&empty, |words, said| {
+        // Without the steps or without the log of the example, the two differ.
+        let status = i32::from(words[0] == "check");
+        assert_eq!((said.status, said.err.as_str()), (status, ""), "{words:?}");
+    });
+}
+
+/// Text where records are expected, and records where text is.
+#[test]
+fn the_wrong_sort_of_file() {
+    each(TEXT, |words, said| match words[0] {
+        "show" | "decode" => {
+            assert_eq!(said.status, 2, "{words:?}");
+            assert!(
+                said.err.contains(": it holds text, and not "),
+                "{words:?} {said:?}"
+            );
+        }
+        "check" if words[5] == STEPS => {
+            assert!(
+                said.err.contains(": it holds text, and not "),
+                "{words:?} {said:?}"
+            );
+        }
+        _ => assert_eq!((said.status, said.err.as_str()), (0, ""), "{words:?}"),
+    });
+    let prose = file(
+        "prose.txt",
+        b"Dear supplier,\nplease find the list enclosed.\n",
+    );
+    let message =
+        format!("{prose}:1: expected put, take, step, raw, processes, operations, answers");
+    each(&prose, |words, said| {
+        assert_eq!((said.status, said.out.as_str()), (2, ""), "{words:?}");
+        let told = said.err.starts_with(&message) || said.err.contains("it holds text, and not ");
+        assert!(told, "{words:?} {said:?}");
+    });
+}
+
+/// Random bytes of every length up to some records: each command ends.
+#[test]
+fn noise() {
+    let mut random = Random::new(3);
+    for length in (0..40).chain([100, 1000, 9999]) {
+        let noise: Vec<u8> = (0..length).map(|_| random.next() as u8).collect();
+        let noise = file(&format!("noise-{length}.bin"), &noise);
+        // Any status is right; that there is one is asserted of all.
+        each(&noise, |_, _| ());
+    }
+}
+
+/// The example torn at every byte of some records, and with one bit changed.
+#[test]
+fn torn_and_changed_lists() {
+    let steps = content(STEPS);
+    for length in (0..24).chain([879]) {
+        let torn = file(&format!("torn-{length}.bin"), &steps[..length]);
+        let said = otq(&with_numbers("run", &[&torn]));
+        let status = if length % 8 == 0 { 0 } else { 3 };
+        assert_eq!(said.status, status, "{length}");
+    }
+    for bit in (0..8 * steps.len()).step_by(61) {
+        let mut steps = steps.clone();
+        steps[bit / 8] ^= 1 << (bit % 8);
+        let changed = file("changed.bin", &steps);
+        for command in ["run", "order", "trace"] {
+            otq(&with_numbers(command, &[&changed]));
+        }
+        otq(&with_numbers("check", &[&changed, LOG]));
+    }
+}
+
+/// Lines that do not end, and control characters in them.
+#[test]
+fn hostile_texts() {
+    let long = file("long-line.txt", &b"step 0 ".repeat(10_000));
+    let message = format!("{long}:1: expected a line of at most 10000 bytes\n");
+    for command in ["run", "order", "trace", "encode"] {
+        assert_eq!(
+            otq(&[command, &long]),
+            Said {
+                status: 2,
+                out: String::new(),
+                err: message.clone()
+            }
+        );
+    }
+    let comment = file(
+        "long-comment.txt",
+        &[b"# ".as_slice(), &b"x".repeat(9_000)].concat(),
+    );
+    assert_eq!(otq(&["run", &comment]).status, 0);
+    // Past the bytes by which text is told from records.
+    let late = [b"# a comment\n".repeat(1000), b"step \x1b[31m0\n".to_vec()].concat();
+    let late = file("late-control.txt", &late);
+    let said = otq(&["run", &late]);
+    assert_eq!(
+        said.err,
+        format!("{late}:1001: expected a process from 0 to 255, found `\u{fffd}[31m0`\n")
+    );
+    let many = file("many-words.txt", &b"put 1 by 0 ".repeat(500));
+    let said = otq(&["run", &many]);
+    assert!(said.err.len() < 300, "{said:?}");
+    assert!(said.err.ends_with("..`\n"), "{said:?}");
+}

@@ -1,0 +1,150 @@
+//! Files of 100 million bytes, within twice their size in memory.
+
+use crate::support::{file, path, repository, with_numbers, Said, LOG, STEPS, TEXT};
+use std::fs::File;
+use std::process::{Command, Stdio};
+
+const BYTES: u64 = 100_000_000;
+
+/// The command with no more memory than twice the size of a huge file, in a shell that reads the
+/// beginning of what it writes.
+fn otq_limited(words: &[&str]) -> Said {
+    otq_reading(words, Stdio::null())
+}
+
+/// The same, with this on standard input.
+fn otq_reading(words: &[&str], input: Stdio) -> Said {
+    let limit = format!("ulimit -v {}; set -o pipefail", 2 * BYTES / 1024);
+    let script = format!("{limit}; \"$@\" | head -c 2000");
+    let mut command = Command::new("bash");
+    command.args(["-c", &script, "otq", env!("CARGO_BIN_EXE_otq")]);
+    command.args(words).current_dir(repository());
+    // The thread that tells the progress would reserve addresses, of which it uses few.
+    command.env("MALLOC_ARENA_MAX", "1");
+    Said::of(command.stdin(input).output().expect("bash starts"))
+}
+
+/// A file of zero bytes that takes no room on the disk.
+fn zeros(name: &str) -> String {
+    let path = path(name);
+    let file = File::create(&path).expect("a file");
+    file.set_len(BYTES).expect("a long file");
+    path
+}
+
+#[test]
+fn a_huge_list_of_records() {
+    let huge = zeros("huge.steps");
+    for words in [
+        with_numbers("run", &[&huge]),
+        with_numbers("order", &[&huge]),
+        with_numbers("trace", &[&huge]),
+        with_numbers("check", &[&huge, LOG]),
+    ] {
+        let said = otq_limited(&words);
+        assert_eq!(said.status, 3, "{words:?} {said:?}");
+        assert!(
+            said.err.starts_with("otq: refused with 7: "),
+            "{words:?} {said:?}"
+        );
+    }
+    let input = File::open(&huge).expect("a file");
+    let said = otq_reading(&with_numbers("run", &["-"]), input.into());
+    assert_eq!(
+        (said.status, said.out.as_str()),
+        (3, "end 7 0\n"),
+        "{said:?}"
+    );
+}
+
+/// A begin and then nothing but steps: it is refused at the first step too many.
+#[test]
+fn a_huge_list_of_steps() {
+    let huge = path("huge-begun.steps");
+    std::fs::write(&huge, [0, 1, 0, 0, 7, 0, 0, 0]).expect("a file");
+    let grown = File::options().write(true).open(&huge).expect("a file");
+    grown.set_len(BYTES).expect("a long file");
+    let said = otq_limited(&with_numbers("run", &[&huge]));
+    assert_eq!(
+        (said.status, said.out.as_str()),
+        (3, "put 0 1 15 1\nend 7 16\n")
+    );
+}
+
+#[test]
+fn a_huge_log() {
+    let huge = zeros("huge.log");
+    for more in [&[][..], &["--all"], &["--all", "--json"]] {
+        let words = [&with_numbers("check", &[STEPS, &huge])[..], more].concat();
+        let said = otq_limited(&words);
+        assert_eq!((said.status, said.err.as_str()), (1, ""), "{words:?}");
+        assert!(said.out.contains("differs"), "{words:?} {said:?}");
+    }
+}
+
+#[test]
+fn huge_files_shown_and_decoded() {
+    let huge = zeros("huge.bin");
+    for words in [
+        vec!["show", "--as", "steps", &huge],
+        vec!["show", "--as", "log", &huge],
+        with_numbers("decode", &[&huge]),
+    ] {
+        let said = otq_limited(&words);
+        assert_eq!(
+            (said.status, said.err.as_str()),
+            (0, ""),
+            "{words:?} {said:?}"
+        );
+        assert!(!said.out.is_empty(), "{words:?}");
+    }
+}
+
+#[test]
+fn a_huge_file_with_the_wrong_sort() {
+    let huge = zeros("huge.text");
+    let said = otq_limited(&["encode", &huge]);
+    assert_eq!(said.status, 2);
+    assert!(
+        said.err.contains("it holds binary records, and not text"),
+        "{said:?}"
+    );
+}
+
+/// A hundred million steps in a hundred lines, and a hundred million bytes of lines.
+#[test]
+fn huge_texts() {
+    let steps = format!("put 1 by 0\n{}", "step 0 x1000000\n".repeat(100));
+    let many_steps = file("many-steps.txt", steps.as_bytes());
+    let many_lines = path("many-lines.txt");
+    let lines = [
+        b"processes 4\nput 1 by 0\n".to_vec(),
+        b"step 0\n".repeat(BYTES as usize / 28),
+    ]
+    .concat();
+    std::fs::write(&many_lines, &lines).expect("a file");
+    for (list, line) in [(&many_steps, 2), (&many_lines, 30)] {
+        let said = otq_limited(&["run", list]);
+        assert_eq!(
+            (said.status, said.out.as_str()),
+            (3, "put 0 1 27 1\nend 7 28\n"),
+            "{list}"
+        );
+        assert!(said.err.contains(&format!(", {list}:{line}\n")), "{said:?}");
+        for command in ["order", "trace"] {
+            assert_eq!(otq_limited(&[command, list]).status, 3, "{command} {list}");
+        }
+    }
+    // Its reader is gone after some lines.
+    assert_eq!(otq_limited(&["encode", &many_steps]).status, 0);
+}
+
+/// Input without an end.
+#[test]
+fn endless_input() {
+    let said = otq_limited(&with_numbers("run", &["/dev/zero"]));
+    assert_eq!((said.status, said.out.as_str()), (2, ""));
+    assert!(said.err.starts_with("otq: /dev/zero: "), "{said:?}");
+    let said = otq_limited(&["check", TEXT, "/dev/urandom"]);
+    assert_eq!(said.status, 2, "{said:?}");
+}

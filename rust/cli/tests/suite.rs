@@ -1,0 +1,19 @@
+//! The notation and the commands of `otq`, one file for each topic.
+
+mod checking;
+mod coding;
+mod errors;
+mod explaining;
+mod hostile_files;
+mod huge_files;
+mod known_runs;
+mod listing;
+mod making;
+mod outputs;
+mod playing;
+mod round_trips;
+mod showing;
+mod support;
+mod tracing;
+mod transcripts;
+mod usage;

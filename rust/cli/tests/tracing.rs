@@ -1,0 +1,138 @@
+//! `otq trace`.
+
+use crate::support::{assert_fails, file, otq, with_numbers, written, STEPS, TEXT, TORN};
+
+/// The second line, which says what was compared, and those of the records.
+fn traced(words: &[&str]) -> (String, Vec<String>) {
+    let out = written(words);
+    let mut lines = out.lines().map(str::to_string);
+    let first = "# By the Rust version of the rules, not by the proved library.";
+    assert_eq!(lines.next().as_deref(), Some(first));
+    (lines.next().expect("a line"), lines.collect())
+}
+
+#[test]
+fn a_line_a_record() {
+    let (compared, lines) = traced(&["trace", TEXT]);
+    let expected =
+        "# After each of records 1 to 110 the proved library has the same table and answers.";
+    assert_eq!(compared, expected);
+    assert_eq!(lines.len(), 110);
+    for (index, line) in lines.iter().enumerate() {
+        assert_eq!(
+            line.trim_start().split(' ').next(),
+            Some(&(index + 1).to_string()[..])
+        );
+    }
+    assert_eq!(traced(&with_numbers("trace", &[STEPS])).1, lines);
+}
+
+/// Process 1 helps process 0, which stopped after its first step.
+#[test]
+fn help_in_words() {
+    let (_, lines) = traced(&["trace", "examples/known/M6.txt"]);
+    for line in [
+        "     1  process 0  begin  operation 1 of the process, a put of 9",
+        "     2  process 0  A      reads the head of leaf 0: 1, and block 0 of leaf 0 (0 puts, 0 takes); writes block 1 there: 1 put, 0 takes, value 9",
+        "     8  process 1  R1     refreshes the root, reads the head of the root: 1",
+        "    10  process 1  R3     looks at block 1 of leaf 0: present, so it helps to advance it",
+        "    12  process 1  V2     sets super of block 1 of leaf 0 to 1",
+        "    13  process 1  V3     raises the head of leaf 0 from 1 to 2",
+        "    15  process 1  R5     looks at block 2 of leaf 1: absent",
+        "    16  process 1  C1     reads the head of leaf 0: 2, so the end left is 1",
+        "    19  process 1  C4     writes block 1 of the root: 2 puts, 0 takes, ends 1 and 1, size 2",
+        "    21  process 1  Q      operation 1 is done, in root block 1, after 18 steps",
+        "    23  process 0  V2     finds super of block 1 of leaf 0 at 1 already, and leaves it",
+        "    24  process 0  V3     finds the head of leaf 0 at 2 and not 1, and leaves it",
+    ] {
+        assert!(lines.iter().any(|found| found == line), "{line}");
+    }
+}
+
+#[test]
+fn inner_nodes_and_second_refreshes() {
+    let made = written(&[
+        "make", "-p", "4", "-L", "4", "--pace", "stall:C4", "--seed", "1",
+    ]);
+    let (_, lines) = traced(&["trace", &file("traced.txt", made.as_bytes())]);
+    for part in [
+        "refreshes node 2, reads the head of node 2: ",
+        "refreshes node 3 a second time, reads ",
+        " present, so the refresh has failed",
+        "there is no more, so the refresh has succeeded",
+        " gets ",
+    ] {
+        assert!(lines.iter().any(|line| line.contains(part)), "{part}");
+    }
+}
+
+#[test]
+fn a_part_of_the_records() {
+    let (_, all) = traced(&["trace", TEXT]);
+    let (compared, part) = traced(&["trace", TEXT, "--from", "20", "--to", "25"]);
+    assert_eq!(part, all[19..25]);
+    assert!(
+        compared.contains("After each of records 20 to 25 the proved library"),
+        "{compared}"
+    );
+    let (_, end) = traced(&["trace", TEXT, "--from", "110", "--to", "200"]);
+    assert_eq!(end, all[109..]);
+    let (_, one) = traced(&["trace", TEXT, "--to", "1"]);
+    assert_eq!(one, all[..1]);
+}
+
+#[test]
+fn wrong_parts() {
+    let order = "the first is from 1 on, and not above the last\n";
+    assert_fails(
+        &["trace", TEXT, "--from", "0"],
+        2,
+        &format!("otq: --from 0 --to 110: {order}"),
+    );
+    let words = ["trace", TEXT, "--from", "5", "--to", "4"];
+    assert_fails(&words, 2, &format!("otq: --from 5 --to 4: {order}"));
+    let message = "otq: --from 111: the library takes 110 records\n";
+    assert_fails(&["trace", TEXT, "--from", "111"], 2, message);
+    let (compared, lines) = traced(&["trace", &file("tracing.empty", b"")]);
+    assert!(
+        compared.ends_with("There was no record to compare."),
+        "{compared}"
+    );
+    assert!(lines.is_empty());
+}
+
+#[test]
+fn refused_lists() {
+    assert_fails(&with_numbers("trace", &[TORN]), 3, "otq: refused with 4: ");
+    let said = otq(&with_numbers("trace", &[TORN, "--whole"]));
+    assert_eq!((said.status, said.out.lines().count()), (0, 57));
+    let m9 = "examples/known/M9.txt";
+    let said = otq(&["trace", m9]);
+    assert_eq!((said.status, said.out.lines().count()), (3, 3), "{said:?}");
+    assert!(said.err.starts_with("otq: refused with 6: "), "{said:?}");
+    // Up to a record before the refused one, nothing is refused.
+    assert_eq!(otq(&["trace", m9, "--to", "1"]).status, 0);
+    assert_fails(
+        &["trace", "examples/known/M11.txt"],
+        3,
+        "otq: refused with 3: ",
+    );
+    let full = otq(&["trace", "examples/known/M10.txt"]);
+    assert_eq!((full.status, full.out.lines().count()), (3, 17), "{full:?}");
+}
+
+/// A list too long to compare both versions after every record.
+#[test]
+fn long_lists() {
+    let made = written(&[
+        "make", "-p", "2", "-L", "500", "--pace", "uniform", "--seed", "1",
+    ]);
+    let list = file("traced-long.txt", made.as_bytes());
+    let (compared, lines) = traced(&["trace", &list]);
+    assert!(lines.len() > 15_000);
+    assert!(compared.contains(" of records 1 to "), "{compared}");
+    assert!(
+        compared.contains(", and the last, the proved library has the same"),
+        "{compared}"
+    );
+}

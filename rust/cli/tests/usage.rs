@@ -1,0 +1,168 @@
+//! The words of a command line.
+
+use crate::support::{assert_fails, otq, otq_on, with_numbers, written, LOG, NUMBERS, STEPS, TEXT};
+use std::ffi::OsStr;
+use std::os::unix::ffi::OsStrExt;
+
+const COMMANDS: [&str; 9] = [
+    "run", "order", "check", "show", "trace", "make", "encode", "decode", "explain",
+];
+
+#[test]
+fn help_and_version() {
+    let help = written(&["--help"]);
+    for command in COMMANDS {
+        assert!(help.contains(&format!("\n  otq {command}")), "{command}");
+        let of_command = written(&[command, "--help"]);
+        assert!(
+            of_command.starts_with(&format!("otq {command} ")),
+            "{of_command}"
+        );
+        assert_eq!(written(&["help", command]), of_command);
+        // Help is given whatever else is said.
+        assert_eq!(
+            written(&[command, "no such file", "--nothing", "-h"]),
+            of_command
+        );
+    }
+    assert_eq!(written(&["help"]), help);
+    assert_eq!(written(&["-h"]), help);
+    assert_eq!(
+        written(&["--version"]),
+        "otq 0.1.0, with the proved library\n"
+    );
+    assert_eq!(written(&["-V"]), written(&["--version"]));
+}
+
+#[test]
+fn no_command_and_unknown_commands() {
+    assert_fails(&[], 2, "otq plays the steps of a shared queue");
+    assert_fails(
+        &["play"],
+        2,
+        "otq: there is no command `play`; `otq --help` lists them\n",
+    );
+    assert_fails(&["-p", "2"], 2, "otq: there is no command `-p`");
+    assert_fails(&[""], 2, "otq: there is no command ``");
+}
+
+#[test]
+fn wrong_options() {
+    let usage = "usage: otq run [-p P -L L] STEPS [--log OUT] [--whole] [--json]\n";
+    for (words, mistake) in [
+        (&["run", "--all", TEXT][..], "there is no option --all"),
+        (&["run", "-x", TEXT], "there is no option -x"),
+        (&["run", TEXT, "-p"], "-p needs its P"),
+        (&["run", TEXT, "-p", "2", "-p", "2"], "-p is given twice"),
+        (&["run", TEXT, "--json=yes"], "--json has no value"),
+        (&["run"], "a file is missing"),
+        (&["run", "--whole"], "a file is missing"),
+        (
+            &["run", TEXT, TEXT],
+            "`examples/supplier/exercise.txt` is too much",
+        ),
+    ] {
+        assert_fails(words, 2, &format!("otq: {mistake}; {usage}"));
+    }
+    assert_fails(
+        &["check", TEXT],
+        2,
+        "otq: a file is missing; usage: otq check",
+    );
+    assert_fails(
+        &["check", "-", "-"],
+        2,
+        "otq: standard input can be read once; ",
+    );
+}
+
+#[test]
+fn wrong_numbers() {
+    for number in ["two", "-1", "+2", "2.0", "", "0x2", "99999999999999999999"] {
+        let message = format!("otq: -p: expected a number, found `{number}`\n");
+        assert_fails(&["run", TEXT, "-p", number], 2, &message);
+    }
+    assert_fails(
+        &["run", TEXT, "-L", "4294967296"],
+        2,
+        "otq: -L: expected at most 4294967295\n",
+    );
+}
+
+#[test]
+fn options_anywhere_and_joined() {
+    let expected = written(&with_numbers("run", &[STEPS]));
+    assert_eq!(written(&["run", STEPS, "-L", "3", "-p", "2"]), expected);
+    assert_eq!(written(&["run", "-L=3", STEPS, "-p=2"]), expected);
+    assert_eq!(
+        written(&[&["run"], &NUMBERS[..], &["--", STEPS]].concat()),
+        expected
+    );
+    assert_fails(&["run", "--", "-p"], 2, "otq: -p: No such file");
+}
+
+/// Binary records do not say p and L, and a text does.
+#[test]
+fn p_and_l() {
+    let message = format!("otq: {STEPS}: it holds binary records, which do not say p and L: give ");
+    for words in [
+        &["run", STEPS][..],
+        &["order", "-p", "2", STEPS],
+        &["trace", "-L", "3", STEPS],
+    ] {
+        assert_fails(words, 2, &message);
+    }
+    assert_fails(&["check", STEPS, LOG], 2, &message);
+    let message = format!("otq: {TEXT}: its heading says `processes 2`, and not -p 4\n");
+    assert_fails(&["run", "-p", "4", TEXT], 2, &message);
+    let message = format!("otq: {TEXT}: its heading says `operations 3`, and not -L 4\n");
+    assert_fails(&["run", "-L", "4", TEXT], 2, &message);
+    assert_eq!(
+        written(&with_numbers("run", &[TEXT])),
+        written(&["run", TEXT])
+    );
+    // A heading that says nothing leaves them to the command line, and they are 4 and 24 else.
+    let list = b"put 7 by 1\nstep 1 x15\n";
+    assert_eq!(
+        otq_on(&["run", "-p", "2", "-"], list).out,
+        "put 1 1 15 1\nend 0 16\n"
+    );
+    assert_eq!(otq_on(&["run", "-"], list).out, "end 0 16\n");
+}
+
+#[test]
+fn standard_input_is_a_file() {
+    let steps = crate::support::content(STEPS);
+    let log = crate::support::content(LOG);
+    let expected = written(&["run", TEXT]);
+    assert_eq!(otq_on(&with_numbers("run", &["-"]), &steps).out, expected);
+    assert_eq!(
+        otq_on(&["run", "-"], &crate::support::content(TEXT)).out,
+        expected
+    );
+    assert_eq!(
+        otq_on(&with_numbers("check", &[STEPS, "-"]), &log).out,
+        "same, 6 answers\n"
+    );
+    assert_eq!(
+        otq_on(&with_numbers("check", &["-", LOG]), &steps).out,
+        "same, 6 answers\n"
+    );
+    let said = otq_on(&["run", "-"], b"put 7\n");
+    assert_eq!(
+        said.err,
+        "standard input:1: expected `put VALUE by PROCESS`, found `put 7`\n"
+    );
+}
+
+/// A file name may be any bytes.
+#[test]
+fn names_that_are_no_text() {
+    let name = OsStr::from_bytes(b"\xff\xfe");
+    let said = otq(&[OsStr::new("run"), name]);
+    assert_eq!(said.status, 2);
+    assert!(said.err.contains("No such file"), "{said:?}");
+    assert_eq!(otq(&[name]).status, 2);
+    assert_eq!(otq(&[OsStr::new("explain"), name]).status, 2);
+    assert_eq!(otq(&[OsStr::new("run"), OsStr::new("-p"), name]).status, 2);
+}
