@@ -1,4 +1,4 @@
-pub mod Told
+pub mod StepNames
 pub mod Stages
 pub mod Turns
 pub mod Progress
