@@ -14,14 +14,14 @@ use Rattle.steps.specs.declared.Visit.{Visit}
 use Rattle.steps.specs.declared.After.{After}
 use Rattle.steps.specs.declared.After.the-variants.{Right, Ends, Again, Up}
 use Rattle.steps.specs.declared.Step.{Step}
-use Rattle.steps.specs.declared.Step.the-variants.{A, V1, V2, V3, R1, R2, R3, R4, R5, C1, C2, C3, C4, Q}
+use Rattle.steps.specs.declared.Step.the-variants.{A}
 use Rattle.steps.specs.declared.Process.{Process}
 use Rattle.steps.specs.Machine.{Machine, processOf}
 use Rattle.steps.proofs.Stages.{Stage, resting, adding, advancing, starting, building, answering, stage, stageOf, Holds}
 use Rattle.steps.proofs.Turns.{Turn, rests, adds, supers, raises, starts, helps, endsLeft, endsRight, makes, finds, writes, meets, finishes}
 use Rattle.steps.proofs.Progress.{OwnLeaf, Refreshing, AfterAdvance, Way}
 use Rattle.steps.proofs.Others.{Registers, hand-below}
-use Rattle.steps.proofs.Costs.{AfterNodes, StepNodes, rest, restOf}
+use Rattle.steps.proofs.Costs.{AfterNodes, StageNodes, StepNodes, rest, restOf}
 
 -- what is known of process k
 pub record ProcessSound (s : Shape) (m : Memory) (hold : ℕ → Stage) (k : ℕ) (p : Process) : Type 0 where
@@ -69,21 +69,16 @@ module _ (s : Shape) (m : Memory) (hold : ℕ → Stage) (k : ℕ) (kp : k < pro
   after-nodes w Again v h p = rw (p .node) (ancestor-inner s k kp (p .level) (p .low))
   after-nodes w Up v h p = rw (p .node) (ancestor-node s k kp (p .level) (p .low))
 
+  stage-nodes : (x : Stage) → Way s m hold k b x → StageNodes s x
+  stage-nodes resting p = tt
+  stage-nodes adding p = tt
+  stage-nodes (advancing w a v h) p = after-nodes w a v h (p .then)
+  stage-nodes (starting v q) p = rw (p .node) (ancestor-inner s k kp (p .level) (p .low))
+  stage-nodes (building w x) p = refresh-inner s m hold k kp b w (p .refreshing)
+  stage-nodes answering p = tt
+
   pub step-nodes : (n : Step) → Way s m hold k b (stage n) → StepNodes s n
-  step-nodes A p = tt
-  step-nodes (V1 a w v h) p = after-nodes w a v h (p .then)
-  step-nodes (V2 a w v h x) p = after-nodes w a v h (p .then)
-  step-nodes (V3 a w v h) p = after-nodes w a v h (p .then)
-  step-nodes (R1 q v) p = rw (p .node) (ancestor-inner s k kp (p .level) (p .low))
-  step-nodes (R2 w) p = refresh-inner s m hold k kp b w (p .refreshing)
-  step-nodes (R3 w c) p = refresh-inner s m hold k kp b w (p .refreshing)
-  step-nodes (R4 w) p = refresh-inner s m hold k kp b w (p .refreshing)
-  step-nodes (R5 w c) p = refresh-inner s m hold k kp b w (p .refreshing)
-  step-nodes (C1 w) p = refresh-inner s m hold k kp b w (p .refreshing)
-  step-nodes (C2 w l) p = refresh-inner s m hold k kp b w (p .refreshing)
-  step-nodes (C3 w l r) p = refresh-inner s m hold k kp b w (p .refreshing)
-  step-nodes (C4 w c) p = refresh-inner s m hold k kp b w (p .refreshing)
-  step-nodes Q p = tt
+  step-nodes n p = stage-nodes (stage n) p
 
   pub turn-sized : {o : Operation} {x : Stage} {n : Memory} {y : Stage} → Turn s k o m x n y → Way s m hold k b x → Sized s m → Sized s n
   unfolding Rattle.tree.specs.Memory.setSuper

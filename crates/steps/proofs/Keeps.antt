@@ -152,6 +152,10 @@ module _ (s : Shape) (tall : 1 ≤ s .height) (m : Machine) (inv : Invariant s m
               );
         }
 
+    -- the operation has not taken all the own steps that it may take
+    pub steps-left : p .steps < rest s A
+    steps-left = omega (arith, own-sound .bounded)
+
     stepped : Invariant s (stepFrom s m k (Busy o n))
     unfolding stepFrom
     stepped =

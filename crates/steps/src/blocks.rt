@@ -12,6 +12,7 @@ use crate::sequence::above;
 use crate::sequence::advance;
 use crate::sequence::after_refresh;
 use crate::sequence::resume;
+use crate::turn::by_fields;
 use crate::turn::moved;
 use crate::turn::operation_in;
 use crate::turn::step_in;
@@ -79,17 +80,14 @@ pub fn step_v2(table: &mut [u32], starts: &[usize; 17], q: Process) -> Process
         return q;
     };
     set_super_at(table, starts, node, place, above);
+    let visit = by_fields(visit);
     moved(
         q,
         Step::V3 {
-            after: after,
-            visit: Visit {
-                node: visit.node,
-                head: visit.head,
-                second: visit.second,
-            },
-            node: node,
-            place: place,
+            after,
+            visit,
+            node,
+            place,
         },
     )
 }

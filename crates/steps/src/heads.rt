@@ -4,6 +4,7 @@ use crate::Process;
 use crate::Step;
 use crate::Visit;
 use crate::sequence::resume;
+use crate::turn::by_fields;
 use crate::turn::moved;
 use crate::turn::step_in;
 use tree::heads::head_of;
@@ -29,19 +30,16 @@ pub fn step_v1(heads: &[u32], q: Process) -> Process
     else {
         return q;
     };
-    // Copied field by field, as in V2: a copy of the whole visit is one wide read, which has to wait for the narrow writes before it.
+    let visit = by_fields(visit);
+    let above = head_of(heads, node / 2);
     moved(
         q,
         Step::V2 {
-            after: after,
-            visit: Visit {
-                node: visit.node,
-                head: visit.head,
-                second: visit.second,
-            },
-            node: node,
-            place: place,
-            above: head_of(heads, node / 2),
+            after,
+            visit,
+            node,
+            place,
+            above,
         },
     )
 }

@@ -25,8 +25,11 @@ returns c = (λ _ _ _ _ _ e. absurd (other (c .match .keys2) (c .before .step-in
 set-super-at-requires : tie.Need-set-super-at-requires
 set-super-at-requires c κs = let p = c .before .before .before .before .before .before .pre .1 _ _ _ _ _ (at (c .before .before)) .0 in search needs
 
+by-fields-requires : tie.Need-by-fields-requires
+by-fields-requires c κs = search needs
+
 moved-requires : tie.Need-moved-requires
-moved-requires c κs = (search needs, busy _ (at (c .before .before .before .before .before)) tt)
+moved-requires c κs = (search needs, busy _ (at (c .before .before .before .before .before .before)) tt)
 
 same-length : tie.Need-same-length
 same-length c = search needs
@@ -34,12 +37,12 @@ same-length c = search needs
 returns-2 : tie.Need-returns-2
 unfolding step go setSuper write block
 returns-2 c =
-    let here = at (c .before .before .before .before .before .before) in (
+    let here = at (c .before .before .before .before .before .before .before) in (
       λ _ _ _ _ _ _. rw (c .moved .ensures) (
         refl,
         λ s k o heads b.
             let g = rw here at b in
-            rw (here, c .before .before .before .set-super-at .ensures, node-written s _ _ _ _ _ g, node-read s _ _ _ _ g),
+            rw (here, c .before .by-fields .ensures, c .before .before .before .before .set-super-at .ensures, node-written s _ _ _ _ _ g, node-read s _ _ _ _ g),
       ),
       λ no. absurd (no _ _ _ _ _ here),
     )
@@ -52,6 +55,7 @@ step-v2-spec =
     enum-known-after
     returns
     set-super-at-requires
+    by-fields-requires
     moved-requires
     same-length
     returns-2)

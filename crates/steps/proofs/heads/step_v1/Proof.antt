@@ -22,17 +22,22 @@ enum-known-after c = search needs
 returns : tie.Need-returns
 returns c = (λ _ _ _ _ e. absurd (other (c .match .keys2) (c .before .step-in .ensures ∙ e) tt), λ _. (refl, refl))
 
+by-fields-requires : tie.Need-by-fields-requires
+by-fields-requires c κs = search needs
+
 head-of-requires : tie.Need-head-of-requires
-head-of-requires c κs = let p = c .before .before .before .before .before .pre .1 _ _ _ _ (at (c .before)) in search needs
+head-of-requires c κs = let p = c .before .before .before .before .before .before .pre .1 _ _ _ _ (at (c .before .before)) in search needs
 
 moved-requires : tie.Need-moved-requires
-moved-requires c κs = (search needs, busy _ (at (c .before .before)) tt)
+moved-requires c κs = (search needs, busy _ (at (c .before .before .before)) tt)
 
 returns-2 : tie.Need-returns-2
 unfolding step go headOf parentOf
 returns-2 c =
-    let here = at (c .before .before .before) in
-    (λ _ _ _ _ _. rw (c .moved .ensures) (refl, λ s k o table. rw (here, c .before .head-of .ensures)), λ no. absurd (no _ _ _ _ here))
+    let here = at (c .before .before .before .before) in (
+      λ _ _ _ _ _. rw (c .moved .ensures) (refl, λ s k o table. rw (here, c .before .head-of .ensures, c .before .before .by-fields .ensures)),
+      λ no. absurd (no _ _ _ _ here),
+    )
 
 pub step-v1-spec : {M : Type 1} → statement M
 step-v1-spec =
@@ -41,6 +46,7 @@ step-v1-spec =
     step-in-requires
     enum-known-after
     returns
+    by-fields-requires
     head-of-requires
     moved-requires
     returns-2)
