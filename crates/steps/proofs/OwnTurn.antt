@@ -23,7 +23,7 @@ use Rattle.steps.specs.declared.After.{After}
 use Rattle.steps.specs.declared.After.the-variants.{Right, Ends, Again, Up}
 use Rattle.steps.specs.Rules.{above, resume, built, sameTotals}
 use Rattle.steps.specs.declared.Step.{Step}
-use Rattle.steps.proofs.Stages.{stage, Hand, none, one, two, made, Stage, aboveStage, afterStage, HasEnd, Holds, none-empty}
+use Rattle.steps.proofs.Stages.{stage, Hand, none, one, two, made, Stage, aboveStage, afterStage, HasEnd, Holds}
 use Rattle.steps.proofs.Progress.{Covered, Owed, Refreshing, Starting, Passing, AfterAdvance, EndOk, HandOk, Building, Way}
 use Rattle.steps.proofs.Others.{Effect, Registers, owed-stable, make-building}
 use Rattle.steps.proofs.Builds.{built-follows, built-joins, same-ends}
@@ -59,7 +59,7 @@ module _ (s : Shape) (n : Memory) (sound : Sound s n) (hold : ℕ → Stage) (k 
       })
 
   pub bare : (w : Visit) → Refreshing s n hold k b w → Building s n hold k b w none
-  bare w r = record { refreshing = r; hand = tt; mine = λ e q. absurd (none-empty (sideAt s k (r .level)) e q) }
+  bare w r = record { refreshing = r; hand = tt; mine = λ e q. absurd q }
 
   -- what follows an advance begins
   pub resumed : (w : Visit) (a : After) (v h : ℕ) → h < headOf n v → AfterAdvance s n hold k b w a v h → Way s n hold k b (afterStage a w)

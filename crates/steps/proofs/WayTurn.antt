@@ -22,7 +22,7 @@ use Rattle.steps.specs.declared.Visit.{Visit}
 use Rattle.steps.specs.declared.After.the-variants.{Up}
 use Rattle.steps.specs.declared.Built.{Built}
 use Rattle.steps.specs.Rules.{afterRefresh, plusOperation, blockOf}
-use Rattle.steps.proofs.Stages.{made, Stage, advancing, Holds, none-empty}
+use Rattle.steps.proofs.Stages.{made, Stage, advancing, Holds}
 use Rattle.steps.proofs.Turns.{Turn, afterHelp, rests, adds, supers, raises, starts, helps, endsLeft, endsRight, makes, finds, writes, meets, finishes}
 use Rattle.steps.proofs.Progress.{LeafOpen, OwnLeaf, Threshold, Refreshing, Passing, Failed, AfterAdvance, Advancing, Building, Way}
 use Rattle.steps.proofs.Others.{Effect, Registers, hand-below, reached, covered-stable, owed-stable, refreshing-stable, after-stable, way-stable, sound'}
@@ -125,7 +125,7 @@ module _ (s : Shape) (m : Memory) (sized : Sized s m) (sound : Sound s m) (hold 
         (raise-past m v h (omega (arith, nv .last, sized .heads)) (present-low (sound .node v nv) h (p .present)))
         (after-stable s m (raise m v h) sound hold hold' k kp o eff others regs k kp b w a v h (p .present) (p .then))
     way-turn (starts v q) e f eff own p =
-        started s m sound hold hold' k kp o eff others regs b v q (λ d u h z r. none-empty d z ((subst (λ (y : Stage). Holds d y u h z) f r) .2)) p
+        started s m sound hold hold' k kp o eff others regs b v q (λ d u h z r. (subst (λ (y : Stage). Holds d y u h z) f r) .2) p
     way-turn (helps w d c g) e f eff own p =
         record {
           node = child-node s d (w .node) (refresh-inner w (p .refreshing));
