@@ -4,7 +4,7 @@ use native.Mathlib.Omega.{arith}
 use native.Mathlib.Nat.{le-refl}
 use mathlib.Core.Path.{_≡_, refl, ap, sym, _∙_}
 use mathlib.Core.Bool.{Bool, true, false, _||_}
-use mathlib.Core.List.{List, [], _∷_, _++_, map}
+use mathlib.Core.List.{List, [], _∷_, _++_, map, map-append}
 use Rattle.base.specs.Choice.{if_then_else_}
 use Rattle.base.proofs.Cases.{contradiction}
 use Rattle.record.specs.declared.AnswerRecord.{AnswerRecord}
@@ -29,10 +29,6 @@ use Rattle.calls.proofs.RecordsStay.{records-kept}
 use Rattle.calls.proofs.RootAnswers.{reply-is}
 use Rattle.calls.proofs.StepEvents.{stepEvent, steps-more, finished-more, finishing-more}
 use Rattle.calls.proofs.AfterStep.{inv', later, mine, is-mine, does-same, leaves', finished', step-agrees}
-
-map-append : {A B : Type 0} (f : A → B) (xs ys : List A) → map f (xs ++ ys) ≡ map f xs ++ map f ys
-map-append f [] ys = refl
-map-append f (x ∷ xs) ys = ap (λ l. f x ∷ l) (map-append f xs ys)
 
 module _ {s : Shape} {m : Machine} {c : ℕ → ℕ} {h : List Event} {log : List AnswerRecord} (ag : Agrees s m c h log) (tall : 1 ≤ s .height) (k : ℕ) (kp : k < processes s)
     (o : Operation) (n : Step) (busy : processOf m k .status ≡ Busy o n)
