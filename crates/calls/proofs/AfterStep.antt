@@ -33,7 +33,7 @@ use Rattle.steps.specs.declared.Process.{Process}
 use Rattle.steps.specs.Rules.{plusOperation, step}
 use Rattle.steps.specs.Machine.{Machine, processOf, isIdle, isQ, stepOf}
 use Rattle.steps.proofs.Stages.{answering, stage, stageOf}
-use Rattle.steps.proofs.Progress.{LeafOpen, OwnLeaf, Rooted, Way}
+use Rattle.steps.proofs.Progress.{LeafOpen, OwnLeaf, Rooted, Carried}
 use Rattle.steps.proofs.Others.{LeafWrote, Effect}
 use Rattle.steps.proofs.Costs.{rest}
 use Rattle.steps.proofs.Inside.{is-q, next-busy, still-busy}
@@ -223,7 +223,7 @@ module _ {s : Shape} {m : Machine} {c : ℕ → ℕ} {h : List Event} {log : Lis
     unfolding root
     rooted e =
         let w : holding m k ≡ answering = at ∙ ap stage (is-q n e) in
-        let r : Rooted s (m .memory) k (processOf m k .begun) = subst (Way s (m .memory) (holding m) k (processOf m k .begun)) w (inv .process k kp .way) in
+        let r : Rooted s (m .memory) k (processOf m k .begun) = subst (Carried s (m .memory) (holding m) k (processOf m k .begun)) w (inv .process k kp .carried) in
         record {
           process = kp;
           first = mine .some;

@@ -30,7 +30,7 @@ use Rattle.steps.specs.declared.Status.the-variants.{Busy}
 use Rattle.steps.specs.declared.Step.the-variants.{C3, Q}
 use Rattle.steps.specs.Machine.{Machine, processOf, isQ}
 use Rattle.steps.proofs.Stages.{stageOf, two}
-use Rattle.steps.proofs.Progress.{Building, Rooted, Way}
+use Rattle.steps.proofs.Progress.{Building, Rooted, Carried}
 use Rattle.steps.proofs.Invariant.{holding}
 use Rattle.calls.specs.Answer.{replyOf}
 use Rattle.calls.specs.Refusals.{accepted}
@@ -83,10 +83,10 @@ module _ (s : Shape) (tall : 1 ≤ s .height) (rs ts : List StepRecord) (legal :
       → (w .head - 1 < headOf (m .memory) (w .node)) × (l < headOf (m .memory) (leftOf (w .node))) × (r < headOf (m .memory) (rightOf (w .node)))
   unfolding leftOf rightOf
   read-c3 o w l r at =
-      let way : Building s (m .memory) (holding m) k (processOf m k .begun) w (two l r) =
-      subst (λ (x : Status). Way s (m .memory) (holding m) k (processOf m k .begun) (stageOf x)) at (now .invariant .process k kp .way)
+      let carried : Building s (m .memory) (holding m) k (processOf m k .begun) w (two l r) =
+      subst (λ (x : Status). Carried s (m .memory) (holding m) k (processOf m k .begun) (stageOf x)) at (now .invariant .process k kp .carried)
       in
-      (omega (arith, way .refreshing .first, way .refreshing .last), way .hand .0 .below, way .hand .1 .below)
+      (omega (arith, carried .refreshing .first, carried .refreshing .last), carried .hand .0 .below, carried .hand .1 .below)
 
   -- ---- an operation that stands in the root
   module _ (o : Operation) (at : processOf m k .status ≡ Busy o Q) where
@@ -121,7 +121,7 @@ module _ (s : Shape) (tall : 1 ≤ s .height) (rs ts : List StepRecord) (legal :
         on (r .past) (decLt (suc (r .past)) (headOf (m .memory) root)) (r .is) (r .high) (b .past)
       where
         reaches : Rooted s (m .memory) k (processOf m k .begun)
-        reaches = subst (λ (y : Status). Way s (m .memory) (holding m) k (processOf m k .begun) (stageOf y)) at (now .invariant .process k kp .way)
+        reaches = subst (λ (y : Status). Carried s (m .memory) (holding m) k (processOf m k .begun) (stageOf y)) at (now .invariant .process k kp .carried)
 
         on : (past : ℕ) → Dec (suc past < headOf (m .memory) root) → rootBlockOf s (m .memory .table) x ≡ suc past → past < lastRoot s (m .memory .table)
             → reached s (m .memory) k (suc past - 1) < x .serial → rootBlockOf s (m .memory .table) x < headOf (m .memory) root

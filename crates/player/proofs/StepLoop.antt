@@ -20,7 +20,7 @@ use Rattle.steps.specs.Process.{idle}
 use Rattle.steps.specs.Rules.{step, go}
 use Rattle.tree.specs.Contracts.Access.{Begins}
 use Rattle.steps.specs.Contracts.Ready.{Ready}
-use Rattle.steps.specs.Contracts.Next.{Placed, Fits, FitsLeaf, operationIn, stepIn, moved, Moves}
+use Rattle.steps.specs.Contracts.Next.{PartsBegin, Fits, FitsLeaf, operationIn, stepIn, moved, Moves}
 use Rattle.tree.proofs.NodeReads.{begins}
 use Rattle.steps.specs.Machine.{isIdle, isQ}
 use Rattle.calls.specs.declared.Refusal.the-variants.{StepWhileIdle, AnswersFull}
@@ -94,7 +94,7 @@ module _ {p l : ℕ} {starts records heads₀ table₀ : List ℕ} {room : ℕ} 
         (idle-turn s left (take (processes s) procs) starts heads table (stepOf first) q step-plays well refl (ap isIdle e))
 
     -- a step that is ready looks at nodes of the tree
-    placed : (y : Step) → Ready starts heads table (p + first) y → Placed s starts y
+    placed : (y : Step) → Ready starts heads table (p + first) y → PartsBegin s starts y
     placed A r = tt
     placed (V1 a w v h) r = tt
     placed (V2 a w v h x) r = step-begins v (r .0)
@@ -127,10 +127,10 @@ module _ {p l : ℕ} {starts records heads₀ table₀ : List ℕ} {room : ℕ} 
           (plays-ready s (take (processes s) procs) starts heads table first q step-plays (operationIn (q .status)) y (step-busy refl (sym is)) goes)
 
       pub step-fits : {y : Step} → stepIn (q .status) ≡ y → isQ y ≡ false → Fits starts y
-      step-fits {y} is goes = record { shape = s; placed = placed y (step-ready is goes) }
+      step-fits {y} is goes = record { shape = s; begins = placed y (step-ready is goes) }
 
       pub step-moves : {y : Step} → x ≡ y → isQ y ≡ false → (table' heads' : List ℕ) (r : Process) → length heads' ≡ length heads → length table' ≡ length table
-          → (stepIn (q .status) ≡ y → Ready starts heads table (p + first) y → Placed s starts (stepIn (q .status))
+          → (stepIn (q .status) ≡ y → Ready starts heads table (p + first) y → PartsBegin s starts (stepIn (q .status))
           → Moves q r
           × (step s first (operationIn (q .status)) (record { table = table; heads = heads }) (stepIn (q .status))
           ≡ go s first (operationIn (q .status)) (record { table = table; heads = heads }) (record { table = table'; heads = heads' }) (stepIn (r .status))))
@@ -139,7 +139,7 @@ module _ {p l : ℕ} {starts records heads₀ table₀ : List ℕ} {room : ℕ} 
       step-moves {y} is goes table' heads' r eh et turn =
           let told : stepIn (q .status) ≡ y = ap stepIn busy ∙ is in
           let ready = step-ready told goes in
-          let t = turn told ready (subst (Placed s starts) (sym told) (placed y ready)) in
+          let t = turn told ready (subst (PartsBegin s starts) (sym told) (placed y ready)) in
           let q' : Process = moved q (operationIn (q .status)) (stepIn (r .status)) in
           subst (λ (z : Process). Loop p l starts records heads₀ table₀ room out₀ log n₀ heads' table' out (set procs j z) answers equal left (i + 1)) (sym (t .0))
           (subst (λ (y : ℕ). Loop p l starts records heads₀ table₀ room out₀ log n₀ heads' table' out (set procs y q') answers equal left (i + 1)) (sym (w .at))

@@ -32,7 +32,7 @@ use Rattle.tree.specs.Contracts.Access.{Laid, HasPart, HasPlace, nodeBlock}
 use Rattle.steps.specs.Contracts.Ready.{Children, Adds, Builds, Ready}
 use Rattle.tree.proofs.Places.{processes-most, places-most, headed as node-headed, has-part as node-part, has-place as node-place, reads as node-reads, small as node-small, below as place-below, present as place-present}
 use Rattle.steps.proofs.Stages.{Stage, stage, stageOf, made}
-use Rattle.steps.proofs.Progress.{LeafOpen, EndOk, HandOk, OwnLeaf, Way}
+use Rattle.steps.proofs.Progress.{LeafOpen, EndOk, HandOk, OwnLeaf, Carried}
 use Rattle.steps.proofs.Builds.{new-sums, totals-grow}
 use Rattle.steps.proofs.Costs.{StepNodes}
 use Rattle.steps.proofs.Invariant.{Invariant, holding, step-nodes}
@@ -134,27 +134,27 @@ module _ (s : Shape) (tall : s .height ≤ 3) (few : s .most ≤ 500) where
 
     -- a step of process k, in its operation b
     module _ (hold : ℕ → Stage) (k : ℕ) (kp : k < processes s) (b : ℕ) (within : b ≤ s .most) where
-      next : (n : Step) → isQ n ≡ false → OwnLeaf s m k b (stage n) → Way s m hold k b (stage n) → StepNodes s n → Ready starts (m .heads) (m .table) (leafOf s k) n
+      next : (n : Step) → isQ n ≡ false → OwnLeaf s m k b (stage n) → Carried s m hold k b (stage n) → StepNodes s n → Ready starts (m .heads) (m .table) (leafOf s k) n
       unfolding isQ headOf
-      next A q own way nodes = adds k b kp within own
-      next (V1 a w v h) q own way nodes = omega (arith, headed v (way .node))
-      next (V2 a w v h x) q own way nodes = (headed v (way .node), has-place v h (way .node) (present v h (way .node) (way .present)))
-      next (V3 a w v h) q own way nodes = (headed v (way .node), omega (arith, present v h (way .node) (way .present), places-most s tall few v))
-      next (R1 z v) q own way nodes = headed v (inner-node s v nodes)
-      next (R2 w) q own way nodes = children w nodes
-      next (R3 w c) q own way nodes = (children w nodes, has-part (2 * w .node) (omega arith))
-      next (R4 w) q own way nodes = children w nodes
-      next (R5 w c) q own way nodes = (children w nodes, has-part (2 * w .node + 1) (omega arith))
-      next (C1 w) q own way nodes = (children w nodes, sound .node (2 * w .node) (omega arith) .head)
-      next (C2 w l) q own way nodes = (children w nodes, sound .node (2 * w .node + 1) (omega arith) .head)
-      next (C3 w l r) q own way nodes =
-          (children w nodes, builds w nodes (way .refreshing .first) (way .refreshing .last) l r (way .hand .0) (way .hand .1))
-      next (C4 w n) q own way nodes =
+      next A q own carried nodes = adds k b kp within own
+      next (V1 a w v h) q own carried nodes = omega (arith, headed v (carried .node))
+      next (V2 a w v h x) q own carried nodes = (headed v (carried .node), has-place v h (carried .node) (present v h (carried .node) (carried .present)))
+      next (V3 a w v h) q own carried nodes = (headed v (carried .node), omega (arith, present v h (carried .node) (carried .present), places-most s tall few v))
+      next (R1 z v) q own carried nodes = headed v (inner-node s v nodes)
+      next (R2 w) q own carried nodes = children w nodes
+      next (R3 w c) q own carried nodes = (children w nodes, has-part (2 * w .node) (omega arith))
+      next (R4 w) q own carried nodes = children w nodes
+      next (R5 w c) q own carried nodes = (children w nodes, has-part (2 * w .node + 1) (omega arith))
+      next (C1 w) q own carried nodes = (children w nodes, sound .node (2 * w .node) (omega arith) .head)
+      next (C2 w l) q own carried nodes = (children w nodes, sound .node (2 * w .node + 1) (omega arith) .head)
+      next (C3 w l r) q own carried nodes =
+          (children w nodes, builds w nodes (carried .refreshing .first) (carried .refreshing .last) l r (carried .hand .0) (carried .hand .1))
+      next (C4 w n) q own carried nodes =
           let node = inner-node s (w .node) nodes in (
             headed (w .node) node,
-            has-place (w .node) (w .head) node (made-place w nodes (way .refreshing .first) (way .refreshing .last) n (way .hand)),
+            has-place (w .node) (w .head) node (made-place w nodes (carried .refreshing .first) (carried .refreshing .last) n (carried .hand)),
           )
-      next Q q own way nodes = absurd (true≢false q)
+      next Q q own carried nodes = absurd (true≢false q)
 
 -- of a machine whose invariant holds
 pub ready :
@@ -173,6 +173,6 @@ pub ready :
 ready s m inv tall few starts laid k kp o n e q =
     let p = inv .process k kp in
     let own = subst (λ (x : Status). OwnLeaf s (m .memory) k (processOf m k .begun) (stageOf x)) e (p .leaf) in
-    let way = subst (λ (x : Status). Way s (m .memory) (holding m) k (processOf m k .begun) (stageOf x)) e (p .way) in
-    next s tall few (m .memory) (inv .sized) (inv .sound) starts laid (holding m) k kp (processOf m k .begun) (p .within) n q own way
-    (step-nodes s (m .memory) (holding m) k kp (processOf m k .begun) n way)
+    let carried = subst (λ (x : Status). Carried s (m .memory) (holding m) k (processOf m k .begun) (stageOf x)) e (p .carried) in
+    next s tall few (m .memory) (inv .sized) (inv .sound) starts laid (holding m) k kp (processOf m k .begun) (p .within) n q own carried
+    (step-nodes s (m .memory) (holding m) k kp (processOf m k .begun) n carried)

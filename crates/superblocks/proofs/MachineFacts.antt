@@ -13,7 +13,7 @@ use Rattle.steps.specs.declared.Status.{Status}
 use Rattle.steps.specs.declared.Status.the-variants.{Idle, Busy}
 use Rattle.steps.specs.Machine.{Machine, processOf}
 use Rattle.steps.proofs.Stages.{Stage, resting, adding, advancing, starting, building, answering, stage, stageOf}
-use Rattle.steps.proofs.Progress.{AfterAdvance, Way}
+use Rattle.steps.proofs.Progress.{AfterAdvance, Carried}
 use Rattle.steps.proofs.Invariant.{Invariant, holding}
 use Rattle.superblocks.proofs.Marks.{Sight, helpSight, ownSight, stageSight, visitIn, Covers, Seen, Asks, asks, statuses}
 
@@ -25,7 +25,7 @@ pub record MachineFacts (s : Shape) (m : Memory) (at : ℕ → Status) : Type 0 
 
 module _ (s : Shape) (m : Memory) (hold : ℕ → Stage) (k b : ℕ) where
   -- a block whose super is to be set is present
-  asked : (v i z : ℕ) (x : Status) → Way s m hold k b (stageOf x) → Asks v i z x → Node s v × Present s m v i
+  asked : (v i z : ℕ) (x : Status) → Carried s m hold k b (stageOf x) → Asks v i z x → Node s v × Present s m v i
   asked v i z x p (asks o a w) = (p .node, p .present)
 
   -- the head that a visit has read is not past the node's
@@ -39,7 +39,7 @@ module _ (s : Shape) (m : Memory) (hold : ℕ → Stage) (k b : ℕ) where
     low-advance w Again v h p = λ e l. tt
     low-advance w Up v h p = λ e l. tt
 
-    low : (x : Stage) (y : Sight) → Way s m hold k b x → visitIn x .node ≡ u → headOf m u < visitIn x .head → Covers m d u i (stageSight x d y)
+    low : (x : Stage) (y : Sight) → Carried s m hold k b x → visitIn x .node ≡ u → headOf m u < visitIn x .head → Covers m d u i (stageSight x d y)
     low resting y p = λ e l. tt
     low adding y p = λ e l. tt
     low (advancing w a v h) y p = low-advance w a v h (p .then)
@@ -47,7 +47,7 @@ module _ (s : Shape) (m : Memory) (hold : ℕ → Stage) (k b : ℕ) where
     low (building w x) y p = over w (p .refreshing .last)
     low answering y p = λ e l. tt
 
-  low-status : (d : Side) (u i : ℕ) (x : Status) → Way s m hold k b (stageOf x) → Seen m d u i (headOf m u) x
+  low-status : (d : Side) (u i : ℕ) (x : Status) → Carried s m hold k b (stageOf x) → Seen m d u i (headOf m u) x
   low-status d u i Idle p = tt
   low-status d u i (Busy o n) p = low d u i (stage n) (ownSight n d) p
 
@@ -55,6 +55,6 @@ pub machine-facts : (s : Shape) (m : Machine) → Invariant s m → MachineFacts
 machine-facts s m inv =
     record {
       sound = inv .sound;
-      asked = λ r rp v i z q. asked s (m .memory) (holding m) r (processOf m r .begun) v i z (statuses m r) (inv .process r rp .way) q;
-      low = λ r rp d u i. low-status s (m .memory) (holding m) r (processOf m r .begun) d u i (statuses m r) (inv .process r rp .way);
+      asked = λ r rp v i z q. asked s (m .memory) (holding m) r (processOf m r .begun) v i z (statuses m r) (inv .process r rp .carried) q;
+      low = λ r rp d u i. low-status s (m .memory) (holding m) r (processOf m r .begun) d u i (statuses m r) (inv .process r rp .carried);
     }
