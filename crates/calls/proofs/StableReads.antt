@@ -37,14 +37,14 @@ use Rattle.calls.specs.Refusals.{accepted}
 use Rattle.calls.specs.Run.{play}
 use Rattle.calls.specs.History.{Event, machineAfter, begins, operation, eventsAfter, history, does}
 use Rattle.calls.specs.StableReads.{EqualSaveSuper, StableReads}
-use Rattle.calls.proofs.Legal.{Legal}
+use Rattle.calls.proofs.Legal.{Legal, answersAlong}
 use Rattle.calls.proofs.Histories.{history-append}
 use Rattle.calls.proofs.Prefixes.{legal-prefix}
 use Rattle.calls.proofs.Leaves.{LeavesAre}
 use Rattle.calls.proofs.Events.{does-kept}
 use Rattle.calls.proofs.RecordsStay.{opened-yes, answer-kept}
 use Rattle.calls.proofs.RootAnswers.{reply-is}
-use Rattle.calls.proofs.AfterStep.{mine, rooted}
+use Rattle.calls.proofs.AfterStep.{StepTaken, mine, rooted}
 use Rattle.calls.proofs.Runs.{Run, runs, later-run}
 use Rattle.calls.proofs.HistoryGrows.{whole-legal, whole-machine}
 
@@ -93,9 +93,12 @@ module _ (s : Shape) (tall : 1 ≤ s .height) (rs ts : List StepRecord) (legal :
     abbrev x : OpId
     x = record { process = k; serial = begins k rs }
 
+    of-q : StepTaken s m (λ j. begins j rs) (history s rs) (answersAlong s rs) k o Q
+    of-q = record { agrees = now; tall = tall; low = kp; busy = at }
+
     found : Found s (m .memory) x
     unfolding isQ
-    found = rooted now tall k kp o Q at refl
+    found = rooted of-q refl
 
     -- it stands in both, in the same root block
     stands : (mem : Memory) → Sound s mem → Found s mem x → 1 ≤ times x (rootOperations s (mem .table))
@@ -146,7 +149,7 @@ module _ (s : Shape) (tall : 1 ≤ s .height) (rs ts : List StepRecord) (legal :
 
     does-now : does x h ≡ o
     unfolding operation
-    does-now = mine now tall k kp o Q at .what
+    does-now = mine of-q .what
 
     does-then : does x (h ++ more) ≡ o
     does-then = does-kept x h more (opened-yes now tall x (found .first) (le-refl _)) ∙ does-now
