@@ -21,7 +21,7 @@ use Rattle.steps.specs.declared.Step.the-variants.{Q}
 use Rattle.steps.specs.declared.Process.{Process}
 use Rattle.tree.specs.Contracts.SoundTree.{SoundTree}
 use Rattle.steps.proofs.Stages.{stageOf}
-use Rattle.steps.proofs.Progress.{Rooted, Way}
+use Rattle.steps.proofs.Progress.{Rooted, Carried}
 use Rattle.steps.proofs.Invariant.{holding}
 use Rattle.tree.proofs.Places.{processes-most}
 use Rattle.calls.specs.Answer.{takeReply, replyOf, answerOf}
@@ -61,8 +61,8 @@ module _ {s : Shape} {ps : List Process} {starts heads table : List ℕ} {k : �
     -- what the invariant says at Q: the root's blocks below its head hold the operation
     rooted : Rooted s m k (q .begun)
     rooted =
-        subst (λ (x : Status). Way s m (holding (machineOf table heads ps)) k (q .begun) (stageOf x)) status
-        (subst (λ (x : Process). Way s m (holding (machineOf table heads ps)) k (x .begun) (stageOf (x .status))) (plays .here) (plays .keeps .process k (plays .low) .way))
+        subst (λ (x : Status). Carried s m (holding (machineOf table heads ps)) k (q .begun) (stageOf x)) status
+        (subst (λ (x : Process). Carried s m (holding (machineOf table heads ps)) k (x .begun) (stageOf (x .status))) (plays .here) (plays .keeps .process k (plays .low) .carried))
 
     -- so it can be found there
     pub stands-as : Stands starts heads table (p + k) (q .begun) s k

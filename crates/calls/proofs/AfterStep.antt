@@ -33,7 +33,7 @@ use Rattle.steps.specs.declared.Process.{Process}
 use Rattle.steps.specs.Rules.{plusOperation, step}
 use Rattle.steps.specs.Machine.{Machine, processOf, isIdle, isQ, stepOf}
 use Rattle.steps.proofs.Stages.{answering, stage, stageOf}
-use Rattle.steps.proofs.Progress.{LeafOpen, OwnLeaf, Rooted, Way}
+use Rattle.steps.proofs.Progress.{LeafOpen, OwnLeaf, Rooted, Carried}
 use Rattle.steps.proofs.Others.{LeafWrote, Effect}
 use Rattle.steps.proofs.Costs.{rest}
 use Rattle.steps.proofs.Inside.{is-q, next-busy, still-busy}
@@ -57,219 +57,226 @@ unfolding plusOperation
 block-added (Put x) b b' p = (omega (arith, p .puts), sym (p .takes), refl)
 block-added Take b b' p = (sym (p .puts), omega (arith, p .takes))
 
-module _ {s : Shape} {m : Machine} {c : ℕ → ℕ} {h : List Event} {log : List AnswerRecord} (ag : Agrees s m c h log) (tall : 1 ≤ s .height) (k : ℕ) (kp : k < processes s)
-    (o : Operation) (n : Step) (busy : processOf m k .status ≡ Busy o n)
-  where
-    abbrev y : OpId
-    y = record { process = k; serial = c k }
+-- process k, inside operation o at step n, takes a step where history and machine agree
+pub record StepTaken (s : Shape) (m : Machine) (c : ℕ → ℕ) (h : List Event) (log : List AnswerRecord) (k : ℕ) (o : Operation) (n : Step) : Type 0 where
+  pub agrees : Agrees s m c h log
+  pub tall : 1 ≤ s .height
+  pub low : k < processes s
+  pub busy : processOf m k .status ≡ Busy o n
 
-    abbrev h' : List Event
-    h' = h ++ (stepEvent (isQ n) y ∷ [])
+module _ {s : Shape} {m : Machine} {c : ℕ → ℕ} {h : List Event} {log : List AnswerRecord} {k : ℕ} {o : Operation} {n : Step} (taken : StepTaken s m c h log k o n) where
+  open StepTaken taken using (agrees as ag, tall, low as kp, busy)
 
-    abbrev inv : Invariant s m
-    inv = ag .invariant
+  abbrev y : OpId
+  y = record { process = k; serial = c k }
 
-    pub inv' : Invariant s (stepOf s m k)
-    inv' = step-keeps s tall m inv k kp o n busy
+  abbrev h' : List Event
+  h' = h ++ (stepEvent (isQ n) y ∷ [])
 
-    abbrev mem' : Memory
-    mem' = stepOf s m k .memory
+  abbrev inv : Invariant s m
+  inv = ag .invariant
 
-    eff : Effect s k o (m .memory) (holding m k) mem' (stageOf (step s k o (m .memory) n .next))
-    eff = subst (λ (x : Memory). Effect s k o (m .memory) (holding m k) x (stageOf (step s k o (m .memory) n .next))) (sym (stepped-memory s tall m inv k kp o n busy)) (step-effect s tall m inv k kp o n busy)
+  pub inv' : Invariant s (stepOf s m k)
+  inv' = step-keeps s tall m inv k kp o n busy
 
-    pub later : Later s (m .memory) mem'
-    later = later-grows (later-refl s (m .memory)) (eff .grows)
+  abbrev mem' : Memory
+  mem' = stepOf s m k .memory
 
-    abbrev next : Process
-    next = record { status = step s k o (m .memory) n .next; begun = processOf m k .begun; steps = processOf m k .steps + 1 }
+  eff : Effect s k o (m .memory) (holding m k) mem' (stageOf (step s k o (m .memory) n .next))
+  eff = subst (λ (x : Memory). Effect s k o (m .memory) (holding m k) x (stageOf (step s k o (m .memory) n .next))) (sym (stepped-memory s tall m inv k kp o n busy)) (step-effect s tall m inv k kp o n busy)
 
-    here : processOf (stepOf s m k) k ≡ next
-    here = stepped-here s tall m inv k kp o n busy
+  pub later : Later s (m .memory) mem'
+  later = later-grows (later-refl s (m .memory)) (eff .grows)
 
-    there : (j : ℕ) → j ≢ k → processOf (stepOf s m k) j ≡ processOf m j
-    there = stepped-other s tall m inv k kp o n busy
+  abbrev next : Process
+  next = record { status = step s k o (m .memory) n .next; begun = processOf m k .begun; steps = processOf m k .steps + 1 }
 
-    pub mine : Doing h y o
-    unfolding operation
-    mine = ag .doing k kp o n busy
+  here : processOf (stepOf s m k) k ≡ next
+  here = stepped-here s tall m inv k kp o n busy
 
-    at : holding m k ≡ stage n
-    at = ap stageOf busy
+  there : (j : ℕ) → j ≢ k → processOf (stepOf s m k) j ≡ processOf m j
+  there = stepped-other s tall m inv k kp o n busy
 
-    -- ---- counts
-    not-mine : (x : OpId) → same x y ≡ false → ownSteps x h' ≡ ownSteps x h
-    not-mine x e = steps-more (isQ n) y h x ∙ rw e (omega arith)
+  pub mine : Doing h y o
+  unfolding operation
+  mine = ag .doing k kp o n busy
 
-    pub is-mine : ownSteps y h' ≡ processOf m k .steps + 1
-    unfolding operation
-    is-mine = steps-more (isQ n) y h y ∙ rw (same-refl y) (omega (arith, ag .current k kp))
+  at : holding m k ≡ stage n
+  at = ap stageOf busy
 
-    few' : (x : OpId) → ownSteps x h' ≤ rest s A
-    few' x = on (same x y) refl
-      where
-        on : (b : Bool) → same x y ≡ b → ownSteps x h' ≤ rest s A
-        on true e = rw (same-eq x y e) (omega (arith, is-mine, ap (λ (p : Process). p .steps) here, inv' .process k kp .bounded))
-        on false e = omega (arith, not-mine x e, ag .few x)
+  -- ---- counts
+  not-mine : (x : OpId) → same x y ≡ false → ownSteps x h' ≡ ownSteps x h
+  not-mine x e = steps-more (isQ n) y h x ∙ rw e (omega arith)
 
-    mine-opened : isOpened y h ≡ true
-    mine-opened = opened-yes ag tall y (mine .some) (le-refl _)
+  pub is-mine : ownSteps y h' ≡ processOf m k .steps + 1
+  unfolding operation
+  is-mine = steps-more (isQ n) y h y ∙ rw (same-refl y) (omega (arith, ag .current k kp))
 
-    unstarted' : (x : OpId) → isOpened x h' ≡ false → ownSteps x h' ≡ 0
-    unstarted' x l = on (same x y) refl
-      where
-        on : (b : Bool) → same x y ≡ b → ownSteps x h' ≡ 0
-        on true e = contradiction (isOpened y h) mine-opened (ap (λ (z : OpId). isOpened z h) (sym (same-eq x y e)) ∙ sym (opened-kept (isQ n) y h x) ∙ l)
-        on false e = not-mine x e ∙ ag .unstarted x (sym (opened-kept (isQ n) y h x) ∙ l)
+  few' : (x : OpId) → ownSteps x h' ≤ rest s A
+  few' x = on (same x y) refl
+    where
+      on : (b : Bool) → same x y ≡ b → ownSteps x h' ≤ rest s A
+      on true e = rw (same-eq x y e) (omega (arith, is-mine, ap (λ (p : Process). p .steps) here, inv' .process k kp .bounded))
+      on false e = omega (arith, not-mine x e, ag .few x)
 
-    -- an operation that is not finished by this step goes on
-    unfinished' : (x : OpId) → isOpened x h' ≡ true → isFinished x h' ≡ false → Running s (stepOf s m k) c x
-    unfinished' x a b =
-        let f = or-false (isFinished x h) (isQ n && same x y) (sym (finished-more (isQ n) y h x) ∙ b) in
-        old (ag .unfinished x (sym (opened-kept (isQ n) y h x) ∙ a) (f .0)) (f .1)
-      where
-        old : Running s m c x → isQ n && same x y ≡ false → Running s (stepOf s m k) c x
-        old r g = record { process = r .process; last = r .last; busy = on (ℕ-discrete (x .process) k) }
-          where
-            on : Dec (x .process ≡ k) → isIdle (processOf (stepOf s m k) (x .process) .status) ≡ false
-            on (yes z) =
-                let w : x ≡ y = λ i. record { process = z i; serial = (r .last ∙ ap c z) i } in
-                let q : isQ n ≡ false = sym (rw (ap (λ (u : OpId). same u y) w ∙ same-refl y) (and-one (isQ n))) ∙ g in
-                ap (λ (j : ℕ). isIdle (processOf (stepOf s m k) j .status)) z ∙ ap (λ (p : Process). isIdle (p .status)) here ∙ still-busy s k o (m .memory) n q
-            on (no z) = ap (λ (p : Process). isIdle (p .status)) (there (x .process) z) ∙ r .busy
+  mine-opened : isOpened y h ≡ true
+  mine-opened = opened-yes ag tall y (mine .some) (le-refl _)
 
-    current' : (j : ℕ) → j < processes s → processOf (stepOf s m k) j .steps ≡ ownSteps (record { process = j; serial = c j }) h'
-    unfolding operation
-    current' j jp = on (ℕ-discrete j k)
-      where
-        on : Dec (j ≡ k) → processOf (stepOf s m k) j .steps ≡ ownSteps (record { process = j; serial = c j }) h'
-        on (yes z) = rw z (ap (λ (p : Process). p .steps) here ∙ sym is-mine)
-        on (no z) =
-            ap (λ (p : Process). p .steps) (there j z) ∙ ag .current j jp
-            ∙ sym (not-mine (record { process = j; serial = c j }) (other-process (record { process = j; serial = c j }) y z))
+  unstarted' : (x : OpId) → isOpened x h' ≡ false → ownSteps x h' ≡ 0
+  unstarted' x l = on (same x y) refl
+    where
+      on : (b : Bool) → same x y ≡ b → ownSteps x h' ≡ 0
+      on true e = contradiction (isOpened y h) mine-opened (ap (λ (z : OpId). isOpened z h) (sym (same-eq x y e)) ∙ sym (opened-kept (isQ n) y h x) ∙ l)
+      on false e = not-mine x e ∙ ag .unstarted x (sym (opened-kept (isQ n) y h x) ∙ l)
 
-    counts' : (j : ℕ) → j < processes s → processOf (stepOf s m k) j .begun ≡ c j
-    counts' j jp = on (ℕ-discrete j k)
-      where
-        on : Dec (j ≡ k) → processOf (stepOf s m k) j .begun ≡ c j
-        on (yes z) = rw z (ap (λ (p : Process). p .begun) here ∙ ag .counts k kp)
-        on (no z) = ap (λ (p : Process). p .begun) (there j z) ∙ ag .counts j jp
+  -- an operation that is not finished by this step goes on
+  unfinished' : (x : OpId) → isOpened x h' ≡ true → isFinished x h' ≡ false → Running s (stepOf s m k) c x
+  unfinished' x a b =
+      let f = or-false (isFinished x h) (isQ n && same x y) (sym (finished-more (isQ n) y h x) ∙ b) in
+      old (ag .unfinished x (sym (opened-kept (isQ n) y h x) ∙ a) (f .0)) (f .1)
+    where
+      old : Running s m c x → isQ n && same x y ≡ false → Running s (stepOf s m k) c x
+      old r g = record { process = r .process; last = r .last; busy = on (ℕ-discrete (x .process) k) }
+        where
+          on : Dec (x .process ≡ k) → isIdle (processOf (stepOf s m k) (x .process) .status) ≡ false
+          on (yes z) =
+              let w : x ≡ y = λ i. record { process = z i; serial = (r .last ∙ ap c z) i } in
+              let q : isQ n ≡ false = sym (rw (ap (λ (u : OpId). same u y) w ∙ same-refl y) (and-one (isQ n))) ∙ g in
+              ap (λ (j : ℕ). isIdle (processOf (stepOf s m k) j .status)) z ∙ ap (λ (p : Process). isIdle (p .status)) here ∙ still-busy s k o (m .memory) n q
+          on (no z) = ap (λ (p : Process). isIdle (p .status)) (there (x .process) z) ∙ r .busy
 
-    -- ---- operations
-    pub does-same : (x : OpId) → 1 ≤ x .serial → x .serial ≤ c (x .process) → does x h' ≡ does x h
-    does-same x a b = does-kept x h (stepEvent (isQ n) y ∷ []) (opened-yes ag tall x a b)
+  current' : (j : ℕ) → j < processes s → processOf (stepOf s m k) j .steps ≡ ownSteps (record { process = j; serial = c j }) h'
+  unfolding operation
+  current' j jp = on (ℕ-discrete j k)
+    where
+      on : Dec (j ≡ k) → processOf (stepOf s m k) j .steps ≡ ownSteps (record { process = j; serial = c j }) h'
+      on (yes z) = rw z (ap (λ (p : Process). p .steps) here ∙ sym is-mine)
+      on (no z) =
+          ap (λ (p : Process). p .steps) (there j z) ∙ ag .current j jp
+          ∙ sym (not-mine (record { process = j; serial = c j }) (other-process (record { process = j; serial = c j }) y z))
 
-    doing' : (j : ℕ) → j < processes s → (o' : Operation) (n' : Step) → processOf (stepOf s m k) j .status ≡ Busy o' n' → Doing h' (record { process = j; serial = c j }) o'
-    unfolding operation
-    doing' j jp o' n' b = on (ℕ-discrete j k)
-      where
-        on : Dec (j ≡ k) → Doing h' (record { process = j; serial = c j }) o'
-        on (yes z) =
-            let w : step s k o (m .memory) n .next ≡ Busy o' n' = sym (ap (λ (p : Process). p .status) here) ∙ ap (λ (i : ℕ). processOf (stepOf s m k) i .status) (sym z) ∙ b in
-            let v = next-busy s k o (m .memory) n o' n' w in
-            subst (λ (i : ℕ). Doing h' (record { process = i; serial = c i }) o') (sym z)
-            (record {
-              some = mine .some;
-              what = does-same y (mine .some) (le-refl _) ∙ mine .what ∙ v .1;
-              unfinished = finished-more (isQ n) y h y ∙ rw (mine .unfinished, v .0);
-            })
-        on (no z) =
-            let x : OpId = record { process = j; serial = c j } in
-            let d : Doing h (record { process = j; serial = c j }) o' = ag .doing j jp o' n' (sym (ap (λ (p : Process). p .status) (there j z)) ∙ b) in
-            record {
-              some = d .some;
-              what = does-same (record { process = j; serial = c j }) (d .some) (le-refl _) ∙ d .what;
-              unfinished =
-                  finished-more (isQ n) y h (record { process = j; serial = c j })
-                  ∙ rw (d .unfinished, other-process (record { process = j; serial = c j }) y z) (and-false (isQ n));
-            }
+  counts' : (j : ℕ) → j < processes s → processOf (stepOf s m k) j .begun ≡ c j
+  counts' j jp = on (ℕ-discrete j k)
+    where
+      on : Dec (j ≡ k) → processOf (stepOf s m k) j .begun ≡ c j
+      on (yes z) = rw z (ap (λ (p : Process). p .begun) here ∙ ag .counts k kp)
+      on (no z) = ap (λ (p : Process). p .begun) (there j z) ∙ ag .counts j jp
 
-    -- ---- leaves
-    pub leaves' : LeavesAre s mem' h'
-    unfolding operation
-    leaves' j jp i f = on (eff .leaves j i f)
-      where
-        nj : Node s (leafOf s j)
-        nj = leaf-node s j jp
+  -- ---- operations
+  pub does-same : (x : OpId) → 1 ≤ x .serial → x .serial ≤ c (x .process) → does x h' ≡ does x h
+  does-same x a b = does-kept x h (stepEvent (isQ n) y ∷ []) (opened-yes ag tall x a b)
 
-        old : NodeSound s (m .memory) (leafOf s j)
-        old = inv .sound .node (leafOf s j) nj
+  doing' : (j : ℕ) → j < processes s → (o' : Operation) (n' : Step) → processOf (stepOf s m k) j .status ≡ Busy o' n' → Doing h' (record { process = j; serial = c j }) o'
+  unfolding operation
+  doing' j jp o' n' b = on (ℕ-discrete j k)
+    where
+      on : Dec (j ≡ k) → Doing h' (record { process = j; serial = c j }) o'
+      on (yes z) =
+          let w : step s k o (m .memory) n .next ≡ Busy o' n' = sym (ap (λ (p : Process). p .status) here) ∙ ap (λ (i : ℕ). processOf (stepOf s m k) i .status) (sym z) ∙ b in
+          let v = next-busy s k o (m .memory) n o' n' w in
+          subst (λ (i : ℕ). Doing h' (record { process = i; serial = c i }) o') (sym z)
+          (record {
+            some = mine .some;
+            what = does-same y (mine .some) (le-refl _) ∙ mine .what ∙ v .1;
+            unfinished = finished-more (isQ n) y h y ∙ rw (mine .unfinished, v .0);
+          })
+      on (no z) =
+          let x : OpId = record { process = j; serial = c j } in
+          let d : Doing h (record { process = j; serial = c j }) o' = ag .doing j jp o' n' (sym (ap (λ (p : Process). p .status) (there j z)) ∙ b) in
+          record {
+            some = d .some;
+            what = does-same (record { process = j; serial = c j }) (d .some) (le-refl _) ∙ d .what;
+            unfinished =
+                finished-more (isQ n) y h (record { process = j; serial = c j })
+                ∙ rw (d .unfinished, other-process (record { process = j; serial = c j }) y z) (and-false (isQ n));
+          }
 
-        on : LeafWrote s k o (m .memory) (holding m k) mem' j i
-            → IsBlockOf (does (record { process = j; serial = suc i }) h') (block s mem' (leafOf s j) i) (block s mem' (leafOf s j) (suc i))
-        on (inl g) =
-            subst (λ (q : Operation). IsBlockOf q (block s mem' (leafOf s j) i) (block s mem' (leafOf s j) (suc i)))
-            (sym (does-same (record { process = j; serial = suc i }) (omega arith) (leaf-begun ag tall j jp (suc i) g)))
-            (block-same (does (record { process = j; serial = suc i }) h) _ _ _ _ (eff .grows .stays (leafOf s j) i nj (before-written old i g)) (eff .grows .stays (leafOf s j) (suc i) nj (inr g))
-            (ag .leaves j jp i g))
-        on (inr g) =
-            let lo : LeafOpen s (m .memory) k (processOf m k .begun) = subst (OwnLeaf s (m .memory) k (processOf m k .begun)) (g .1) (inv .process k kp .leaf) in
-            let e : suc i ≡ c k = g .2 ∙ lo .head ∙ ag .counts k kp in
-            let x : _≡_ {A = OpId} (record { process = j; serial = suc i }) y = λ z. record { process = g .0 z; serial = e z } in
-            let w : does (record { process = j; serial = suc i }) h' ≡ o = ap (λ (z : OpId). does z h') x ∙ does-same y (mine .some) (le-refl _) ∙ mine .what in
-            let v : i < headOf (m .memory) (leafOf s j) = rw (g .0) (omega (arith, g .2)) in
-            let p : Same (block s mem' (leafOf s j) i) (block s (m .memory) (leafOf s k) i) =
-            subst (λ (r : ℕ). Same (block s mem' (leafOf s j) i) (block s (m .memory) (leafOf s r) i)) (g .0) (eff .grows .stays (leafOf s j) i nj (below-head old i v)) in
-            subst (λ (q : Operation). IsBlockOf q (block s mem' (leafOf s j) i) (block s mem' (leafOf s j) (suc i))) (sym w)
-            (subst (IsBlockOf o (block s mem' (leafOf s j) i)) (sym (g .3)) (block-added o (block s (m .memory) (leafOf s k) i) (block s mem' (leafOf s j) i) p))
+  -- ---- leaves
+  pub leaves' : LeavesAre s mem' h'
+  unfolding operation
+  leaves' j jp i f = on (eff .leaves j i f)
+    where
+      nj : Node s (leafOf s j)
+      nj = leaf-node s j jp
 
-    -- ---- what finished, and before what
-    found-grows : (x : OpId) → Found s (m .memory) x → Found s mem' x
-    found-grows x f =
-        record { process = f .process; first = f .first; last = omega (arith, f .last, reached-grows s (m .memory) mem' (inv .sound) (inv' .sound) later (x .process) (f .process)) }
+      old : NodeSound s (m .memory) (leafOf s j)
+      old = inv .sound .node (leafOf s j) nj
 
-    -- at Q the operation is below the root's head, so it stands in the root
-    pub rooted : isQ n ≡ true → Found s (m .memory) y
-    unfolding root
-    rooted e =
-        let w : holding m k ≡ answering = at ∙ ap stage (is-q n e) in
-        let r : Rooted s (m .memory) k (processOf m k .begun) = subst (Way s (m .memory) (holding m) k (processOf m k .begun)) w (inv .process k kp .way) in
-        record {
-          process = kp;
-          first = mine .some;
-          last =
-              omega (
-                arith,
-                r,
-                ag .counts k kp,
-                reached-rises s (m .memory) (inv .sound) k kp (headOf (m .memory) root - 1) (lastRoot s (m .memory .table)) (omega (arith, head-last s (m .memory) (inv .sound))) (last-written s (m .memory) (inv .sound)),
-              );
-        }
+      on : LeafWrote s k o (m .memory) (holding m k) mem' j i
+          → IsBlockOf (does (record { process = j; serial = suc i }) h') (block s mem' (leafOf s j) i) (block s mem' (leafOf s j) (suc i))
+      on (inl g) =
+          subst (λ (q : Operation). IsBlockOf q (block s mem' (leafOf s j) i) (block s mem' (leafOf s j) (suc i)))
+          (sym (does-same (record { process = j; serial = suc i }) (omega arith) (leaf-begun ag tall j jp (suc i) g)))
+          (block-same (does (record { process = j; serial = suc i }) h) _ _ _ _ (eff .grows .stays (leafOf s j) i nj (before-written old i g)) (eff .grows .stays (leafOf s j) (suc i) nj (inr g))
+          (ag .leaves j jp i g))
+      on (inr g) =
+          let lo : LeafOpen s (m .memory) k (processOf m k .begun) = subst (OwnLeaf s (m .memory) k (processOf m k .begun)) (g .1) (inv .process k kp .leaf) in
+          let e : suc i ≡ c k = g .2 ∙ lo .head ∙ ag .counts k kp in
+          let x : _≡_ {A = OpId} (record { process = j; serial = suc i }) y = λ z. record { process = g .0 z; serial = e z } in
+          let w : does (record { process = j; serial = suc i }) h' ≡ o = ap (λ (z : OpId). does z h') x ∙ does-same y (mine .some) (le-refl _) ∙ mine .what in
+          let v : i < headOf (m .memory) (leafOf s j) = rw (g .0) (omega (arith, g .2)) in
+          let p : Same (block s mem' (leafOf s j) i) (block s (m .memory) (leafOf s k) i) =
+          subst (λ (r : ℕ). Same (block s mem' (leafOf s j) i) (block s (m .memory) (leafOf s r) i)) (g .0) (eff .grows .stays (leafOf s j) i nj (below-head old i v)) in
+          subst (λ (q : Operation). IsBlockOf q (block s mem' (leafOf s j) i) (block s mem' (leafOf s j) (suc i))) (sym w)
+          (subst (IsBlockOf o (block s mem' (leafOf s j) i)) (sym (g .3)) (block-added o (block s (m .memory) (leafOf s k) i) (block s mem' (leafOf s j) i) p))
 
-    pub finished' : (x : OpId) → isFinished x h' ≡ true → Found s mem' x
-    finished' x e =
-        or-cases (isFinished x h) (isQ n && same x y) (sym (finished-more (isQ n) y h x) ∙ e) (λ a. found-grows x (ag .finished x a))
-        (λ a.
-        let q = and-true (isQ n) (same x y) a in
-        found-grows x (subst (Found s (m .memory)) (sym (same-eq x y (q .1))) (rooted (q .0))))
+  -- ---- what finished, and before what
+  found-grows : (x : OpId) → Found s (m .memory) x → Found s mem' x
+  found-grows x f =
+      record { process = f .process; first = f .first; last = omega (arith, f .last, reached-grows s (m .memory) mem' (inv .sound) (inv' .sound) later (x .process) (f .process)) }
 
-    before' : (x z : OpId) → Before s (m .memory) x z → Before s mem' x z
-    before' x z b =
-        record {
-          cut = b .cut;
-          within = omega (arith, b .within, last-grows s (m .memory) mem' (inv .sound) (inv' .sound) later);
-          first-process = b .first-process;
-          second-process = b .second-process;
-          first = omega (arith, b .first, reached-stays s (m .memory) mem' (inv .sound) (inv' .sound) later (x .process) (b .first-process) (b .cut) (b .within));
-          second = omega (arith, b .second, reached-stays s (m .memory) mem' (inv .sound) (inv' .sound) later (z .process) (b .second-process) (b .cut) (b .within));
-        }
+  -- at Q the operation is below the root's head, so it stands in the root
+  pub rooted : isQ n ≡ true → Found s (m .memory) y
+  unfolding root
+  rooted e =
+      let w : holding m k ≡ answering = at ∙ ap stage (is-q n e) in
+      let r : Rooted s (m .memory) k (processOf m k .begun) = subst (Carried s (m .memory) (holding m) k (processOf m k .begun)) w (inv .process k kp .carried) in
+      record {
+        process = kp;
+        first = mine .some;
+        last =
+            omega (
+              arith,
+              r,
+              ag .counts k kp,
+              reached-rises s (m .memory) (inv .sound) k kp (headOf (m .memory) root - 1) (lastRoot s (m .memory .table)) (omega (arith, head-last s (m .memory) (inv .sound))) (last-written s (m .memory) (inv .sound)),
+            );
+      }
 
-    -- all but the answers
-    pub step-agrees : (log' : List AnswerRecord) → log' ≡ map (queueRecord s (mem' .table) h') (finishing h')
-        → Agrees s (stepOf s m k) c h' log'
-    unfolding operation
-    step-agrees log' answers =
-        record {
-          invariant = inv';
-          counts = counts';
-          opened = λ x. opened-kept (isQ n) y h x ∙ ag .opened x;
-          unstarted = unstarted';
-          unfinished = unfinished';
-          few = few';
-          current = current';
-          doing = doing';
-          leaves = leaves';
-          finished = finished';
-          before = λ x z e. before' x z (ag .before x z (sym (before-kept (isQ n) y h x z) ∙ e));
-          answers = answers;
-        }
+  pub finished' : (x : OpId) → isFinished x h' ≡ true → Found s mem' x
+  finished' x e =
+      or-cases (isFinished x h) (isQ n && same x y) (sym (finished-more (isQ n) y h x) ∙ e) (λ a. found-grows x (ag .finished x a))
+      (λ a.
+      let q = and-true (isQ n) (same x y) a in
+      found-grows x (subst (Found s (m .memory)) (sym (same-eq x y (q .1))) (rooted (q .0))))
+
+  before' : (x z : OpId) → Before s (m .memory) x z → Before s mem' x z
+  before' x z b =
+      record {
+        cut = b .cut;
+        within = omega (arith, b .within, last-grows s (m .memory) mem' (inv .sound) (inv' .sound) later);
+        first-process = b .first-process;
+        second-process = b .second-process;
+        first = omega (arith, b .first, reached-stays s (m .memory) mem' (inv .sound) (inv' .sound) later (x .process) (b .first-process) (b .cut) (b .within));
+        second = omega (arith, b .second, reached-stays s (m .memory) mem' (inv .sound) (inv' .sound) later (z .process) (b .second-process) (b .cut) (b .within));
+      }
+
+  -- all but the answers
+  pub step-agrees : (log' : List AnswerRecord) → log' ≡ map (queueRecord s (mem' .table) h') (finishing h')
+      → Agrees s (stepOf s m k) c h' log'
+  unfolding operation
+  step-agrees log' answers =
+      record {
+        invariant = inv';
+        counts = counts';
+        opened = λ x. opened-kept (isQ n) y h x ∙ ag .opened x;
+        unstarted = unstarted';
+        unfinished = unfinished';
+        few = few';
+        current = current';
+        doing = doing';
+        leaves = leaves';
+        finished = finished';
+        before = λ x z e. before' x z (ag .before x z (sym (before-kept (isQ n) y h x z) ∙ e));
+        answers = answers;
+      }

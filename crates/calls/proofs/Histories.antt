@@ -1,6 +1,5 @@
 -- What records and histories say when more follow.
-use Prim.Native.Nat.{ℕ, suc, _+_}
-use native.Mathlib.Omega.{arith}
+use Prim.Native.Nat.{ℕ, _+_}
 use mathlib.Core.Path.{_≡_, refl, ap}
 use mathlib.Core.Bool.{Bool, true, false, _&&_, _||_, or-assoc, or-false, and-false}
 use mathlib.Core.List.{List, [], _∷_, _++_, foldl, foldl-append, append-assoc, append-nil}
@@ -12,6 +11,7 @@ use Rattle.record.specs.StepRecords.{isBegin}
 use Rattle.tree.specs.Shape.{Shape}
 use Rattle.tree.specs.Order.{OpId}
 use Rattle.tree.specs.Standing.{same}
+use Rattle.tree.proofs.Names.{count-append}
 use Rattle.steps.specs.Machine.{start}
 use Rattle.calls.specs.Run.{takeRecord, recordAnswers}
 use Rattle.calls.specs.History.{Event, opens, moves, finishes, machineAfter, begins, event, eventsAfter, history, isOpening, isOwnStep, isFinish, isOpened, isFinished, finishedBefore, ownSteps, does}
@@ -56,13 +56,7 @@ module _ (s : Shape) where
 
 pub begins-append : (k : ℕ) (rs ts : List StepRecord) → begins k (rs ++ ts) ≡ begins k rs + begins k ts
 unfolding begins
-begins-append k [] ts = omega arith
-begins-append k (r ∷ rs) ts = on (isBegin r && eqb (r .process) k) (begins-append k rs ts)
-  where
-    on : (b : Bool) → begins k (rs ++ ts) ≡ begins k rs + begins k ts
-        → (if b then suc (begins k (rs ++ ts)) else begins k (rs ++ ts)) ≡ (if b then suc (begins k rs) else begins k rs) + begins k ts
-    on true ih = omega arith
-    on false ih = omega arith
+begins-append k = count-append (λ r. isBegin r && eqb (r .process) k) (begins k) refl (λ r rs. refl)
 
 -- one record more
 pub begins-snoc : (k : ℕ) (rs : List StepRecord) (r : StepRecord) → begins k (rs ++ (r ∷ [])) ≡ begins k rs + (if isBegin r && eqb (r .process) k then 1 else 0)
@@ -92,13 +86,7 @@ module _ (x : OpId) where
 
   pub ownSteps-append : (h k : List Event) → ownSteps x (h ++ k) ≡ ownSteps x h + ownSteps x k
   unfolding ownSteps
-  ownSteps-append [] k = omega arith
-  ownSteps-append (e ∷ h) k = on (isOwnStep x e) (ownSteps-append h k)
-    where
-      on : (b : Bool) → ownSteps x (h ++ k) ≡ ownSteps x h + ownSteps x k
-          → (if b then suc (ownSteps x (h ++ k)) else ownSteps x (h ++ k)) ≡ (if b then suc (ownSteps x h) else ownSteps x h) + ownSteps x k
-      on true ih = omega arith
-      on false ih = omega arith
+  ownSteps-append = count-append (isOwnStep x) (ownSteps x) refl (λ e h. refl)
 
   pub ownSteps-snoc : (h : List Event) (e : Event) → ownSteps x (h ++ (e ∷ [])) ≡ ownSteps x h + (if isOwnStep x e then 1 else 0)
   unfolding ownSteps

@@ -35,7 +35,7 @@ use Rattle.calls.proofs.Histories.{machine-snoc, history-snoc, answers-
 use Rattle.calls.proofs.Agrees.{Doing, Agrees}
 use Rattle.calls.proofs.AfterBegin.{begin-agrees}
 use Rattle.calls.proofs.StepEvents.{stepEvent}
-use Rattle.calls.proofs.AfterStep.{later}
+use Rattle.calls.proofs.AfterStep.{StepTaken, later}
 use Rattle.calls.proofs.Answered.{step-answers}
 
 -- what is known of the run of a list
@@ -141,6 +141,9 @@ module _ (s : Shape) (tall : 1 ≤ s .height) (rs : List StepRecord) (r : StepRe
     abbrev n : Step
     n = busy .1
 
+    of-step : StepTaken s m (λ j. begins j rs) (history s rs) (answersAlong s rs) k o n
+    of-step = record { agrees = run; tall = tall; low = acc .process-low; busy = busy .2 }
+
     taken-step : takeRecord s m r ≡ stepOf s m k
     unfolding takeRecord
     taken-step = rw z
@@ -165,11 +168,11 @@ module _ (s : Shape) (tall : 1 ≤ s .height) (rs : List StepRecord) (r : StepRe
     after-step =
         recount (sym (machine-snoc s rs r ∙ taken-step)) as-many (sym (history-snoc s rs r ∙ ap (λ (e : Event). history s rs ++ (e ∷ [])) event-step))
         (sym (answers-snoc s rs r ∙ ap (λ (l : List AnswerRecord). answersAlong s rs ++ l) answered))
-        (step-answers run tall k (acc .process-low) o n (busy .2))
+        (step-answers of-step)
 
     later-step : Later s (m .memory) (machineAfter s (rs ++ (r ∷ [])) .memory)
     later-step =
-        subst (λ (x : Machine). Later s (m .memory) (x .memory)) (sym (machine-snoc s rs r ∙ taken-step)) (later run tall k (acc .process-low) o n (busy .2))
+        subst (λ (x : Machine). Later s (m .memory) (x .memory)) (sym (machine-snoc s rs r ∙ taken-step)) (later of-step)
 
   after-record : Run s (rs ++ (r ∷ []))
   after-record = on (isStep r) refl

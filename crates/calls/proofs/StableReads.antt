@@ -30,21 +30,21 @@ use Rattle.steps.specs.declared.Status.the-variants.{Busy}
 use Rattle.steps.specs.declared.Step.the-variants.{C3, Q}
 use Rattle.steps.specs.Machine.{Machine, processOf, isQ}
 use Rattle.steps.proofs.Stages.{stageOf, two}
-use Rattle.steps.proofs.Progress.{Building, Rooted, Way}
+use Rattle.steps.proofs.Progress.{Building, Rooted, Carried}
 use Rattle.steps.proofs.Invariant.{holding}
 use Rattle.calls.specs.Answer.{replyOf}
 use Rattle.calls.specs.Refusals.{accepted}
 use Rattle.calls.specs.Run.{play}
 use Rattle.calls.specs.History.{Event, machineAfter, begins, operation, eventsAfter, history, does}
 use Rattle.calls.specs.StableReads.{EqualSaveSuper, StableReads}
-use Rattle.calls.proofs.Legal.{Legal}
+use Rattle.calls.proofs.Legal.{Legal, answersAlong}
 use Rattle.calls.proofs.Histories.{history-append}
 use Rattle.calls.proofs.Prefixes.{legal-prefix}
 use Rattle.calls.proofs.Leaves.{LeavesAre}
 use Rattle.calls.proofs.Events.{does-kept}
 use Rattle.calls.proofs.RecordsStay.{opened-yes, answer-kept}
 use Rattle.calls.proofs.RootAnswers.{reply-is}
-use Rattle.calls.proofs.AfterStep.{mine, rooted}
+use Rattle.calls.proofs.AfterStep.{StepTaken, mine, rooted}
 use Rattle.calls.proofs.Runs.{Run, runs, later-run}
 use Rattle.calls.proofs.HistoryGrows.{whole-legal, whole-machine}
 
@@ -83,19 +83,22 @@ module _ (s : Shape) (tall : 1 ≤ s .height) (rs ts : List StepRecord) (legal :
       → (w .head - 1 < headOf (m .memory) (w .node)) × (l < headOf (m .memory) (leftOf (w .node))) × (r < headOf (m .memory) (rightOf (w .node)))
   unfolding leftOf rightOf
   read-c3 o w l r at =
-      let way : Building s (m .memory) (holding m) k (processOf m k .begun) w (two l r) =
-      subst (λ (x : Status). Way s (m .memory) (holding m) k (processOf m k .begun) (stageOf x)) at (now .invariant .process k kp .way)
+      let carried : Building s (m .memory) (holding m) k (processOf m k .begun) w (two l r) =
+      subst (λ (x : Status). Carried s (m .memory) (holding m) k (processOf m k .begun) (stageOf x)) at (now .invariant .process k kp .carried)
       in
-      (omega (arith, way .refreshing .first, way .refreshing .last), way .hand .0 .below, way .hand .1 .below)
+      (omega (arith, carried .refreshing .first, carried .refreshing .last), carried .hand .0 .below, carried .hand .1 .below)
 
   -- ---- an operation that stands in the root
   module _ (o : Operation) (at : processOf m k .status ≡ Busy o Q) where
     abbrev x : OpId
     x = record { process = k; serial = begins k rs }
 
+    of-q : StepTaken s m (λ j. begins j rs) (history s rs) (answersAlong s rs) k o Q
+    of-q = record { agrees = now; tall = tall; low = kp; busy = at }
+
     found : Found s (m .memory) x
     unfolding isQ
-    found = rooted now tall k kp o Q at refl
+    found = rooted of-q refl
 
     -- it stands in both, in the same root block
     stands : (mem : Memory) → Sound s mem → Found s mem x → 1 ≤ times x (rootOperations s (mem .table))
@@ -121,7 +124,7 @@ module _ (s : Shape) (tall : 1 ≤ s .height) (rs ts : List StepRecord) (legal :
         on (r .past) (decLt (suc (r .past)) (headOf (m .memory) root)) (r .is) (r .high) (b .past)
       where
         reaches : Rooted s (m .memory) k (processOf m k .begun)
-        reaches = subst (λ (y : Status). Way s (m .memory) (holding m) k (processOf m k .begun) (stageOf y)) at (now .invariant .process k kp .way)
+        reaches = subst (λ (y : Status). Carried s (m .memory) (holding m) k (processOf m k .begun) (stageOf y)) at (now .invariant .process k kp .carried)
 
         on : (past : ℕ) → Dec (suc past < headOf (m .memory) root) → rootBlockOf s (m .memory .table) x ≡ suc past → past < lastRoot s (m .memory .table)
             → reached s (m .memory) k (suc past - 1) < x .serial → rootBlockOf s (m .memory .table) x < headOf (m .memory) root
@@ -146,7 +149,7 @@ module _ (s : Shape) (tall : 1 ≤ s .height) (rs ts : List StepRecord) (legal :
 
     does-now : does x h ≡ o
     unfolding operation
-    does-now = mine now tall k kp o Q at .what
+    does-now = mine of-q .what
 
     does-then : does x (h ++ more) ≡ o
     does-then = does-kept x h more (opened-yes now tall x (found .first) (le-refl _)) ∙ does-now

@@ -13,7 +13,7 @@ use Rattle.record.specs.AnswerRecords.{logBytes}
 use Rattle.tree.specs.declared.Kind.the-variants.{Puts, Takes}
 use Rattle.tree.specs.Shape.{Shape, leafOf, shapeFor}
 use Rattle.tree.specs.Order.{OpId, inRoot}
-use Rattle.tree.specs.Memory.{Memory, headOf}
+use Rattle.tree.specs.Memory.{Memory, headOf, memoryOf}
 use Rattle.calls.specs.Answer.{margin}
 use Rattle.calls.specs.Run.{RunLeaves, play, run}
 use Rattle.calls.specs.All.{rules}
@@ -126,7 +126,7 @@ found s m (leafHead k h) = leafHead k (headOf m (leafOf s k))
 -- the memory after a row's records: the table that Run leaves, and the heads
 unfoldable pub memoryAfter : Row → RunLeaves → Memory
 memoryAfter r e =
-    record { table = e .table; heads = play (shapeFor (r .p) (r .most)) (r .room) (stepRecords (r .records)) .machine .memory .heads }
+    memoryOf (e .table) (play (shapeFor (r .p) (r .most)) (r .room) (stepRecords (r .records)) .machine .memory .heads)
 
 -- a row with what the definitions give in the place of what it says
 unfoldable pub recomputed : Row → Row

@@ -19,25 +19,25 @@ abbrev pub logWith : ℕ → List ℕ
 logWith b = bytes 0 3 15 0 1 b
 
 -- what is judged: a verdict v with index i on a log of that take, with a table of 42 words
-abbrev pub Told : List ℕ → ℕ → ℕ → Type 0
-Told log v i = Judges 2 1 42 takeAlone log v i
+abbrev pub VerdictTells : List ℕ → ℕ → ℕ → Type 0
+VerdictTells log v i = Judges 2 1 42 takeAlone log v i
 
 -- the log of the rules: 'same'
-pub onItsLog : (v i : ℕ) → Told (logWith 1) v i → v ≡ 0
+pub onItsLog : (v i : ℕ) → VerdictTells (logWith 1) v i → v ≡ 0
 unfolding rules beginTake steps
 onItsLog v i j = j .same .1 (record { call = refl; list = refl }, refl)
 
 -- a byte unequal: 'differs' at 0
-pub onAnotherByte : (v i : ℕ) → Told (logWith 2) v i → (v ≡ 1) × (i ≡ 0)
+pub onAnotherByte : (v i : ℕ) → VerdictTells (logWith 2) v i → (v ≡ 1) × (i ≡ 0)
 unfolding rules beginTake steps
 onAnotherByte v i j = j .differs 0 .1 (record { call = refl; list = refl }, record { before = refl; here = λ e. omega (arith, ap (λ (l : List ℕ). getD l 12 0) e) })
 
 -- no record, and one too many: 'differs' at the record that is lacking in one
-pub onShorter : (v i : ℕ) → Told [] v i → (v ≡ 1) × (i ≡ 0)
+pub onShorter : (v i : ℕ) → VerdictTells [] v i → (v ≡ 1) × (i ≡ 0)
 unfolding rules beginTake steps
 onShorter v i j = j .differs 0 .1 (record { call = refl; list = refl }, record { before = refl; here = λ e. omega (arith, ap (λ (l : List ℕ). length l) e) })
 
-pub onLonger : (v i : ℕ) → Told (logWith 1 ++ logWith 1) v i → (v ≡ 1) × (i ≡ 1)
+pub onLonger : (v i : ℕ) → VerdictTells (logWith 1 ++ logWith 1) v i → (v ≡ 1) × (i ≡ 1)
 unfolding rules beginTake steps
 onLonger v i j = j .differs 1 .1 (record { call = refl; list = refl }, record { before = refl; here = λ e. omega (arith, ap (λ (l : List ℕ). length l) e) })
 
@@ -45,7 +45,7 @@ onLonger v i j = j .differs 1 .1 (record { call = refl; list = refl }, record { 
 abbrev pub Neither : ℕ → Type 0
 Neither v = (v ≡ 0 → ⊥) × (v ≡ 1 → ⊥)
 
-pub onTornLog : (v i : ℕ) → Told (take 15 (logWith 1)) v i → Neither v
+pub onTornLog : (v i : ℕ) → VerdictTells (take 15 (logWith 1)) v i → Neither v
 unfolding rules beginTake steps
 onTornLog v i j = (λ e. omega (arith, j .same .0 e .0 .call), λ e. omega (arith, j .differs i .0 (e, refl) .0 .call))
 

@@ -20,7 +20,7 @@ use Rattle.steps.specs.Process.{idle}
 use Rattle.steps.specs.Rules.{step, go}
 use Rattle.tree.specs.Contracts.Access.{Begins}
 use Rattle.steps.specs.Contracts.Ready.{Ready}
-use Rattle.steps.specs.Contracts.Next.{Placed, Fits, FitsLeaf, operationIn, stepIn, rested, moved, Moves}
+use Rattle.steps.specs.Contracts.Next.{PartsBegin, Fits, FitsLeaf, operationIn, stepIn, rested, moved, Moves}
 use Rattle.tree.proofs.NodeReads.{begins}
 use Rattle.steps.specs.Machine.{isIdle, isQ}
 use Rattle.calls.specs.declared.Refusal.the-variants.{StepWhileIdle, AnswersFull}
@@ -85,7 +85,7 @@ module _ {c : Call} {t : State} {i first j : ℕ} (w : StepAt c t i first j) whe
   step-idle e = loop-refused (w .inv) (w .more) (stepOf first) step-is StepWhileIdle (gives-idle c t (stepOf first) q step-plays well refl (ap isIdle e))
 
   -- a step that is ready looks at nodes of the tree
-  placed : (y : Step) → Ready (c .starts) (t .heads) (t .table) (c .p + first) y → Placed s (c .starts) y
+  placed : (y : Step) → Ready (c .starts) (t .heads) (t .table) (c .p + first) y → PartsBegin s (c .starts) y
   placed A r = tt
   placed (V1 a w v h) r = tt
   placed (V2 a w v h x) r = step-begins v (r .0)
@@ -118,7 +118,7 @@ module _ {c : Call} {t : State} {i first j : ℕ} (w : StepAt c t i first j) whe
         (plays-ready s (processesOf c t) (c .starts) (t .heads) (t .table) first q step-plays (operationIn (q .status)) y (step-busy refl (sym is)) goes)
 
     pub step-fits : {y : Step} → stepIn (q .status) ≡ y → isQ y ≡ false → Fits (c .starts) y
-    step-fits {y} is goes = record { shape = s; placed = placed y (step-ready is goes) }
+    step-fits {y} is goes = record { shape = s; begins = placed y (step-ready is goes) }
 
     -- the process has become r by the rules, and memory n is left
     abbrev pub StepsTo : Memory → Process → Type 0
@@ -127,7 +127,7 @@ module _ {c : Call} {t : State} {i first j : ℕ} (w : StepAt c t i first j) whe
         × (step s first (operationIn (q .status)) (memoryAt t) (stepIn (q .status)) ≡ go s first (operationIn (q .status)) (memoryAt t) n (stepIn (r .status)))
 
     pub step-moves : {y : Step} → x ≡ y → isQ y ≡ false → (table heads : List ℕ) (r : Process) → length heads ≡ length (t .heads) → length table ≡ length (t .table)
-        → (stepIn (q .status) ≡ y → Ready (c .starts) (t .heads) (t .table) (c .p + first) y → Placed s (c .starts) (stepIn (q .status))
+        → (stepIn (q .status) ≡ y → Ready (c .starts) (t .heads) (t .table) (c .p + first) y → PartsBegin s (c .starts) (stepIn (q .status))
         → StepsTo (memoryOf table heads) r)
         → LoopInvariant c (afterMove t j r (memoryOf table heads)) (i + 1)
     unfolding isStep
@@ -135,7 +135,7 @@ module _ {c : Call} {t : State} {i first j : ℕ} (w : StepAt c t i first j) whe
         let n = memoryOf table heads in
         let told : stepIn (q .status) ≡ y = ap stepIn busy ∙ is in
         let ready = step-ready told goes in
-        let e = by-rules told ready (subst (Placed s (c .starts)) (sym told) (placed y ready)) in
+        let e = by-rules told ready (subst (PartsBegin s (c .starts)) (sym told) (placed y ready)) in
         let q' : Process = moved q (operationIn (q .status)) (stepIn (r .status)) in
         let given =
         gives-step c t (stepOf first) q step-plays well refl (operationIn (q .status)) (stepIn (q .status)) (step-busy refl refl) (ap isQ told ∙ goes)

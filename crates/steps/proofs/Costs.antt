@@ -21,6 +21,7 @@ use Rattle.steps.specs.declared.Step.the-variants.{A, V1, V2, V3, R1, R2
 use Rattle.steps.specs.declared.Status.{Status}
 use Rattle.steps.specs.declared.Status.the-variants.{Idle, Busy}
 use Rattle.steps.specs.Rules.{above, resume, advance, afterRefresh, help, built, sameTotals, go, step}
+use Rattle.steps.proofs.Stages.{Stage, resting, adding, advancing, starting, building, answering, stage}
 
 -- ---- the costs
 
@@ -141,21 +142,16 @@ AfterNodes s Ends v = Inner s v
 AfterNodes s Again v = Inner s v
 AfterNodes s Up v = Node s v
 
+abbrev pub StageNodes : Shape → Stage → Type 0
+StageNodes s resting = Unit {0}
+StageNodes s adding = Unit {0}
+StageNodes s (advancing w a v h) = AfterNodes s a (w .node)
+StageNodes s (starting v q) = Inner s v
+StageNodes s (building w x) = Inner s (w .node)
+StageNodes s answering = Unit {0}
+
 abbrev pub StepNodes : Shape → Step → Type 0
-StepNodes s A = Unit {0}
-StepNodes s (V1 a w v h) = AfterNodes s a (w .node)
-StepNodes s (V2 a w v h x) = AfterNodes s a (w .node)
-StepNodes s (V3 a w v h) = AfterNodes s a (w .node)
-StepNodes s (R1 q v) = Inner s v
-StepNodes s (R2 w) = Inner s (w .node)
-StepNodes s (R3 w c) = Inner s (w .node)
-StepNodes s (R4 w) = Inner s (w .node)
-StepNodes s (R5 w c) = Inner s (w .node)
-StepNodes s (C1 w) = Inner s (w .node)
-StepNodes s (C2 w l) = Inner s (w .node)
-StepNodes s (C3 w l r) = Inner s (w .node)
-StepNodes s (C4 w n) = Inner s (w .node)
-StepNodes s Q = Unit {0}
+StepNodes s n = StageNodes s (stage n)
 
 -- ---- each step lowers the bound
 module _ (s : Shape) where

@@ -27,9 +27,9 @@ use Rattle.steps.specs.declared.Visit.{Visit}
 use Rattle.steps.specs.declared.After.{After}
 use Rattle.steps.specs.declared.Built.{Built}
 use Rattle.steps.specs.Rules.{plusOperation, joined, built, blockOf}
-use Rattle.steps.proofs.Stages.{Hand, none, one, two, made, Stage, adding, advancing, building, HasEnd, Holds, none-empty, above-empty, after-empty}
+use Rattle.steps.proofs.Stages.{Hand, none, one, two, made, Stage, adding, advancing, building, HasEnd, Holds, above-empty, after-empty}
 use Rattle.steps.proofs.Turns.{Turn, rests, adds, supers, raises, starts, helps, endsLeft, endsRight, makes, finds, writes, meets, finishes}
-use Rattle.steps.proofs.Progress.{LeafOpen, OwnLeaf, Building, Way}
+use Rattle.steps.proofs.Progress.{LeafOpen, OwnLeaf, Building, Carried}
 use Rattle.steps.proofs.Others.{LeafWrote, InnerWrote, Effect}
 
 -- a block that has been given its super is the same but for it
@@ -246,7 +246,7 @@ module _ (s : Shape) (k : ℕ) (o : Operation) (m : Memory) where
       gains-right w l r f onLeft u h e q = inl q
       gains-right w l r f onRight u h e q = inr (rw (← q .0) (sym (q .2) ∙ f))
 
-      pub effect : {x : Stage} {n : Memory} {y : Stage} → Turn s k o m x n y → OwnLeaf s m k b x → Way s m hold k b x → Effect s k o m x n y
+      pub effect : {x : Stage} {n : Memory} {y : Stage} → Turn s k o m x n y → OwnLeaf s m k b x → Carried s m hold k b x → Effect s k o m x n y
       effect (rests x) own p = still (λ d u h e q. inl q)
       effect adds own p =
           writing sized adding _ leaf (headOf m leaf) (plusOperation o last) (leaf-node s k kp) (headOf m leaf - 1) (omega (arith, own .some, own .head))
@@ -254,7 +254,7 @@ module _ (s : Shape) (k : ℕ) (o : Operation) (m : Memory) where
           (λ r e. (leaf-eq s r k (sym e), refl, omega (arith, own .some, own .head), refl)) (λ d u h e q. q)
       effect (supers w a v h z) own p = setting sized w a v h z (p .node) (p .present)
       effect (raises w a v h) own p = raising w a v h (p .present) (λ d u g e q. after-empty a w d u g e q)
-      effect (starts v q) own p = still (λ d u h e z. absurd (none-empty d e (z .2)))
+      effect (starts v q) own p = still (λ d u h e z. absurd (z .2))
       effect (helps w d c f) own p = still (λ d' u h e q. absurd q)
       effect (endsLeft w l f) own p = still (gains-left w l f)
       effect (endsRight w l r f) own p = still (gains-right w l r f)

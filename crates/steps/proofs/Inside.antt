@@ -1,7 +1,7 @@
 -- A step stays inside its operation, and Q alone ends it and changes no memory.
 use Prim.Native.Nat.{ℕ}
-use native.Mathlib.Omega.{arith}
-use mathlib.Core.Path.{_≡_, refl}
+use mathlib.Core.Path.{_≡_, refl, ap, sym, _∙_}
+use mathlib.Core.Logic.{_⊎_, inl, inr}
 use mathlib.Core.Bool.{true, false, true≢false, false≢true}
 use Rattle.tree.specs.Shape.{Shape}
 use Rattle.tree.specs.Memory.{Memory}
@@ -12,61 +12,58 @@ use Rattle.steps.specs.declared.Status.the-variants.{Busy}
 use Rattle.steps.specs.Rules.{go, step}
 use Rattle.steps.specs.Machine.{isIdle, isQ}
 
+-- a step that is not Q leads to a step of the same operation
+abbrev Goes : Step → Type 0
+Goes n = (isQ n ≡ false) × ((s : Shape) (k : ℕ) (o : Operation) (m : Memory) → (n' : Step) × (step s k o m n .next ≡ Busy o n'))
+
+goes : (n : Step) → (n ≡ Q) ⊎ Goes n
+unfolding step go isQ
+goes A = inr (refl, λ s k o m. (_, refl))
+goes (V1 a w v h) = inr (refl, λ s k o m. (_, refl))
+goes (V2 a w v h x) = inr (refl, λ s k o m. (_, refl))
+goes (V3 a w v h) = inr (refl, λ s k o m. (_, refl))
+goes (R1 q v) = inr (refl, λ s k o m. (_, refl))
+goes (R2 w) = inr (refl, λ s k o m. (_, refl))
+goes (R3 w c) = inr (refl, λ s k o m. (_, refl))
+goes (R4 w) = inr (refl, λ s k o m. (_, refl))
+goes (R5 w c) = inr (refl, λ s k o m. (_, refl))
+goes (C1 w) = inr (refl, λ s k o m. (_, refl))
+goes (C2 w l) = inr (refl, λ s k o m. (_, refl))
+goes (C3 w l r) = inr (refl, λ s k o m. (_, refl))
+goes (C4 w n) = inr (refl, λ s k o m. (_, refl))
+goes Q = inl refl
+
 -- the step is Q
 pub is-q : (n : Step) → isQ n ≡ true → n ≡ Q
-unfolding isQ
-is-q A e = absurd (false≢true e)
-is-q (V1 a w v h) e = absurd (false≢true e)
-is-q (V2 a w v h x) e = absurd (false≢true e)
-is-q (V3 a w v h) e = absurd (false≢true e)
-is-q (R1 q v) e = absurd (false≢true e)
-is-q (R2 w) e = absurd (false≢true e)
-is-q (R3 w c) e = absurd (false≢true e)
-is-q (R4 w) e = absurd (false≢true e)
-is-q (R5 w c) e = absurd (false≢true e)
-is-q (C1 w) e = absurd (false≢true e)
-is-q (C2 w l) e = absurd (false≢true e)
-is-q (C3 w l r) e = absurd (false≢true e)
-is-q (C4 w n) e = absurd (false≢true e)
-is-q Q e = refl
+is-q n e = on (goes n)
+  where
+    on : (n ≡ Q) ⊎ Goes n → n ≡ Q
+    on (inl q) = q
+    on (inr g) = absurd (false≢true (sym (g .0) ∙ e))
 
 module _ (s : Shape) (k : ℕ) (o : Operation) (m : Memory) where
-  -- after a step that leaves the process busy it is inside the same operation, and the step was not Q
-  pub next-busy : (n : Step) (o' : Operation) (n' : Step) → step s k o m n .next ≡ Busy o' n' → (isQ n ≡ false) × (o ≡ o')
-  unfolding step go isQ
-  next-busy A o' n' e = (refl, cc)
-  next-busy (V1 a w v h) o' n' e = (refl, cc)
-  next-busy (V2 a w v h x) o' n' e = (refl, cc)
-  next-busy (V3 a w v h) o' n' e = (refl, cc)
-  next-busy (R1 q v) o' n' e = (refl, cc)
-  next-busy (R2 w) o' n' e = (refl, cc)
-  next-busy (R3 w c) o' n' e = (refl, cc)
-  next-busy (R4 w) o' n' e = (refl, cc)
-  next-busy (R5 w c) o' n' e = (refl, cc)
-  next-busy (C1 w) o' n' e = (refl, cc)
-  next-busy (C2 w l) o' n' e = (refl, cc)
-  next-busy (C3 w l r) o' n' e = (refl, cc)
-  next-busy (C4 w n) o' n' e = (refl, cc)
-  next-busy Q o' n' e = let z : _≡_ {A = ℕ} 0 1 = cc in absurd (omega arith)
-
-  -- any other step leaves the process busy
-  pub still-busy : (n : Step) → isQ n ≡ false → isIdle (step s k o m n .next) ≡ false
-  unfolding step go isQ isIdle
-  still-busy A e = refl
-  still-busy (V1 a w v h) e = refl
-  still-busy (V2 a w v h x) e = refl
-  still-busy (V3 a w v h) e = refl
-  still-busy (R1 q v) e = refl
-  still-busy (R2 w) e = refl
-  still-busy (R3 w c) e = refl
-  still-busy (R4 w) e = refl
-  still-busy (R5 w c) e = refl
-  still-busy (C1 w) e = refl
-  still-busy (C2 w l) e = refl
-  still-busy (C3 w l r) e = refl
-  still-busy (C4 w n) e = refl
-  still-busy Q e = absurd (true≢false e)
-
   pub q-memory : step s k o m Q .memory ≡ m
   unfolding step
   q-memory = refl
+
+  q-idle : isIdle (step s k o m Q .next) ≡ true
+  unfolding step isIdle
+  q-idle = refl
+
+  -- after a step that leaves the process busy it is inside the same operation, and the step was not Q
+  pub next-busy : (n : Step) (o' : Operation) (n' : Step) → step s k o m n .next ≡ Busy o' n' → (isQ n ≡ false) × (o ≡ o')
+  unfolding isIdle
+  next-busy n o' n' e = on (goes n)
+    where
+      on : (n ≡ Q) ⊎ Goes n → (isQ n ≡ false) × (o ≡ o')
+      on (inl q) = absurd (false≢true (sym (ap isIdle e) ∙ ap (λ (x : Step). isIdle (step s k o m x .next)) q ∙ q-idle))
+      on (inr g) = let f = g .1 s k o m .1 in (g .0, cc)
+
+  -- any other step leaves the process busy
+  pub still-busy : (n : Step) → isQ n ≡ false → isIdle (step s k o m n .next) ≡ false
+  unfolding isIdle isQ
+  still-busy n e = on (goes n)
+    where
+      on : (n ≡ Q) ⊎ Goes n → isIdle (step s k o m n .next) ≡ false
+      on (inl q) = absurd (true≢false (sym (ap isQ q) ∙ e))
+      on (inr g) = ap isIdle (g .1 s k o m .1)

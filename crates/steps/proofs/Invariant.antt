@@ -14,20 +14,20 @@ use Rattle.steps.specs.declared.Visit.{Visit}
 use Rattle.steps.specs.declared.After.{After}
 use Rattle.steps.specs.declared.After.the-variants.{Right, Ends, Again, Up}
 use Rattle.steps.specs.declared.Step.{Step}
-use Rattle.steps.specs.declared.Step.the-variants.{A, V1, V2, V3, R1, R2, R3, R4, R5, C1, C2, C3, C4, Q}
+use Rattle.steps.specs.declared.Step.the-variants.{A}
 use Rattle.steps.specs.declared.Process.{Process}
 use Rattle.steps.specs.Machine.{Machine, processOf}
 use Rattle.steps.proofs.Stages.{Stage, resting, adding, advancing, starting, building, answering, stage, stageOf, Holds}
 use Rattle.steps.proofs.Turns.{Turn, rests, adds, supers, raises, starts, helps, endsLeft, endsRight, makes, finds, writes, meets, finishes}
-use Rattle.steps.proofs.Progress.{OwnLeaf, Refreshing, AfterAdvance, Way}
+use Rattle.steps.proofs.Progress.{OwnLeaf, Refreshing, AfterAdvance, Carried}
 use Rattle.steps.proofs.Others.{Registers, hand-below}
-use Rattle.steps.proofs.Costs.{AfterNodes, StepNodes, rest, restOf}
+use Rattle.steps.proofs.Costs.{AfterNodes, StageNodes, StepNodes, rest, restOf}
 
 -- what is known of process k
 pub record ProcessSound (s : Shape) (m : Memory) (hold : ℕ → Stage) (k : ℕ) (p : Process) : Type 0 where
   pub within : p .begun ≤ s .most
   pub leaf : OwnLeaf s m k (p .begun) (stageOf (p .status))
-  pub way : Way s m hold k (p .begun) (stageOf (p .status))
+  pub carried : Carried s m hold k (p .begun) (stageOf (p .status))
   pub bounded : p .steps + restOf s (p .status) ≤ rest s A
 
 -- the stages of the processes
@@ -41,21 +41,21 @@ pub record Invariant (s : Shape) (m : Machine) : Type 0 where
   pub process : (k : ℕ) → k < processes s → ProcessSound s (m .memory) (holding m) k (processOf m k)
 
 -- ---- what the invariant says of registers
-way-ends : (s : Shape) (m : Memory) (hold : ℕ → Stage) (k b : ℕ) (x : Stage) → Way s m hold k b x → (d : Side) (u h e : ℕ) → Holds d x u h e
+carried-ends : (s : Shape) (m : Memory) (hold : ℕ → Stage) (k b : ℕ) (x : Stage) → Carried s m hold k b x → (d : Side) (u h e : ℕ) → Holds d x u h e
     → (e < headOf m (childOf d u)) × (h ≤ headOf m u)
-way-ends s m hold k b resting p d u h e q = absurd q
-way-ends s m hold k b adding p d u h e q = absurd q
-way-ends s m hold k b (advancing w a v i) p d u h e q = absurd q
-way-ends s m hold k b (starting v z) p d u h e q = absurd q
-way-ends s m hold k b (building w x) p d u h e q =
+carried-ends s m hold k b resting p d u h e q = absurd q
+carried-ends s m hold k b adding p d u h e q = absurd q
+carried-ends s m hold k b (advancing w a v i) p d u h e q = absurd q
+carried-ends s m hold k b (starting v z) p d u h e q = absurd q
+carried-ends s m hold k b (building w x) p d u h e q =
     (rw (q .0) at (hand-below s m w d e x (p .hand) (q .2)), rw (q .0, q .1) at (p .refreshing .last))
-way-ends s m hold k b answering p d u h e q = absurd q
+carried-ends s m hold k b answering p d u h e q = absurd q
 
 pub registers : (s : Shape) (m : Machine) → Invariant s m → Registers s (m .memory) (holding m)
 registers s m inv =
     record {
-      ends = λ r rp d u h e q. way-ends s (m .memory) (holding m) r _ (holding m r) (inv .process r rp .way) d u h e q .0;
-      heads = λ r rp d u h e q. way-ends s (m .memory) (holding m) r _ (holding m r) (inv .process r rp .way) d u h e q .1;
+      ends = λ r rp d u h e q. carried-ends s (m .memory) (holding m) r _ (holding m r) (inv .process r rp .carried) d u h e q .0;
+      heads = λ r rp d u h e q. carried-ends s (m .memory) (holding m) r _ (holding m r) (inv .process r rp .carried) d u h e q .1;
     }
 
 -- the nodes in the registers are the tree's
@@ -69,23 +69,18 @@ module _ (s : Shape) (m : Memory) (hold : ℕ → Stage) (k : ℕ) (kp : k < pro
   after-nodes w Again v h p = rw (p .node) (ancestor-inner s k kp (p .level) (p .low))
   after-nodes w Up v h p = rw (p .node) (ancestor-node s k kp (p .level) (p .low))
 
-  pub step-nodes : (n : Step) → Way s m hold k b (stage n) → StepNodes s n
-  step-nodes A p = tt
-  step-nodes (V1 a w v h) p = after-nodes w a v h (p .then)
-  step-nodes (V2 a w v h x) p = after-nodes w a v h (p .then)
-  step-nodes (V3 a w v h) p = after-nodes w a v h (p .then)
-  step-nodes (R1 q v) p = rw (p .node) (ancestor-inner s k kp (p .level) (p .low))
-  step-nodes (R2 w) p = refresh-inner s m hold k kp b w (p .refreshing)
-  step-nodes (R3 w c) p = refresh-inner s m hold k kp b w (p .refreshing)
-  step-nodes (R4 w) p = refresh-inner s m hold k kp b w (p .refreshing)
-  step-nodes (R5 w c) p = refresh-inner s m hold k kp b w (p .refreshing)
-  step-nodes (C1 w) p = refresh-inner s m hold k kp b w (p .refreshing)
-  step-nodes (C2 w l) p = refresh-inner s m hold k kp b w (p .refreshing)
-  step-nodes (C3 w l r) p = refresh-inner s m hold k kp b w (p .refreshing)
-  step-nodes (C4 w c) p = refresh-inner s m hold k kp b w (p .refreshing)
-  step-nodes Q p = tt
+  stage-nodes : (x : Stage) → Carried s m hold k b x → StageNodes s x
+  stage-nodes resting p = tt
+  stage-nodes adding p = tt
+  stage-nodes (advancing w a v h) p = after-nodes w a v h (p .then)
+  stage-nodes (starting v q) p = rw (p .node) (ancestor-inner s k kp (p .level) (p .low))
+  stage-nodes (building w x) p = refresh-inner s m hold k kp b w (p .refreshing)
+  stage-nodes answering p = tt
 
-  pub turn-sized : {o : Operation} {x : Stage} {n : Memory} {y : Stage} → Turn s k o m x n y → Way s m hold k b x → Sized s m → Sized s n
+  pub step-nodes : (n : Step) → Carried s m hold k b (stage n) → StepNodes s n
+  step-nodes n p = stage-nodes (stage n) p
+
+  pub turn-sized : {o : Operation} {x : Stage} {n : Memory} {y : Stage} → Turn s k o m x n y → Carried s m hold k b x → Sized s m → Sized s n
   unfolding Rattle.tree.specs.Memory.setSuper
   turn-sized (rests x) p sz = sz
   turn-sized adds p sz = write-sized s m _ _ _ sz (leaf-node s k kp)

@@ -22,11 +22,11 @@ use Rattle.steps.specs.Rules.{Stepped, step}
 use Rattle.steps.specs.Machine.{Machine, start, processOf, withProcess, begin, stepFrom, stepOf}
 use Rattle.steps.proofs.Stages.{Stage, stage, stageOf}
 use Rattle.steps.proofs.Turns.{turn}
-use Rattle.steps.proofs.Progress.{LeafDone, LeafOpen, OwnLeaf, Way}
-use Rattle.steps.proofs.Others.{Effect, way-stable}
+use Rattle.steps.proofs.Progress.{LeafDone, LeafOpen, OwnLeaf, Carried}
+use Rattle.steps.proofs.Others.{Effect, carried-stable}
 use Rattle.steps.proofs.Effects.{still, effect}
 use Rattle.steps.proofs.Leaf.{own-stable, own-turn}
-use Rattle.steps.proofs.WayTurn.{way-turn}
+use Rattle.steps.proofs.CarriedTurn.{carried-turn}
 use Rattle.steps.proofs.Costs.{rest, restOf, rest-step}
 use Rattle.steps.proofs.Invariant.{ProcessSound, holding, Invariant, registers, step-nodes, turn-sized}
 
@@ -62,7 +62,7 @@ module _ (s : Shape) (m : Machine) (inv : Invariant s m) (k : ℕ) (kp : k < pro
         record {
           within = q .within;
           leaf = own-stable eff j jp (processOf m j .begun) (λ e. absurd (ne e)) (holding m j) (q .leaf);
-          way = way-stable s (m .memory) n (inv .sound) (holding m) (holding after) k kp o eff' others (registers s m inv) j jp (processOf m j .begun) (holding m j) (q .way);
+          carried = carried-stable s (m .memory) n (inv .sound) (holding m) (holding after) k kp o eff' others (registers s m inv) j jp (processOf m j .begun) (holding m j) (q .carried);
           bounded = q .bounded;
         }
 
@@ -103,7 +103,7 @@ module _ (s : Shape) (m : Machine) (inv : Invariant s m) (k : ℕ) (kp : k < pro
         (record {
           within = omega arith;
           leaf = leaf-open (subst (λ (x : Status). OwnLeaf s (m .memory) k (processOf m k .begun) (stageOf x)) rests (inv .process k kp .leaf));
-          way = tt;
+          carried = tt;
           bounded = omega arith;
         })
 
@@ -126,11 +126,11 @@ module _ (s : Shape) (tall : 1 ≤ s .height) (m : Machine) (inv : Invariant s m
     own : OwnLeaf s (m .memory) k (p .begun) (stage n)
     own = subst (OwnLeaf s (m .memory) k (p .begun)) at (inv .process k kp .leaf)
 
-    way : Way s (m .memory) (holding m) k (p .begun) (stage n)
-    way = subst (Way s (m .memory) (holding m) k (p .begun)) at (inv .process k kp .way)
+    carried : Carried s (m .memory) (holding m) k (p .begun) (stage n)
+    carried = subst (Carried s (m .memory) (holding m) k (p .begun)) at (inv .process k kp .carried)
 
     eff : Effect s k o (m .memory) (stage n) (r .memory) (stageOf (r .next))
-    eff = effect s k o (m .memory) (inv .sized) (inv .sound) kp (p .begun) (inv .process k kp .within) (holding m) (turn s k o (m .memory) n) own way
+    eff = effect s k o (m .memory) (inv .sized) (inv .sound) kp (p .begun) (inv .process k kp .within) (holding m) (turn s k o (m .memory) n) own carried
 
     pub step-effect : Effect s k o (m .memory) (holding m k) (r .memory) (stageOf (r .next))
     step-effect = subst (λ (x : Stage). Effect s k o (m .memory) x (r .memory) (stageOf (r .next))) (sym at) eff
@@ -139,24 +139,28 @@ module _ (s : Shape) (tall : 1 ≤ s .height) (m : Machine) (inv : Invariant s m
     own-sound =
         record {
           within = inv .process k kp .within;
-          leaf = own-turn s k kp o (m .memory) (inv .sized) (inv .sound) (holding m) (p .begun) (turn s k o (m .memory) n) eff own way;
-          way =
-              way-turn s (m .memory) (inv .sized) (inv .sound) (holding m) (holding (withProcess m k next (r .memory))) k kp o
+          leaf = own-turn s k kp o (m .memory) (inv .sized) (inv .sound) (holding m) (p .begun) (turn s k o (m .memory) n) eff own carried;
+          carried =
+              carried-turn s (m .memory) (inv .sized) (inv .sound) (holding m) (holding (withProcess m k next (r .memory))) k kp o
               (others s m inv k kp next (r .memory) o step-effect) (registers s m inv) (p .begun) (inv .process k kp .within) (turn s k o (m .memory) n) at
-              (here s m inv k kp next (r .memory) o step-effect) (eff' s m inv k kp next (r .memory) o step-effect) own way;
+              (here s m inv k kp next (r .memory) o step-effect) (eff' s m inv k kp next (r .memory) o step-effect) own carried;
           bounded =
               omega (
                 arith,
                 subst (λ (x : Status). p .steps + restOf s x ≤ rest s A) busy (inv .process k kp .bounded),
-                rest-step s tall k kp o (m .memory) n (step-nodes s (m .memory) (holding m) k kp (p .begun) n way),
+                rest-step s tall k kp o (m .memory) n (step-nodes s (m .memory) (holding m) k kp (p .begun) n carried),
               );
         }
+
+    -- the operation has not taken all the own steps that it may take
+    pub steps-left : p .steps < rest s A
+    steps-left = omega (arith, own-sound .bounded)
 
     stepped : Invariant s (stepFrom s m k (Busy o n))
     unfolding stepFrom
     stepped =
         keeps s m inv k kp next (r .memory) o step-effect
-        (turn-sized s (m .memory) (holding m) k kp (p .begun) (turn s k o (m .memory) n) way (inv .sized)) own-sound
+        (turn-sized s (m .memory) (holding m) k kp (p .begun) (turn s k o (m .memory) n) carried (inv .sized)) own-sound
 
     pub step-keeps : Invariant s (stepOf s m k)
     unfolding stepOf
@@ -189,7 +193,7 @@ module _ (s : Shape) where
       record {
         within = omega arith;
         leaf = record { ends = λ i l. cleared-count s (leafOf s k) i; head = cleared-head s (leafOf s k) };
-        way = tt;
+        carried = tt;
         bounded = omega arith;
       }
 

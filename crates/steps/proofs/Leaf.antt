@@ -20,7 +20,7 @@ use Rattle.steps.specs.declared.Step.{Step}
 use Rattle.steps.specs.Rules.{above, resume}
 use Rattle.steps.proofs.Stages.{stage, aboveStage, Hand, made, Stage, resting, adding, advancing, starting, building, answering, afterStage}
 use Rattle.steps.proofs.Turns.{Turn, rests, adds, supers, raises, starts, helps, endsLeft, endsRight, makes, finds, writes, meets, finishes}
-use Rattle.steps.proofs.Progress.{LeafEnds, LeafDone, LeafOpen, LeafMoving, OwnLeaf, Way}
+use Rattle.steps.proofs.Progress.{LeafEnds, LeafDone, LeafOpen, LeafMoving, OwnLeaf, Carried}
 use Rattle.steps.proofs.Others.{LeafWrote, Effect}
 
 -- a leaf has no block past the operations begun
@@ -140,7 +140,7 @@ module _ (s : Shape) (k : ℕ) (kp : k < processes s) (o : Operation) (m : Memor
           at (inl e) = e
           at (inr e) = absurd (omega (arith, subst (λ (u : ℕ). h < headOf (raise m v h) u) (e .0) past, e .1, e .2))
 
-  pub own-turn : {x : Stage} {n : Memory} {y : Stage} → Turn s k o m x n y → Effect s k o m x n y → OwnLeaf s m k b x → Way s m hold k b x → OwnLeaf s n k b y
+  pub own-turn : {x : Stage} {n : Memory} {y : Stage} → Turn s k o m x n y → Effect s k o m x n y → OwnLeaf s m k b x → Carried s m hold k b x → OwnLeaf s n k b y
   unfolding write headOf
   own-turn (rests x) eff d p = d
   own-turn adds eff d p = added eff d refl

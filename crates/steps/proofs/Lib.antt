@@ -1,4 +1,4 @@
-pub mod Told
+pub mod StepNames
 pub mod Stages
 pub mod Turns
 pub mod Progress
@@ -8,7 +8,7 @@ pub mod Effects
 pub mod Costs
 pub mod Leaf
 pub mod OwnTurn
-pub mod WayTurn
+pub mod CarriedTurn
 pub mod Invariant
 pub mod Keeps
 pub mod Inside

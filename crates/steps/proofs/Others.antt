@@ -21,7 +21,7 @@ use Rattle.steps.specs.declared.After.{After}
 use Rattle.steps.specs.declared.After.the-variants.{Right, Ends, Again, Up}
 use Rattle.steps.specs.Rules.{blockOf, plusOperation}
 use Rattle.steps.proofs.Stages.{Hand, none, one, two, made, Stage, resting, adding, advancing, starting, building, answering, HasEnd, Holds}
-use Rattle.steps.proofs.Progress.{Covered, Owed, Refreshing, Starting, AfterAdvance, EndOk, HandOk, Building, Rooted, Way}
+use Rattle.steps.proofs.Progress.{Covered, Owed, Refreshing, Starting, AfterAdvance, EndOk, HandOk, Building, Rooted, Carried}
 
 -- a block in the leaf of process r after a turn of process a, in stage x: it was there, or a has just added it
 abbrev pub LeafWrote : Shape → ℕ → Operation → Memory → Stage → Memory → ℕ → ℕ → Type 0
@@ -207,10 +207,10 @@ module _ (s : Shape) (m n : Memory) (sound : Sound s m) (hold hold' : ℕ → St
     unfolding root
     rooted-stable c = rw (ancestor-root s k kp) at (covered-stable (s .height) (le-refl _) (rw (ancestor-root s k kp) c))
 
-    pub way-stable : (x : Stage) → Way s m hold k b x → Way s n hold' k b x
-    way-stable resting p = tt
-    way-stable adding p = tt
-    way-stable (advancing w x v h) p = record { node = p .node; present = present-stays g v h (p .node) (p .present); then = after-stable w x v h (p .present) (p .then) }
-    way-stable (starting v q) p = starting-stable v q p
-    way-stable (building w x) p = building-stable w x p
-    way-stable answering p = rooted-stable p
+    pub carried-stable : (x : Stage) → Carried s m hold k b x → Carried s n hold' k b x
+    carried-stable resting p = tt
+    carried-stable adding p = tt
+    carried-stable (advancing w x v h) p = record { node = p .node; present = present-stays g v h (p .node) (p .present); then = after-stable w x v h (p .present) (p .then) }
+    carried-stable (starting v q) p = starting-stable v q p
+    carried-stable (building w x) p = building-stable w x p
+    carried-stable answering p = rooted-stable p

@@ -23,8 +23,8 @@ use Rattle.steps.specs.declared.After.{After}
 use Rattle.steps.specs.declared.After.the-variants.{Right, Ends, Again, Up}
 use Rattle.steps.specs.Rules.{above, resume, built, sameTotals}
 use Rattle.steps.specs.declared.Step.{Step}
-use Rattle.steps.proofs.Stages.{stage, Hand, none, one, two, made, Stage, aboveStage, afterStage, HasEnd, Holds, none-empty}
-use Rattle.steps.proofs.Progress.{Covered, Owed, Refreshing, Starting, Passing, AfterAdvance, EndOk, HandOk, Building, Way}
+use Rattle.steps.proofs.Stages.{stage, Hand, none, one, two, made, Stage, aboveStage, afterStage, HasEnd, Holds}
+use Rattle.steps.proofs.Progress.{Covered, Owed, Refreshing, Starting, Passing, AfterAdvance, EndOk, HandOk, Building, Carried}
 use Rattle.steps.proofs.Others.{Effect, Registers, owed-stable, make-building}
 use Rattle.steps.proofs.Builds.{built-follows, built-joins, same-ends}
 use Rattle.steps.proofs.Effects.{made-ends}
@@ -40,11 +40,11 @@ module _ (s : Shape) (n : Memory) (sound : Sound s n) (hold : ℕ → Stage) (k 
       )
 
   -- the parent's refresh begins, or Q
-  pub go-up : (w : Visit) (v i : ℕ) → Passing s n k b w v i → i < headOf n v → Way s n hold k b (aboveStage (w .node))
+  pub go-up : (w : Visit) (v i : ℕ) → Passing s n k b w v i → i < headOf n v → Carried s n hold k b (aboveStage (w .node))
   unfolding root above
   go-up w v i p l =
       let cov : Covered s n k b (p .level) = covered-by (p .level) (p .low) i (subst (λ (u : ℕ). i < headOf n u) (p .same ∙ p .node) l) (p .got) in
-      cases (λ (x : Step). Way s n hold k b (stage x)) (eqb (w .node) 1)
+      cases (λ (x : Step). Carried s n hold k b (stage x)) (eqb (w .node) 1)
       (λ f.
       let z : p .level ≡ s .height = root-height s k kp (p .level) (p .low) (sym (p .node) ∙ eqb-true (w .node) 1 f) in
       let c : Covered s n k b (s .height) = rw z at cov in
@@ -59,10 +59,10 @@ module _ (s : Shape) (n : Memory) (sound : Sound s n) (hold : ℕ → Stage) (k 
       })
 
   pub bare : (w : Visit) → Refreshing s n hold k b w → Building s n hold k b w none
-  bare w r = record { refreshing = r; hand = tt; mine = λ e q. absurd (none-empty (sideAt s k (r .level)) e q) }
+  bare w r = record { refreshing = r; hand = tt; mine = λ e q. absurd q }
 
   -- what follows an advance begins
-  pub resumed : (w : Visit) (a : After) (v h : ℕ) → h < headOf n v → AfterAdvance s n hold k b w a v h → Way s n hold k b (afterStage a w)
+  pub resumed : (w : Visit) (a : After) (v h : ℕ) → h < headOf n v → AfterAdvance s n hold k b w a v h → Carried s n hold k b (afterStage a w)
   unfolding resume
   resumed w Right v h l p = bare w p
   resumed w Ends v h l p = bare w p
@@ -177,7 +177,7 @@ module _ (s : Shape) (m : Memory) (sound : Sound s m) (hold hold' : ℕ → Stag
           (λ x q. p .mine x (made-ends s m w l r (sideAt s k (re .level)) x q))
 
       -- equal totals: the block before has these ends, so it reaches the operation
-      pub nothing-new : sameTotals (built s m w l r) (block s m (w .node) (w .head - 1)) ≡ true → Way s m hold' k b (aboveStage (w .node))
+      pub nothing-new : sameTotals (built s m w l r) (block s m (w .node) (w .head - 1)) ≡ true → Carried s m hold' k b (aboveStage (w .node))
       nothing-new e =
           go-up s m sound hold' k kp b w (w .node) (w .head - 1)
           (record {

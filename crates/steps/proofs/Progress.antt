@@ -131,10 +131,11 @@ pub record Building (s : Shape) (m : Memory) (hold : ℕ → Stage) (k b : ℕ) 
 abbrev pub Rooted : Shape → Memory → ℕ → ℕ → Type 0
 Rooted s m k b = b ≤ reach s m k (s .height) (headOf m root - 1)
 
-abbrev pub Way : Shape → Memory → (ℕ → Stage) → ℕ → ℕ → Stage → Type 0
-Way s m hold k b resting = Unit {0}
-Way s m hold k b adding = Unit {0}
-Way s m hold k b (advancing w a v h) = Advancing s m hold k b w a v h
-Way s m hold k b (starting v q) = Starting s m hold k b v q
-Way s m hold k b (building w x) = Building s m hold k b w x
-Way s m hold k b answering = Rooted s m k b
+-- how far the operation has been carried, by its stage
+abbrev pub Carried : Shape → Memory → (ℕ → Stage) → ℕ → ℕ → Stage → Type 0
+Carried s m hold k b resting = Unit {0}
+Carried s m hold k b adding = Unit {0}
+Carried s m hold k b (advancing w a v h) = Advancing s m hold k b w a v h
+Carried s m hold k b (starting v q) = Starting s m hold k b v q
+Carried s m hold k b (building w x) = Building s m hold k b w x
+Carried s m hold k b answering = Rooted s m k b

@@ -31,7 +31,7 @@ use Rattle.steps.specs.Contracts.Ready.{Children, Adds, Builds, Ready}
 use Rattle.tree.specs.Contracts.SoundTree.{SoundTree}
 use Rattle.tree.proofs.Places.{processes-most, places-most, node-headed, node-part, node-place, node-reads, node-small, below-within, present-within}
 use Rattle.steps.proofs.Stages.{Stage, stage, stageOf, made}
-use Rattle.steps.proofs.Progress.{LeafOpen, EndOk, HandOk, OwnLeaf, Way}
+use Rattle.steps.proofs.Progress.{LeafOpen, EndOk, HandOk, OwnLeaf, Carried}
 use Rattle.steps.proofs.Builds.{new-sums, totals-grow}
 use Rattle.steps.proofs.Costs.{StepNodes}
 use Rattle.steps.proofs.Invariant.{Invariant, holding, step-nodes}
@@ -114,27 +114,27 @@ module _ (s : Shape) (m : Memory) (starts : List ℕ) (q : SoundTree s starts (m
 
   -- a step of process k, in its operation b
   module _ (hold : ℕ → Stage) (k : ℕ) (kp : k < processes s) (b : ℕ) (within : b ≤ s .most) where
-    next : (n : Step) → isQ n ≡ false → OwnLeaf s m k b (stage n) → Way s m hold k b (stage n) → StepNodes s n → Ready starts (m .heads) (m .table) (leafOf s k) n
+    next : (n : Step) → isQ n ≡ false → OwnLeaf s m k b (stage n) → Carried s m hold k b (stage n) → StepNodes s n → Ready starts (m .heads) (m .table) (leafOf s k) n
     unfolding isQ headOf
-    next A more own way nodes = adds k b kp within own
-    next (V1 a w v h) more own way nodes = omega (arith, node-headed q v (way .node))
-    next (V2 a w v h x) more own way nodes = (node-headed q v (way .node), node-place q v h (way .node) (present-within q v h (way .node) (way .present)))
-    next (V3 a w v h) more own way nodes = (node-headed q v (way .node), omega (arith, present-within q v h (way .node) (way .present), places-most s (q .tall) (q .few) v))
-    next (R1 z v) more own way nodes = node-headed q v (inner-node s v nodes)
-    next (R2 w) more own way nodes = children w nodes
-    next (R3 w c) more own way nodes = (children w nodes, node-part q (2 * w .node) (omega arith))
-    next (R4 w) more own way nodes = children w nodes
-    next (R5 w c) more own way nodes = (children w nodes, node-part q (2 * w .node + 1) (omega arith))
-    next (C1 w) more own way nodes = (children w nodes, sound .node (2 * w .node) (omega arith) .head)
-    next (C2 w l) more own way nodes = (children w nodes, sound .node (2 * w .node + 1) (omega arith) .head)
-    next (C3 w l r) more own way nodes =
-        (children w nodes, builds w nodes (way .refreshing .first) (way .refreshing .last) l r (way .hand .0) (way .hand .1))
-    next (C4 w n) more own way nodes =
+    next A more own carried nodes = adds k b kp within own
+    next (V1 a w v h) more own carried nodes = omega (arith, node-headed q v (carried .node))
+    next (V2 a w v h x) more own carried nodes = (node-headed q v (carried .node), node-place q v h (carried .node) (present-within q v h (carried .node) (carried .present)))
+    next (V3 a w v h) more own carried nodes = (node-headed q v (carried .node), omega (arith, present-within q v h (carried .node) (carried .present), places-most s (q .tall) (q .few) v))
+    next (R1 z v) more own carried nodes = node-headed q v (inner-node s v nodes)
+    next (R2 w) more own carried nodes = children w nodes
+    next (R3 w c) more own carried nodes = (children w nodes, node-part q (2 * w .node) (omega arith))
+    next (R4 w) more own carried nodes = children w nodes
+    next (R5 w c) more own carried nodes = (children w nodes, node-part q (2 * w .node + 1) (omega arith))
+    next (C1 w) more own carried nodes = (children w nodes, sound .node (2 * w .node) (omega arith) .head)
+    next (C2 w l) more own carried nodes = (children w nodes, sound .node (2 * w .node + 1) (omega arith) .head)
+    next (C3 w l r) more own carried nodes =
+        (children w nodes, builds w nodes (carried .refreshing .first) (carried .refreshing .last) l r (carried .hand .0) (carried .hand .1))
+    next (C4 w n) more own carried nodes =
         let node = inner-node s (w .node) nodes in (
           node-headed q (w .node) node,
-          node-place q (w .node) (w .head) node (made-place w nodes (way .refreshing .first) (way .refreshing .last) n (way .hand)),
+          node-place q (w .node) (w .head) node (made-place w nodes (carried .refreshing .first) (carried .refreshing .last) n (carried .hand)),
         )
-    next Q more own way nodes = absurd (true≢false more)
+    next Q more own carried nodes = absurd (true≢false more)
 
 -- of a machine whose invariant holds
 pub ready : (s : Shape) (m : Machine) → Invariant s m → (starts : List ℕ) → SoundTree s starts (m .memory .heads) (m .memory .table)
@@ -143,6 +143,6 @@ pub ready : (s : Shape) (m : Machine) → Invariant s m → (starts : List ℕ) 
 ready s m inv starts tree k kp o n e more =
     let p = inv .process k kp in
     let own = subst (λ (x : Status). OwnLeaf s (m .memory) k (processOf m k .begun) (stageOf x)) e (p .leaf) in
-    let way = subst (λ (x : Status). Way s (m .memory) (holding m) k (processOf m k .begun) (stageOf x)) e (p .way) in
-    next s (m .memory) starts tree (holding m) k kp (processOf m k .begun) (p .within) n more own way
-    (step-nodes s (m .memory) (holding m) k kp (processOf m k .begun) n way)
+    let carried = subst (λ (x : Status). Carried s (m .memory) (holding m) k (processOf m k .begun) (stageOf x)) e (p .carried) in
+    next s (m .memory) starts tree (holding m) k kp (processOf m k .begun) (p .within) n more own carried
+    (step-nodes s (m .memory) (holding m) k kp (processOf m k .begun) n carried)

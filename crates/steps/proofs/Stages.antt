@@ -64,18 +64,13 @@ stage-advance w a v h = both (λ (n : Step). stage n ≡ advancing w a v h) (eqb
 
 -- what is in hand has end e on a side
 abbrev pub HasEnd : Side → Hand → ℕ → Type 0
-HasEnd onLeft none e = ⊥
+HasEnd d none e = ⊥
 HasEnd onLeft (one l) e = l ≡ e
-HasEnd onLeft (two l r) e = l ≡ e
-HasEnd onLeft (made n) e = n .left ≡ e
-HasEnd onRight none e = ⊥
 HasEnd onRight (one l) e = ⊥
+HasEnd onLeft (two l r) e = l ≡ e
 HasEnd onRight (two l r) e = r ≡ e
+HasEnd onLeft (made n) e = n .left ≡ e
 HasEnd onRight (made n) e = n .right ≡ e
-
-pub none-empty : (d : Side) (e : ℕ) → HasEnd d none e → ⊥
-none-empty onLeft e w = w
-none-empty onRight e w = w
 
 -- a process in that stage refreshes node u with head h, and has end e in hand on a side
 abbrev pub Holds : Side → Stage → ℕ → ℕ → ℕ → Type 0
@@ -92,7 +87,7 @@ above-empty v d u h e = both (λ (n : Step). Holds d (stage n) u h e → ⊥) (e
 
 pub after-empty : (a : After) (w : Visit) (d : Side) (u h e : ℕ) → Holds d (afterStage a w) u h e → ⊥
 unfolding resume
-after-empty Right w d u h e p = none-empty d e (p .2)
-after-empty Ends w d u h e p = none-empty d e (p .2)
+after-empty Right w d u h e p = p .2
+after-empty Ends w d u h e p = p .2
 after-empty Again w d u h e p = p
 after-empty Up w d u h e p = above-empty (w .node) d u h e p

@@ -12,7 +12,7 @@ use Rattle.steps.specs.declared.Status.{Status}
 use Rattle.steps.specs.declared.Status.the-variants.{Idle, Busy}
 use Rattle.steps.specs.declared.Process.{Process}
 use Rattle.steps.specs.Process.{idle}
-use Rattle.tree.specs.Memory.{Memory}
+use Rattle.tree.specs.Memory.{Memory, memoryOf}
 use Rattle.steps.specs.Rules.{step}
 
 pub record Machine : Type 0 where
@@ -23,7 +23,7 @@ pub record Machine : Type 0 where
 unfoldable pub start : Shape → Machine
 start s =
     record {
-      memory = record { table = replicate (wordsNeeded s) 0; heads = replicate (2 * processes s) 1 };
+      memory = memoryOf (replicate (wordsNeeded s) 0) (replicate (2 * processes s) 1);
       processes = replicate (processes s) idle;
     }
 

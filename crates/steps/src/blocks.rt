@@ -12,6 +12,7 @@ use crate::sequence::above;
 use crate::sequence::advance;
 use crate::sequence::after_refresh;
 use crate::sequence::resume;
+use crate::turn::by_fields;
 use crate::turn::moved;
 use crate::turn::operation_in;
 use crate::turn::step_in;
@@ -24,13 +25,14 @@ use tree::access::write_if_absent;
 use tree::heads::head_of;
 ghost use mathlib.Core.Bool.{false};
 ghost use mathlib.Core.Path.{_≡_};
+ghost use mathlib.Core.List.{List};
 ghost use Prim.Native.Nat.{ℕ, _+_, _*_, _<_};
 ghost use Rattle.base.specs.Choice.{if_then_else_};
 ghost use Rattle.tree.specs.Shape.{Shape, leafOf};
-ghost use Rattle.tree.specs.Memory.{Memory};
-ghost use Rattle.steps.specs.Rules.{above as aboveOf, resume as resumeOf, advance as advanceOf, sameTotals, step, go};
+ghost use Rattle.tree.specs.Memory.{memoryOf};
+ghost use Rattle.steps.specs.Rules.{above as aboveOf, help as helpOf, sameTotals, step, go};
 ghost use Rattle.steps.specs.Machine.{isIdle};
-ghost use Rattle.steps.specs.Contracts.Next.{operationIn, stepIn, Moves, NextByTable, Fits, FitsLeaf};
+ghost use Rattle.steps.specs.Contracts.Next.{operationIn, stepIn, Moves, LeadsByTable, StepsByTable, Fits, FitsLeaf};
 ghost use Rattle.tree.specs.Contracts.Access.{Begins, HasPart, HasPlace};
 ghost use Rattle.steps.specs.Contracts.Ready.{Adds, Builds};
 
@@ -45,9 +47,9 @@ pub fn step_a(
     requires { ⌜ (q .steps < 65536) × (isIdle (q .status) ≡ false) × (stepIn (q .status) ≡ Step.A) ⌝ }
     requires { ⌜ Adds (now starts) (now heads) (now table) leaf × FitsLeaf (now starts) leaf ⌝ }
     ensures { λ r. ⌜ Moves q r × ((s : Shape) (k : ℕ) → leaf ≡ leafOf s k → Begins s (now (starts .entry)) leaf →
-        let m : Memory = record { table = now (table .entry); heads = now (heads .entry) } in
+        let m = memoryOf (now (table .entry)) (now (heads .entry)) in
         let o = operationIn (q .status) in
-        step s k o m Step.A ≡ go s k o m (record { table = now (table .exit); heads = now (heads .entry) }) (stepIn (r .status))) ⌝ }
+        step s k o m Step.A ≡ go s k o m (memoryOf (now (table .exit)) (now (heads .entry))) (stepIn (r .status))) ⌝ }
 {
     let h = head_of(heads, leaf);
     let old = block_at(table, starts, leaf, h - 1);
@@ -63,12 +65,9 @@ pub fn step_a(
 
 // V2: v's block gets its superblock, if it has none yet: the parent's head as V1 read it.
 pub fn step_v2(table: &mut [u32], starts: &[usize; 17], q: Process) -> Process
-    requires { ⌜ q .steps < 65536 ⌝ }
-    requires { ⌜ ((a : After) (w : Visit) (v h x : ℕ) → stepIn (q .status) ≡ Step.V2 a w v h x →
+    requires { ⌜ (q .steps < 65536) × ((a : After) (w : Visit) (v h x : ℕ) → stepIn (q .status) ≡ Step.V2 a w v h x →
         HasPlace (now starts) (now table) v h × Fits (now starts) (Step.V2 a w v h x)) ⌝ }
-    ensures step { λ r. ⌜ ((a : After) (w : Visit) (v h x : ℕ) → stepIn (q .status) ≡ Step.V2 a w v h x →
-        NextByTable (now (starts .entry)) (now (table .entry)) (now (table .exit)) q r) ⌝ }
-    ensures other { λ r. ⌜ (((a : After) (w : Visit) (v h x : ℕ) → stepIn (q .status) ≡ Step.V2 a w v h x → ⊥) → ((r ≡ q) × (now (table .exit) ≡ now (table .entry)))) ⌝ }
+    ensures { λ r. ⌜ StepsByTable (λ P. (a : After) (w : Visit) (v h x : ℕ) → P (Step.V2 a w v h x)) (now (starts .entry)) (now (table .entry)) (now (table .exit)) q r ⌝ }
 {
     let Step::V2 {
         after,
@@ -81,26 +80,25 @@ pub fn step_v2(table: &mut [u32], starts: &[usize; 17], q: Process) -> Process
         return q;
     };
     set_super_at(table, starts, node, place, above);
+    let visit = by_fields(visit);
     moved(
         q,
         Step::V3 {
-            after: after,
-            visit: Visit {
-                node: visit.node,
-                head: visit.head,
-                second: visit.second,
-            },
-            node: node,
-            place: place,
+            after,
+            visit,
+            node,
+            place,
         },
     )
 }
 
-// A block that is present at the child's head is advanced before the visit goes on, so that no refresh leaves it behind.
-fn help(missing: bool, w: Visit, a: After, child: u32, c: u32) -> Step
-    ensures { λ r. ⌜ r ≡ (if missing then resumeOf a w else advanceOf w a child c) ⌝ }
+// A child's block at the head that was read is looked at. If it is present it is advanced before the visit goes on, so that no refresh leaves it behind.
+fn help(table: &[u32], starts: &[usize; 17], w: Visit, a: After, child: u32, c: u32) -> Step
+    requires { ⌜ HasPart (now starts) (now table) child ⌝ }
+    ensures { λ r. ⌜ ((s : Shape) (heads : List ℕ) → Begins s (now (starts .entry)) child →
+        r ≡ helpOf s (memoryOf (now (table .entry)) heads) w a child c) ⌝ }
 {
-    if missing {
+    if absent_at(table, starts, child, c) {
         return resume(a, w);
     }
     advance(w, a, child, c)
@@ -108,52 +106,28 @@ fn help(missing: bool, w: Visit, a: After, child: u32, c: u32) -> Step
 
 // R3: the left child's block at the head that was read is looked at.
 pub fn step_r3(table: &[u32], starts: &[usize; 17], q: Process) -> Process
-    requires { ⌜ q .steps < 65536 ⌝ }
-    requires { ⌜ ((w : Visit) (c : ℕ) → stepIn (q .status) ≡ Step.R3 w c →
+    requires { ⌜ (q .steps < 65536) × ((w : Visit) (c : ℕ) → stepIn (q .status) ≡ Step.R3 w c →
         HasPart (now starts) (now table) (2 * w .node) × Fits (now starts) (Step.R3 w c)) ⌝ }
-    ensures step { λ r. ⌜ ((w : Visit) (c : ℕ) → stepIn (q .status) ≡ Step.R3 w c →
-        NextByTable (now (starts .entry)) (now (table .entry)) (now (table .entry)) q r) ⌝ }
-    ensures other { λ r. ⌜ (((w : Visit) (c : ℕ) → stepIn (q .status) ≡ Step.R3 w c → ⊥) → r ≡ q) ⌝ }
+    ensures { λ r. ⌜ StepsByTable (λ P. (w : Visit) (c : ℕ) → P (Step.R3 w c)) (now (starts .entry)) (now (table .entry)) (now (table .entry)) q r ⌝ }
 {
     let Step::R3 { visit, child } = step_in(q) else {
         return q;
     };
     let v = 2 * visit.node;
-    moved(
-        q,
-        help(
-            absent_at(table, starts, v, child),
-            visit,
-            After::Right,
-            v,
-            child,
-        ),
-    )
+    moved(q, help(table, starts, visit, After::Right, v, child))
 }
 
 // R5: the same of the right child.
 pub fn step_r5(table: &[u32], starts: &[usize; 17], q: Process) -> Process
-    requires { ⌜ q .steps < 65536 ⌝ }
-    requires { ⌜ ((w : Visit) (c : ℕ) → stepIn (q .status) ≡ Step.R5 w c →
+    requires { ⌜ (q .steps < 65536) × ((w : Visit) (c : ℕ) → stepIn (q .status) ≡ Step.R5 w c →
         HasPart (now starts) (now table) (2 * w .node + 1) × Fits (now starts) (Step.R5 w c)) ⌝ }
-    ensures step { λ r. ⌜ ((w : Visit) (c : ℕ) → stepIn (q .status) ≡ Step.R5 w c →
-        NextByTable (now (starts .entry)) (now (table .entry)) (now (table .entry)) q r) ⌝ }
-    ensures other { λ r. ⌜ (((w : Visit) (c : ℕ) → stepIn (q .status) ≡ Step.R5 w c → ⊥) → r ≡ q) ⌝ }
+    ensures { λ r. ⌜ StepsByTable (λ P. (w : Visit) (c : ℕ) → P (Step.R5 w c)) (now (starts .entry)) (now (table .entry)) (now (table .entry)) q r ⌝ }
 {
     let Step::R5 { visit, child } = step_in(q) else {
         return q;
     };
     let v = 2 * visit.node + 1;
-    moved(
-        q,
-        help(
-            absent_at(table, starts, v, child),
-            visit,
-            After::Ends,
-            v,
-            child,
-        ),
-    )
+    moved(q, help(table, starts, visit, After::Ends, v, child))
 }
 
 // A block that would add nothing is not written: the operation is in a block of the node already.
@@ -166,33 +140,35 @@ fn settle(w: Visit, n: Built, old: Block) -> Step
     Step::C4 { visit: w, built: n }
 }
 
+// What C3 comes to: a block of the children's blocks at the ends l and r.
+fn build(table: &[u32], starts: &[usize; 17], w: Visit, l: u32, r: u32) -> Step
+    requires { ⌜ Builds (now starts) (now table) w l r ⌝ }
+    ensures { λ z. ⌜ LeadsByTable (now (starts .entry)) (now (table .entry)) (now (table .entry)) (Step.C3 w l r) z ⌝ }
+{
+    let v = w.node;
+    let old = block_at(table, starts, v, w.head - 1);
+    let x = block_at(table, starts, 2 * v, l);
+    let y = block_at(table, starts, 2 * v + 1, r);
+    settle(w, joined(v, old, x, y, l, r), old)
+}
+
 // C3: the block is made of the children's blocks at the ends that C1 and C2 found.
 pub fn step_c3(table: &[u32], starts: &[usize; 17], q: Process) -> Process
-    requires { ⌜ q .steps < 65536 ⌝ }
-    requires { ⌜ ((w : Visit) (l r : ℕ) → stepIn (q .status) ≡ Step.C3 w l r →
+    requires { ⌜ (q .steps < 65536) × ((w : Visit) (l r : ℕ) → stepIn (q .status) ≡ Step.C3 w l r →
         Builds (now starts) (now table) w l r × Fits (now starts) (Step.C3 w l r)) ⌝ }
-    ensures step { λ z. ⌜ ((w : Visit) (l r : ℕ) → stepIn (q .status) ≡ Step.C3 w l r →
-        NextByTable (now (starts .entry)) (now (table .entry)) (now (table .entry)) q z) ⌝ }
-    ensures other { λ z. ⌜ (((w : Visit) (l r : ℕ) → stepIn (q .status) ≡ Step.C3 w l r → ⊥) → z ≡ q) ⌝ }
+    ensures { λ z. ⌜ StepsByTable (λ P. (w : Visit) (l r : ℕ) → P (Step.C3 w l r)) (now (starts .entry)) (now (table .entry)) (now (table .entry)) q z ⌝ }
 {
     let Step::C3 { visit, left, right } = step_in(q) else {
         return q;
     };
-    let v = visit.node;
-    let old = block_at(table, starts, v, visit.head - 1);
-    let x = block_at(table, starts, 2 * v, left);
-    let y = block_at(table, starts, 2 * v + 1, right);
-    moved(q, settle(visit, joined(v, old, x, y, left, right), old))
+    moved(q, build(table, starts, visit, left, right))
 }
 
 // C4: the block is written if its place is still empty. The refresh has then succeeded.
 pub fn step_c4(table: &mut [u32], starts: &[usize; 17], q: Process) -> Process
-    requires { ⌜ q .steps < 65536 ⌝ }
-    requires { ⌜ ((w : Visit) (b : Built) → stepIn (q .status) ≡ Step.C4 w b →
+    requires { ⌜ (q .steps < 65536) × ((w : Visit) (b : Built) → stepIn (q .status) ≡ Step.C4 w b →
         HasPlace (now starts) (now table) (w .node) (w .head) × Fits (now starts) (Step.C4 w b)) ⌝ }
-    ensures step { λ r. ⌜ ((w : Visit) (b : Built) → stepIn (q .status) ≡ Step.C4 w b →
-        NextByTable (now (starts .entry)) (now (table .entry)) (now (table .exit)) q r) ⌝ }
-    ensures other { λ r. ⌜ (((w : Visit) (b : Built) → stepIn (q .status) ≡ Step.C4 w b → ⊥) → ((r ≡ q) × (now (table .exit) ≡ now (table .entry)))) ⌝ }
+    ensures { λ r. ⌜ StepsByTable (λ P. (w : Visit) (b : Built) → P (Step.C4 w b)) (now (starts .entry)) (now (table .entry)) (now (table .exit)) q r ⌝ }
 {
     let Step::C4 { visit, built } = step_in(q) else {
         return q;

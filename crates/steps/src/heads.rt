@@ -4,6 +4,7 @@ use crate::Process;
 use crate::Step;
 use crate::Visit;
 use crate::sequence::resume;
+use crate::turn::by_fields;
 use crate::turn::moved;
 use crate::turn::step_in;
 use tree::heads::head_of;
@@ -12,16 +13,13 @@ ghost use mathlib.Core.Path.{_≡_};
 ghost use mathlib.Core.Bool.{Bool};
 ghost use Prim.Native.Nat.{ℕ, _+_, _*_, _/_, _≤_, _<_};
 ghost use lib.ListN.{length, getD};
-ghost use Rattle.steps.specs.Contracts.Next.{stepIn, NextByHeads};
+ghost use Rattle.steps.specs.Contracts.Next.{stepIn, StepsByHeads};
 ghost use Rattle.steps.specs.Contracts.Ready.{Children};
 
 // V1: the parent's head is what v's block is to remember as its superblock.
 pub fn step_v1(heads: &[u32], q: Process) -> Process
-    requires { ⌜ q .steps < 65536 ⌝ }
-    requires { ⌜ ((a : After) (w : Visit) (v h : ℕ) → stepIn (q .status) ≡ Step.V1 a w v h → v / 2 < length (now heads)) ⌝ }
-    ensures step { λ r. ⌜ ((a : After) (w : Visit) (v h : ℕ) → stepIn (q .status) ≡ Step.V1 a w v h →
-        NextByHeads (now (heads .entry)) (now (heads .entry)) q r) ⌝ }
-    ensures other { λ r. ⌜ (((a : After) (w : Visit) (v h : ℕ) → stepIn (q .status) ≡ Step.V1 a w v h → ⊥) → r ≡ q) ⌝ }
+    requires { ⌜ (q .steps < 65536) × ((a : After) (w : Visit) (v h : ℕ) → stepIn (q .status) ≡ Step.V1 a w v h → v / 2 < length (now heads)) ⌝ }
+    ensures { λ r. ⌜ StepsByHeads (λ P. (a : After) (w : Visit) (v h : ℕ) → P (Step.V1 a w v h)) (now (heads .entry)) (now (heads .entry)) q r ⌝ }
 {
     let Step::V1 {
         after,
@@ -32,30 +30,24 @@ pub fn step_v1(heads: &[u32], q: Process) -> Process
     else {
         return q;
     };
-    // Copied field by field, as in V2: a copy of the whole visit is one wide read, which has to wait for the narrow writes before it.
+    let visit = by_fields(visit);
+    let above = head_of(heads, node / 2);
     moved(
         q,
         Step::V2 {
-            after: after,
-            visit: Visit {
-                node: visit.node,
-                head: visit.head,
-                second: visit.second,
-            },
-            node: node,
-            place: place,
-            above: head_of(heads, node / 2),
+            after,
+            visit,
+            node,
+            place,
+            above,
         },
     )
 }
 
 // V3: the head of v is raised past the block at h, and what was put off goes on.
 pub fn step_v3(heads: &mut [u32], q: Process) -> Process
-    requires { ⌜ q .steps < 65536 ⌝ }
-    requires { ⌜ ((a : After) (w : Visit) (v h : ℕ) → stepIn (q .status) ≡ Step.V3 a w v h → (v < length (now heads)) × (h < 65536)) ⌝ }
-    ensures step { λ r. ⌜ ((a : After) (w : Visit) (v h : ℕ) → stepIn (q .status) ≡ Step.V3 a w v h →
-        NextByHeads (now (heads .entry)) (now (heads .exit)) q r) ⌝ }
-    ensures other { λ r. ⌜ (((a : After) (w : Visit) (v h : ℕ) → stepIn (q .status) ≡ Step.V3 a w v h → ⊥) → ((r ≡ q) × (now (heads .exit) ≡ now (heads .entry)))) ⌝ }
+    requires { ⌜ (q .steps < 65536) × ((a : After) (w : Visit) (v h : ℕ) → stepIn (q .status) ≡ Step.V3 a w v h → (v < length (now heads)) × (h < 65536)) ⌝ }
+    ensures { λ r. ⌜ StepsByHeads (λ P. (a : After) (w : Visit) (v h : ℕ) → P (Step.V3 a w v h)) (now (heads .entry)) (now (heads .exit)) q r ⌝ }
 {
     let Step::V3 {
         after,
@@ -72,11 +64,8 @@ pub fn step_v3(heads: &mut [u32], q: Process) -> Process
 
 // R1: the head of v is the place at which this refresh is to write.
 pub fn step_r1(heads: &[u32], q: Process) -> Process
-    requires { ⌜ q .steps < 65536 ⌝ }
-    requires { ⌜ ((b : Bool) (v : ℕ) → stepIn (q .status) ≡ Step.R1 b v → v < length (now heads)) ⌝ }
-    ensures step { λ r. ⌜ ((b : Bool) (v : ℕ) → stepIn (q .status) ≡ Step.R1 b v →
-        NextByHeads (now (heads .entry)) (now (heads .entry)) q r) ⌝ }
-    ensures other { λ r. ⌜ (((b : Bool) (v : ℕ) → stepIn (q .status) ≡ Step.R1 b v → ⊥) → r ≡ q) ⌝ }
+    requires { ⌜ (q .steps < 65536) × ((b : Bool) (v : ℕ) → stepIn (q .status) ≡ Step.R1 b v → v < length (now heads)) ⌝ }
+    ensures { λ r. ⌜ StepsByHeads (λ P. (b : Bool) (v : ℕ) → P (Step.R1 b v)) (now (heads .entry)) (now (heads .entry)) q r ⌝ }
 {
     let Step::R1 { second, node } = step_in(q) else {
         return q;
@@ -93,83 +82,66 @@ pub fn step_r1(heads: &[u32], q: Process) -> Process
     )
 }
 
+// The head of v's left child.
+fn left_head(heads: &[u32], v: u32) -> u32
+    requires { ⌜ (v < 65536) × (2 * v + 1 < length (now heads)) ⌝ }
+    ensures { λ r. ⌜ r ≡ getD (now (heads .entry)) (2 * v) 1 ⌝ }
+{
+    head_of(heads, 2 * v)
+}
+
+// The head of v's right child.
+fn right_head(heads: &[u32], v: u32) -> u32
+    requires { ⌜ (v < 65536) × (2 * v + 1 < length (now heads)) ⌝ }
+    ensures { λ r. ⌜ r ≡ getD (now (heads .entry)) (2 * v + 1) 1 ⌝ }
+{
+    head_of(heads, 2 * v + 1)
+}
+
 // R2: the left child's head, where a block may stand that its writer has not advanced yet.
 pub fn step_r2(heads: &[u32], q: Process) -> Process
-    requires { ⌜ q .steps < 65536 ⌝ }
-    requires { ⌜ ((w : Visit) → stepIn (q .status) ≡ Step.R2 w → Children (now heads) w) ⌝ }
-    ensures step { λ r. ⌜ ((w : Visit) → stepIn (q .status) ≡ Step.R2 w →
-        NextByHeads (now (heads .entry)) (now (heads .entry)) q r) ⌝ }
-    ensures other { λ r. ⌜ (((w : Visit) → stepIn (q .status) ≡ Step.R2 w → ⊥) → r ≡ q) ⌝ }
+    requires { ⌜ (q .steps < 65536) × ((w : Visit) → stepIn (q .status) ≡ Step.R2 w → Children (now heads) w) ⌝ }
+    ensures { λ r. ⌜ StepsByHeads (λ P. (w : Visit) → P (Step.R2 w)) (now (heads .entry)) (now (heads .entry)) q r ⌝ }
 {
     let Step::R2 { visit } = step_in(q) else {
         return q;
     };
-    moved(
-        q,
-        Step::R3 {
-            visit: visit,
-            child: head_of(heads, 2 * visit.node),
-        },
-    )
+    let child = left_head(heads, visit.node);
+    moved(q, Step::R3 { visit, child })
 }
 
 // R4: the same of the right child.
 pub fn step_r4(heads: &[u32], q: Process) -> Process
-    requires { ⌜ q .steps < 65536 ⌝ }
-    requires { ⌜ ((w : Visit) → stepIn (q .status) ≡ Step.R4 w → Children (now heads) w) ⌝ }
-    ensures step { λ r. ⌜ ((w : Visit) → stepIn (q .status) ≡ Step.R4 w →
-        NextByHeads (now (heads .entry)) (now (heads .entry)) q r) ⌝ }
-    ensures other { λ r. ⌜ (((w : Visit) → stepIn (q .status) ≡ Step.R4 w → ⊥) → r ≡ q) ⌝ }
+    requires { ⌜ (q .steps < 65536) × ((w : Visit) → stepIn (q .status) ≡ Step.R4 w → Children (now heads) w) ⌝ }
+    ensures { λ r. ⌜ StepsByHeads (λ P. (w : Visit) → P (Step.R4 w)) (now (heads .entry)) (now (heads .entry)) q r ⌝ }
 {
     let Step::R4 { visit } = step_in(q) else {
         return q;
     };
-    moved(
-        q,
-        Step::R5 {
-            visit: visit,
-            child: head_of(heads, 2 * visit.node + 1),
-        },
-    )
+    let child = right_head(heads, visit.node);
+    moved(q, Step::R5 { visit, child })
 }
 
 // C1: the left end is the last block below the left child's head, which is at least 1.
 pub fn step_c1(heads: &[u32], q: Process) -> Process
-    requires { ⌜ q .steps < 65536 ⌝ }
-    requires { ⌜ ((w : Visit) → stepIn (q .status) ≡ Step.C1 w → Children (now heads) w × (1 ≤ getD (now heads) (2 * w .node) 1)) ⌝ }
-    ensures step { λ r. ⌜ ((w : Visit) → stepIn (q .status) ≡ Step.C1 w →
-        NextByHeads (now (heads .entry)) (now (heads .entry)) q r) ⌝ }
-    ensures other { λ r. ⌜ (((w : Visit) → stepIn (q .status) ≡ Step.C1 w → ⊥) → r ≡ q) ⌝ }
+    requires { ⌜ (q .steps < 65536) × ((w : Visit) → stepIn (q .status) ≡ Step.C1 w → Children (now heads) w × (1 ≤ getD (now heads) (2 * w .node) 1)) ⌝ }
+    ensures { λ r. ⌜ StepsByHeads (λ P. (w : Visit) → P (Step.C1 w)) (now (heads .entry)) (now (heads .entry)) q r ⌝ }
 {
     let Step::C1 { visit } = step_in(q) else {
         return q;
     };
-    moved(
-        q,
-        Step::C2 {
-            visit: visit,
-            left: head_of(heads, 2 * visit.node) - 1,
-        },
-    )
+    let left = left_head(heads, visit.node) - 1;
+    moved(q, Step::C2 { visit, left })
 }
 
 // C2: the same of the right child.
 pub fn step_c2(heads: &[u32], q: Process) -> Process
-    requires { ⌜ q .steps < 65536 ⌝ }
-    requires { ⌜ ((w : Visit) (l : ℕ) → stepIn (q .status) ≡ Step.C2 w l → Children (now heads) w × (1 ≤ getD (now heads) (2 * w .node + 1) 1)) ⌝ }
-    ensures step { λ r. ⌜ ((w : Visit) (l : ℕ) → stepIn (q .status) ≡ Step.C2 w l →
-        NextByHeads (now (heads .entry)) (now (heads .entry)) q r) ⌝ }
-    ensures other { λ r. ⌜ (((w : Visit) (l : ℕ) → stepIn (q .status) ≡ Step.C2 w l → ⊥) → r ≡ q) ⌝ }
+    requires { ⌜ (q .steps < 65536) × ((w : Visit) (l : ℕ) → stepIn (q .status) ≡ Step.C2 w l → Children (now heads) w × (1 ≤ getD (now heads) (2 * w .node + 1) 1)) ⌝ }
+    ensures { λ r. ⌜ StepsByHeads (λ P. (w : Visit) (l : ℕ) → P (Step.C2 w l)) (now (heads .entry)) (now (heads .entry)) q r ⌝ }
 {
     let Step::C2 { visit, left } = step_in(q) else {
         return q;
     };
-    moved(
-        q,
-        Step::C3 {
-            visit: visit,
-            left: left,
-            right: head_of(heads, 2 * visit.node + 1) - 1,
-        },
-    )
+    let right = right_head(heads, visit.node) - 1;
+    moved(q, Step::C3 { visit, left, right })
 }

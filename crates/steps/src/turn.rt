@@ -3,6 +3,7 @@ use crate::Operation;
 use crate::Process;
 use crate::Status;
 use crate::Step;
+use crate::Visit;
 ghost use mathlib.Core.Bool.{false};
 ghost use mathlib.Core.Path.{_≡_};
 ghost use Prim.Native.Nat.{_<_};
@@ -41,5 +42,16 @@ pub fn moved(q: Process, n: Step) -> Process
         status: Status::Busy(operation_in(q), n),
         begun: q.begun,
         steps: q.steps + 1,
+    }
+}
+
+// A visit as it is, copied field by field: a copy of the whole is one wide read, which has to wait for the narrow writes before it.
+pub fn by_fields(w: Visit) -> Visit
+    ensures { λ r. ⌜ r ≡ w ⌝ }
+{
+    Visit {
+        node: w.node,
+        head: w.head,
+        second: w.second,
     }
 }

@@ -18,7 +18,7 @@ use Rattle.steps.specs.declared.Step.the-variants.{A, V1, V2, V3, R1, R2, R3, R
 use Rattle.steps.specs.declared.Status.{Status}
 use Rattle.steps.specs.declared.Status.the-variants.{Idle, Busy}
 use Rattle.steps.specs.Machine.{Machine, processOf}
-use Rattle.steps.proofs.Stages.{Stage, resting, adding, advancing, starting, building, answering, stage}
+use Rattle.steps.proofs.Stages.{Hand, none, one, two, made, Stage, resting, adding, advancing, starting, building, answering, stage}
 
 -- super of the block at place i of node v
 abbrev pub super : Shape → Memory → ℕ → ℕ → ℕ
@@ -45,27 +45,46 @@ helpSight Ends onRight v h = advances v h
 helpSight Again d v h = unseen
 helpSight Up d v h = unseen
 
+-- of a step in a refresh that has no end of that child in hand; other steps go by their stage
+abbrev pub ownSight : Step → Side → Sight
+ownSight A d = unseen
+ownSight (V1 a w v h) d = unseen
+ownSight (V2 a w v h x) d = unseen
+ownSight (V3 a w v h) d = unseen
+ownSight (R1 q v) d = unseen
+ownSight (R2 w) d = unseen
+ownSight (R3 w c) onLeft = looking c
+ownSight (R3 w c) onRight = unseen
+ownSight (R4 w) onLeft = headPast
+ownSight (R4 w) onRight = unseen
+ownSight (R5 w c) onLeft = headPast
+ownSight (R5 w c) onRight = looking c
+ownSight (C1 w) d = headPast
+ownSight (C2 w l) d = headPast
+ownSight (C3 w l r) d = headPast
+ownSight (C4 w n) d = headPast
+ownSight Q d = unseen
+
+-- with what is in hand, or x where no end of that child is
+abbrev pub handSight : Hand → Side → Sight → Sight
+handSight none d x = x
+handSight (one l) onLeft x = endRead l
+handSight (one l) onRight x = x
+handSight (two l r) onLeft x = endRead l
+handSight (two l r) onRight x = endRead r
+handSight (made n) onLeft x = endRead (n .left)
+handSight (made n) onRight x = endRead (n .right)
+
+abbrev pub stageSight : Stage → Side → Sight → Sight
+stageSight resting d x = unseen
+stageSight adding d x = unseen
+stageSight (advancing w a v h) d x = helpSight a d v h
+stageSight (starting v second) d x = unseen
+stageSight (building w y) d x = handSight y d x
+stageSight answering d x = unseen
+
 abbrev pub sight : Step → Side → Sight
-sight A d = unseen
-sight (V1 a w v h) d = helpSight a d v h
-sight (V2 a w v h x) d = helpSight a d v h
-sight (V3 a w v h) d = helpSight a d v h
-sight (R1 q v) d = unseen
-sight (R2 w) d = unseen
-sight (R3 w c) onLeft = looking c
-sight (R3 w c) onRight = unseen
-sight (R4 w) onLeft = headPast
-sight (R4 w) onRight = unseen
-sight (R5 w c) onLeft = headPast
-sight (R5 w c) onRight = looking c
-sight (C1 w) d = headPast
-sight (C2 w l) onLeft = endRead l
-sight (C2 w l) onRight = headPast
-sight (C3 w l r) onLeft = endRead l
-sight (C3 w l r) onRight = endRead r
-sight (C4 w n) onLeft = endRead (n .left)
-sight (C4 w n) onRight = endRead (n .right)
-sight Q d = unseen
+sight n d = stageSight (stage n) d (ownSight n d)
 
 -- the visit that a stage is in; the values of a stage outside of any stand for none, where nothing is seen
 abbrev noVisit : Visit

@@ -20,7 +20,7 @@ use Rattle.steps.specs.Process.{idle}
 use Rattle.steps.specs.Rules.{Stepped, step}
 use Rattle.steps.specs.Machine.{Machine, start, processOf, withProcess, begin, stepOf}
 use Rattle.steps.proofs.Stages.{stage, stageOf}
-use Rattle.steps.proofs.Progress.{OwnLeaf, Way}
+use Rattle.steps.proofs.Progress.{OwnLeaf, Carried}
 use Rattle.steps.proofs.Others.{Effect}
 use Rattle.steps.proofs.Effects.{still}
 use Rattle.steps.proofs.Invariant.{Invariant, holding}
@@ -99,8 +99,8 @@ module _ (s : Shape) (tall : 1 ≤ s .height) (m : Machine) (inv : Invariant s m
     own : OwnLeaf s (m .memory) k b (stage n)
     own = subst (λ (x : Status). OwnLeaf s (m .memory) k b (stageOf x)) busy (inv .process k kp .leaf)
 
-    way : Way s (m .memory) (holding m) k b (stage n)
-    way = subst (λ (x : Status). Way s (m .memory) (holding m) k b (stageOf x)) busy (inv .process k kp .way)
+    carried : Carried s (m .memory) (holding m) k b (stage n)
+    carried = subst (λ (x : Status). Carried s (m .memory) (holding m) k b (stageOf x)) busy (inv .process k kp .carried)
 
     -- what V2 is to set is a mark, so not 0
     asked : (v i z : ℕ) → Asks v i z (Busy o n) → 1 < v → super s (m .memory) v i ≡ 0 → 1 ≤ z
@@ -121,11 +121,11 @@ module _ (s : Shape) (tall : 1 ≤ s .height) (m : Machine) (inv : Invariant s m
         (subst (λ (y : Status). Effect s k o (m .memory) (holding m k) (r .memory) (stageOf y)) (sym next) (step-effect s tall m inv k kp o n busy))
         (λ j ne. ap (λ (p : Process). p .status) (stepped-other s tall m inv k kp o n busy j ne))
         (subst (λ (x : Status). Traces s (m .memory) x (r .memory) (at' k)) (sym busy)
-        (subst (Traces s (m .memory) (Busy o n) (r .memory)) (sym next) (traces s (m .memory) (inv .sized) (inv .sound) (holding m) k kp o b n own way asked raised)))
+        (subst (Traces s (m .memory) (Busy o n) (r .memory)) (sym next) (traces s (m .memory) (inv .sized) (inv .sound) (holding m) k kp o b n own carried asked raised)))
         old
         (λ d u i z here low q.
         subst (Seen (r .memory) d u i z) (sym next)
-        (seen-turn s (m .memory) (inv .sound) o u i z (inv .sized) (holding m) k b n d here low way (subst (Seen (m .memory) d u i z) busy q)))
+        (seen-turn s (m .memory) (inv .sound) o u i z (inv .sized) (holding m) k b n d here low carried (subst (Seen (m .memory) d u i z) busy q)))
 
     pub step-supers : SuperInvariant s (stepOf s m k)
     step-supers = subst (λ (x : Memory). MarksHold s x at') (sym (stepped-memory s tall m inv k kp o n busy)) stepped

@@ -14,39 +14,36 @@ use Rattle.tree.proofs.Nodes.{parent-of-child, child-node, child-below, inner-n
 use Rattle.tree.proofs.Sound.{present-low, end-below}
 use Rattle.tree.proofs.Growth.{Fresh, same-end}
 use Rattle.steps.specs.declared.Operation.{Operation}
-use Rattle.steps.specs.declared.Step.{Step}
-use Rattle.steps.specs.declared.Step.the-variants.{A, V1, V2, V3, R1, R2, R3, R4, R5, C1, C2, C3, C4, Q}
 use Rattle.steps.specs.declared.Status.{Status}
 use Rattle.steps.specs.declared.Status.the-variants.{Idle, Busy}
-use Rattle.steps.proofs.Stages.{stage, stageOf, Holds, none-empty}
+use Rattle.steps.proofs.Stages.{Hand, none, one, two, made, Stage, resting, adding, advancing, starting, building, answering, stage, stageOf, HasEnd, Holds}
 use Rattle.steps.proofs.Others.{InnerWrote, Effect}
-use Rattle.superblocks.proofs.Marks.{super, sight, covers-rises, Seen, Asks, Raises, Mark, Near, SupersSet, MarksHold}
+use Rattle.superblocks.proofs.Marks.{super, Sight, ownSight, handSight, stageSight, sight, visitIn, Covers, covers-rises, Seen, Asks, Raises, Mark, Near, SupersSet, MarksHold}
 use Rattle.superblocks.proofs.Traces.{SuperLeft, HeadLeft, Traces}
 use Rattle.superblocks.proofs.MachineFacts.{MachineFacts}
 
 -- an end in hand is one that was seen
-seen-hand : (m : Memory) (i z : ℕ) (o : Operation) (n : Step) (d : Side) (u h e : ℕ) → Holds d (stage n) u h e → Seen m d u i z (Busy o n) → z < h → i ≤ e
-seen-hand m i z o A d u h e q p l = absurd q
-seen-hand m i z o (V1 a w v j) d u h e q p l = absurd q
-seen-hand m i z o (V2 a w v j x) d u h e q p l = absurd q
-seen-hand m i z o (V3 a w v j) d u h e q p l = absurd q
-seen-hand m i z o (R1 t v) d u h e q p l = absurd q
-seen-hand m i z o (R2 w) d u h e q p l = absurd (none-empty d e (q .2))
-seen-hand m i z o (R3 w c) d u h e q p l = absurd (none-empty d e (q .2))
-seen-hand m i z o (R4 w) d u h e q p l = absurd (none-empty d e (q .2))
-seen-hand m i z o (R5 w c) d u h e q p l = absurd (none-empty d e (q .2))
-seen-hand m i z o (C1 w) d u h e q p l = absurd (none-empty d e (q .2))
-seen-hand m i z o (C2 w x) onLeft u h e q p l = omega (arith, p (q .0) (omega (arith, q .1)), q .2)
-seen-hand m i z o (C2 w x) onRight u h e q p l = absurd (q .2)
-seen-hand m i z o (C3 w x y) onLeft u h e q p l = omega (arith, p (q .0) (omega (arith, q .1)), q .2)
-seen-hand m i z o (C3 w x y) onRight u h e q p l = omega (arith, p (q .0) (omega (arith, q .1)), q .2)
-seen-hand m i z o (C4 w c) onLeft u h e q p l = omega (arith, p (q .0) (omega (arith, q .1)), q .2)
-seen-hand m i z o (C4 w c) onRight u h e q p l = omega (arith, p (q .0) (omega (arith, q .1)), q .2)
-seen-hand m i z o Q d u h e q p l = absurd q
+hand-seen : (m : Memory) (d : Side) (u i e : ℕ) (x : Hand) (y : Sight) → HasEnd d x e → Covers m d u i (handSight x d y) → i ≤ e
+hand-seen m d u i e none y q p = absurd q
+hand-seen m onLeft u i e (one l) y q p = omega arith
+hand-seen m onRight u i e (one l) y q p = absurd q
+hand-seen m onLeft u i e (two l r) y q p = omega arith
+hand-seen m onRight u i e (two l r) y q p = omega arith
+hand-seen m onLeft u i e (made n) y q p = omega arith
+hand-seen m onRight u i e (made n) y q p = omega arith
+
+held-seen : (m : Memory) (i z : ℕ) (x : Stage) (y : Sight) (d : Side) (u h e : ℕ) → Holds d x u h e
+    → (visitIn x .node ≡ u → z < visitIn x .head → Covers m d u i (stageSight x d y)) → z < h → i ≤ e
+held-seen m i z resting y d u h e q p l = absurd q
+held-seen m i z adding y d u h e q p l = absurd q
+held-seen m i z (advancing w a v j) y d u h e q p l = absurd q
+held-seen m i z (starting v t) y d u h e q p l = absurd q
+held-seen m i z (building w x) y d u h e q p l = hand-seen m d u i e x y (q .2) (p (q .0) (omega (arith, q .1)))
+held-seen m i z answering y d u h e q p l = absurd q
 
 seen-held : (m : Memory) (i z : ℕ) (x : Status) (d : Side) (u h e : ℕ) → Holds d (stageOf x) u h e → Seen m d u i z x → z < h → i ≤ e
 seen-held m i z Idle d u h e q p l = absurd q
-seen-held m i z (Busy o n) d u h e q p l = seen-hand m i z o n d u h e q p l
+seen-held m i z (Busy o n) d u h e q p l = held-seen m i z (stage n) (ownSight n d) d u h e q p l
 
 -- ---- a step of process k: from memory m and statuses at to memory n and statuses at'
 module _ (s : Shape) (m n : Memory) (at at' : ℕ → Status) (facts : MachineFacts s m at) (facts' : MachineFacts s n at') (k : ℕ) (kp : k < processes s) (o : Operation)

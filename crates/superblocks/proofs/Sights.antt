@@ -25,7 +25,7 @@ use Rattle.steps.specs.declared.Step.the-variants.{A, V1, V2, V3, R1, R2, R3, R
 use Rattle.steps.specs.declared.Status.the-variants.{Busy}
 use Rattle.steps.specs.Rules.{above, resume, advance, afterRefresh, help, built, joined, sameTotals, go, step}
 use Rattle.steps.proofs.Stages.{Stage, stage}
-use Rattle.steps.proofs.Progress.{Way}
+use Rattle.steps.proofs.Progress.{Carried}
 use Rattle.superblocks.proofs.Marks.{looking, advances, helpSight, Covers, covers-rises, Seen}
 
 -- what follows the advance of a refreshed node: the second refresh, or the way up
@@ -93,35 +93,35 @@ module _ (s : Shape) (m : Memory) (sound : Sound s m) (o : Operation) (u i z : �
     end-read d v e l = rw e (omega arith)
 
     -- every step
-    pub seen-turn : (n : Step) (d : Side) → Present s m (childOf d u) i → i ≤ headOf m (childOf d u) → Way s m hold k b (stage n) → Seen m d u i z (Busy o n)
+    pub seen-turn : (n : Step) (d : Side) → Present s m (childOf d u) i → i ≤ headOf m (childOf d u) → Carried s m hold k b (stage n) → Seen m d u i z (Busy o n)
         → Seen (step s k o m n .memory) d u i z (step s k o m n .next)
     unfolding step go resume setSuper write headOf built joined
-    seen-turn A d here low way q = seen-advance d _ _ Up (leafOf s k) (headOf m (leafOf s k)) (λ e l. tt)
-    seen-turn (V1 a w v h) d here low way q = q
-    seen-turn (V2 a w v h x) d here low way q = λ e l. covers-rises m (setSuper s m v h x) d u i (le-refl _) (helpSight a d v h) (q e l)
-    seen-turn (V3 a w v h) d here low way q = seen-resume sized d a w v h (way .node) (way .present) q
-    seen-turn (R1 p v) d here low way q = λ e l. tt
-    seen-turn (R2 w) onLeft here low way q = λ e l. head-read onLeft (w .node) low e
-    seen-turn (R2 w) onRight here low way q = λ e l. tt
-    seen-turn (R3 w c) onLeft here low way q =
+    seen-turn A d here low carried q = seen-advance d _ _ Up (leafOf s k) (headOf m (leafOf s k)) (λ e l. tt)
+    seen-turn (V1 a w v h) d here low carried q = q
+    seen-turn (V2 a w v h x) d here low carried q = λ e l. covers-rises m (setSuper s m v h x) d u i (le-refl _) (helpSight a d v h) (q e l)
+    seen-turn (V3 a w v h) d here low carried q = seen-resume sized d a w v h (carried .node) (carried .present) q
+    seen-turn (R1 p v) d here low carried q = λ e l. tt
+    seen-turn (R2 w) onLeft here low carried q = λ e l. head-read onLeft (w .node) low e
+    seen-turn (R2 w) onRight here low carried q = λ e l. tt
+    seen-turn (R3 w c) onLeft here low carried q =
         seen-help onLeft w Right (leftOf (w .node)) c (λ free e l. passed-over onLeft (w .node) c here e free (q e l)) (λ e l. helping onLeft (w .node) c e (q e l))
-    seen-turn (R3 w c) onRight here low way q = seen-help onRight w Right (leftOf (w .node)) c (λ free e l. tt) (λ e l. tt)
-    seen-turn (R4 w) onLeft here low way q = q
-    seen-turn (R4 w) onRight here low way q = λ e l. head-read onRight (w .node) low e
-    seen-turn (R5 w c) onLeft here low way q = seen-help onLeft w Ends (rightOf (w .node)) c (λ free. q) q
-    seen-turn (R5 w c) onRight here low way q =
+    seen-turn (R3 w c) onRight here low carried q = seen-help onRight w Right (leftOf (w .node)) c (λ free e l. tt) (λ e l. tt)
+    seen-turn (R4 w) onLeft here low carried q = q
+    seen-turn (R4 w) onRight here low carried q = λ e l. head-read onRight (w .node) low e
+    seen-turn (R5 w c) onLeft here low carried q = seen-help onLeft w Ends (rightOf (w .node)) c (λ free. q) q
+    seen-turn (R5 w c) onRight here low carried q =
         seen-help onRight w Ends (rightOf (w .node)) c (λ free e l. passed-over onRight (w .node) c here e free (q e l)) (λ e l. helping onRight (w .node) c e (q e l))
-    seen-turn (C1 w) onLeft here low way q = λ e l. end-read onLeft (w .node) e (q e l)
-    seen-turn (C1 w) onRight here low way q = q
-    seen-turn (C2 w x) onLeft here low way q = q
-    seen-turn (C2 w x) onRight here low way q = λ e l. end-read onRight (w .node) e (q e l)
-    seen-turn (C3 w x y) d here low way q =
+    seen-turn (C1 w) onLeft here low carried q = λ e l. end-read onLeft (w .node) e (q e l)
+    seen-turn (C1 w) onRight here low carried q = q
+    seen-turn (C2 w x) onLeft here low carried q = q
+    seen-turn (C2 w x) onRight here low carried q = λ e l. end-read onRight (w .node) e (q e l)
+    seen-turn (C3 w x y) d here low carried q =
         both (λ (n : Step). Seen m d u i z (Busy o n)) (sameTotals (built s m w x y) (block s m (w .node) (w .head - 1))) (seen-above d m (w .node)) (seen-built d q)
       where
         seen-built : (d : Side) → Seen m d u i z (Busy o (C3 w x y)) → Seen m d u i z (Busy o (C4 w (built s m w x y)))
         seen-built onLeft q = q
         seen-built onRight q = q
-    seen-turn (C4 w n) d here low way q =
+    seen-turn (C4 w n) d here low carried q =
         seen-advance d _ w _ (w .node) (w .head)
         (λ e l. next-refresh (λ (a : After). Covers (step s k o m (C4 w n) .memory) d u i (helpSight a d (w .node) (w .head))) tt tt (w .second) (absent (block s m (w .node) (w .head))))
-    seen-turn Q d here low way q = tt
+    seen-turn Q d here low carried q = tt

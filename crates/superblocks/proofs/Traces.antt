@@ -28,7 +28,7 @@ use Rattle.steps.specs.declared.Status.{Status}
 use Rattle.steps.specs.declared.Status.the-variants.{Busy}
 use Rattle.steps.specs.Rules.{above, resume, advance, afterRefresh, help, plusOperation, built, sameTotals, blockOf, go, step}
 use Rattle.steps.proofs.Stages.{Stage, stage}
-use Rattle.steps.proofs.Progress.{OwnLeaf, Way}
+use Rattle.steps.proofs.Progress.{OwnLeaf, Carried}
 use Rattle.steps.proofs.Invariant.{step-nodes}
 use Rattle.superblocks.proofs.Marks.{super, Asks, asks, Raises, raises}
 
@@ -157,45 +157,45 @@ plus-super (Put x) b = refl
 plus-super Take b = refl
 
 module _ (s : Shape) (m : Memory) (sized : Sized s m) (sound : Sound s m) (hold : ℕ → Stage) (k : ℕ) (kp : k < processes s) (o : Operation) (b : ℕ) where
-  pub traces : (n : Step) → OwnLeaf s m k b (stage n) → Way s m hold k b (stage n) → ((v i z : ℕ) → Asks v i z (Busy o n) → 1 < v → super s m v i ≡ 0 → 1 ≤ z)
+  pub traces : (n : Step) → OwnLeaf s m k b (stage n) → Carried s m hold k b (stage n) → ((v i z : ℕ) → Asks v i z (Busy o n) → 1 < v → super s m v i ≡ 0 → 1 ≤ z)
       → ((v i : ℕ) → 1 < v → Raises v i (Busy o n) → 1 ≤ super s m v i) → Traces s m (Busy o n) (step s k o m n .memory) (step s k o m n .next)
   unfolding step go write writeIfAbsent setSuper raise headOf blockOf
-  traces A own way some set =
+  traces A own carried some set =
       let h = headOf m (leafOf s k) in
       let none = own .ends h (omega (arith, own .some, own .head)) in
       quiet-after s m _ _ o _ (advance-quiet o _ Up (leafOf s k) h)
       (λ v i. inl (fresh-super s m sized sound (leafOf s k) h _ (leaf-node s k kp) none (plus-super o _) v i)) (λ v. inl refl)
-  traces (V1 a w u h) own way some set =
+  traces (V1 a w u h) own carried some set =
       record {
         supers = λ v i. inl refl;
         heads = λ v. inl refl;
         comesToV2 = λ v i z q. let e = asks-v2 o a w u h (headOf m (parentOf u)) v i z q in rw (← e .0, ← e .1) refl;
         comesToV3 = λ v i l. elim [ ];
       }
-  traces (V2 a w u h x) own way some set =
+  traces (V2 a w u h x) own carried some set =
       record {
-        supers = set-super s m sized o a w u h x (way .node);
+        supers = set-super s m sized o a w u h x (carried .node);
         heads = λ v. inl refl;
         comesToV2 = λ v i z. elim [ ];
         comesToV3 =
             λ v i l q.
             let e = raises-v3 o a w u h v i q in
-            rw (← e .0, ← e .1) (super-set s m sized u h x (way .node) (sound .node u (way .node)) (way .present) (λ f. some u h x (asks o a w) (omega (arith, e .0)) f));
+            rw (← e .0, ← e .1) (super-set s m sized u h x (carried .node) (sound .node u (carried .node)) (carried .present) (λ f. some u h x (asks o a w) (omega (arith, e .0)) f));
       }
-  traces (V3 a w u h) own way some set =
+  traces (V3 a w u h) own carried some set =
       quiet-after s m _ _ o _ (resume-quiet o a w) (λ v i. inl (raised-super s m u h v i)) (raised-head s m u h (λ l. set u h l (raises o a w)))
-  traces (R1 q u) own way some set = quiet s m _ o _ (λ v i z. elim [ ], λ v i l. elim [ ])
-  traces (R2 w) own way some set = quiet s m _ o _ (λ v i z. elim [ ], λ v i l. elim [ ])
-  traces (R3 w c) own way some set = quiet s m _ o _ (help-quiet o s m w Right (leftOf (w .node)) c)
-  traces (R4 w) own way some set = quiet s m _ o _ (λ v i z. elim [ ], λ v i l. elim [ ])
-  traces (R5 w c) own way some set = quiet s m _ o _ (help-quiet o s m w Ends (rightOf (w .node)) c)
-  traces (C1 w) own way some set = quiet s m _ o _ (λ v i z. elim [ ], λ v i l. elim [ ])
-  traces (C2 w l) own way some set = quiet s m _ o _ (λ v i z. elim [ ], λ v i l. elim [ ])
-  traces (C3 w l r) own way some set =
+  traces (R1 q u) own carried some set = quiet s m _ o _ (λ v i z. elim [ ], λ v i l. elim [ ])
+  traces (R2 w) own carried some set = quiet s m _ o _ (λ v i z. elim [ ], λ v i l. elim [ ])
+  traces (R3 w c) own carried some set = quiet s m _ o _ (help-quiet o s m w Right (leftOf (w .node)) c)
+  traces (R4 w) own carried some set = quiet s m _ o _ (λ v i z. elim [ ], λ v i l. elim [ ])
+  traces (R5 w c) own carried some set = quiet s m _ o _ (help-quiet o s m w Ends (rightOf (w .node)) c)
+  traces (C1 w) own carried some set = quiet s m _ o _ (λ v i z. elim [ ], λ v i l. elim [ ])
+  traces (C2 w l) own carried some set = quiet s m _ o _ (λ v i z. elim [ ], λ v i l. elim [ ])
+  traces (C3 w l r) own carried some set =
       quiet s m _ o _
       (both (Quiet o) (sameTotals (built s m w l r) (block s m (w .node) (w .head - 1))) (above-quiet o (w .node)) (λ v i z. elim [ ], λ v i l. elim [ ]))
-  traces (C4 w n) own way some set =
-      let inner = step-nodes s m hold k kp b (C4 w n) way in
+  traces (C4 w n) own carried some set =
+      let inner = step-nodes s m hold k kp b (C4 w n) carried in
       quiet-after s m _ _ o _ (advance-quiet o w (afterRefresh (w .second) (absent (block s m (w .node) (w .head)))) (w .node) (w .head))
       (write-super s m sized sound (w .node) (w .head) (blockOf n) (inner-node s (w .node) inner) refl (Busy o (C4 w n))) (λ v. inl refl)
-  traces Q own way some set = record { supers = λ v i. inl refl; heads = λ v. inl refl; comesToV2 = λ v i z. elim [ ]; comesToV3 = λ v i l. elim [ ] }
+  traces Q own carried some set = record { supers = λ v i. inl refl; heads = λ v. inl refl; comesToV2 = λ v i z. elim [ ]; comesToV3 = λ v i l. elim [ ] }

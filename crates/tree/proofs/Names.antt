@@ -36,16 +36,20 @@ other-serial x y d = rw (ne-eqb (x .serial) (y .serial) d, and-false)
 
 -- ---- lists of operations
 
+-- a count of the elements that pass a test adds up over two lists
+pub count-append : {A : Type 0} (test : A → Bool) (n : List A → ℕ) → n [] ≡ 0 → ((x : A) (xs : List A) → n (x ∷ xs) ≡ (if test x then suc (n xs) else n xs))
+    → (xs ys : List A) → n (xs ++ ys) ≡ n xs + n ys
+count-append test n none more [] ys = omega (arith, none)
+count-append test n none more (x ∷ xs) ys = rw (more x (xs ++ ys), more x xs) (on (test x) (count-append test n none more xs ys))
+  where
+    on : (b : Bool) → n (xs ++ ys) ≡ n xs + n ys → (if b then suc (n (xs ++ ys)) else n (xs ++ ys)) ≡ (if b then suc (n xs) else n xs) + n ys
+    on true ih = omega arith
+    on false ih = omega arith
+
 module _ (x : OpId) where
   pub times-append : (ys zs : List OpId) → times x (ys ++ zs) ≡ times x ys + times x zs
   unfolding times
-  times-append [] zs = omega arith
-  times-append (y ∷ ys) zs = on (same x y) (times-append ys zs)
-    where
-      on : (b : Bool) → times x (ys ++ zs) ≡ times x ys + times x zs
-          → (if b then suc (times x (ys ++ zs)) else times x (ys ++ zs)) ≡ (if b then suc (times x ys) else times x ys) + times x zs
-      on true ih = omega arith
-      on false ih = omega arith
+  times-append = count-append (same x) (times x) refl (λ y ys. refl)
 
   pub rank-none : (xs : List OpId) → times x xs ≡ 0 → rankIn x xs ≡ 0
   unfolding times rankIn

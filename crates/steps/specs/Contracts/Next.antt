@@ -12,28 +12,29 @@ use Rattle.steps.specs.declared.Step.{Step}
 use Rattle.steps.specs.declared.Step.the-variants.{A, V1, V2, V3, R1, R2, R3, R4, R5, C1, C2, C3, C4, Q}
 use Rattle.steps.specs.Rules.{step, go}
 use Rattle.tree.specs.Contracts.Access.{Begins}
+use Rattle.tree.specs.Memory.{memoryOf}
 
 -- the parts of the nodes whose blocks a step looks at begin and end where they do in a tree of shape s; A, which knows its leaf from its process, is told it
-abbrev pub Placed : Shape → List ℕ → Step → Type 0
-Placed s starts A = Unit {0}
-Placed s starts (V1 a w v h) = Unit {0}
-Placed s starts (V2 a w v h x) = Begins s starts v
-Placed s starts (V3 a w v h) = Unit {0}
-Placed s starts (R1 second v) = Unit {0}
-Placed s starts (R2 w) = Unit {0}
-Placed s starts (R3 w c) = Begins s starts (2 * w .node)
-Placed s starts (R4 w) = Unit {0}
-Placed s starts (R5 w c) = Begins s starts (2 * w .node + 1)
-Placed s starts (C1 w) = Unit {0}
-Placed s starts (C2 w l) = Unit {0}
-Placed s starts (C3 w l r) = Begins s starts (w .node) × Begins s starts (2 * w .node) × Begins s starts (2 * w .node + 1)
-Placed s starts (C4 w n) = Begins s starts (w .node)
-Placed s starts Q = Unit {0}
+abbrev pub PartsBegin : Shape → List ℕ → Step → Type 0
+PartsBegin s starts A = Unit {0}
+PartsBegin s starts (V1 a w v h) = Unit {0}
+PartsBegin s starts (V2 a w v h x) = Begins s starts v
+PartsBegin s starts (V3 a w v h) = Unit {0}
+PartsBegin s starts (R1 second v) = Unit {0}
+PartsBegin s starts (R2 w) = Unit {0}
+PartsBegin s starts (R3 w c) = Begins s starts (2 * w .node)
+PartsBegin s starts (R4 w) = Unit {0}
+PartsBegin s starts (R5 w c) = Begins s starts (2 * w .node + 1)
+PartsBegin s starts (C1 w) = Unit {0}
+PartsBegin s starts (C2 w l) = Unit {0}
+PartsBegin s starts (C3 w l r) = Begins s starts (w .node) × Begins s starts (2 * w .node) × Begins s starts (2 * w .node + 1)
+PartsBegin s starts (C4 w n) = Begins s starts (w .node)
+PartsBegin s starts Q = Unit {0}
 
 -- there is a tree whose parts begin where the starts say, as far as the step looks at them
 pub record Fits (starts : List ℕ) (n : Step) : Type 0 where
   pub shape : Shape
-  pub placed : Placed shape starts n
+  pub begins : PartsBegin shape starts n
 
 -- there is one that has a process with this leaf, whose part begins where the starts say
 pub record FitsLeaf (starts : List ℕ) (leaf : ℕ) : Type 0 where
@@ -72,11 +73,26 @@ Moves q r = r ≡ moved q (operationIn (q .status)) (stepIn (r .status))
 -- q becomes r by a step that looks at these heads alone and leaves heads'
 abbrev pub NextByHeads : List ℕ → List ℕ → Process → Process → Type 0
 NextByHeads heads heads' q r = Moves q r × ((s : Shape) (k : ℕ) (o : Operation) (table : List ℕ)
-    → step s k o (record { table = table; heads = heads }) (stepIn (q .status))
-    ≡ go s k o (record { table = table; heads = heads }) (record { table = table; heads = heads' }) (stepIn (r .status)))
+    → step s k o (memoryOf table heads) (stepIn (q .status))
+    ≡ go s k o (memoryOf table heads) (memoryOf table heads') (stepIn (r .status)))
 
--- q becomes r by a step that looks at this table alone, by the starts of its parts, and leaves table'
+-- step n leads to n' and leaves table', whatever the heads are: it looks at this table alone, by the starts of its parts
+abbrev pub LeadsByTable : List ℕ → List ℕ → List ℕ → Step → Step → Type 0
+LeadsByTable starts table table' n n' = (s : Shape) (k : ℕ) (o : Operation) (heads : List ℕ) → PartsBegin s starts n
+    → step s k o (memoryOf table heads) n
+    ≡ go s k o (memoryOf table heads) (memoryOf table' heads) n'
+
+-- q becomes r by such a step
 abbrev pub NextByTable : List ℕ → List ℕ → List ℕ → Process → Process → Type 0
-NextByTable starts table table' q r = Moves q r × ((s : Shape) (k : ℕ) (o : Operation) (heads : List ℕ) → Placed s starts (stepIn (q .status))
-    → step s k o (record { table = table; heads = heads }) (stepIn (q .status))
-    ≡ go s k o (record { table = table; heads = heads }) (record { table = table'; heads = heads }) (stepIn (r .status)))
+NextByTable starts table table' q r = Moves q r × LeadsByTable starts table table' (stepIn (q .status)) (stepIn (r .status))
+
+-- The functions of the named steps. A name is told by what it is to say P of each step of that name: of R2, (w : Visit) → P (R2 w). Where process q is at such a step,
+-- Next holds; where it is at a step of another name, nothing changes
+abbrev pub AtName : ((Step → Type 0) → Type 0) → Process → Type 0 → Type 0 → Type 0
+AtName Each q Next Same = Each (λ n. stepIn (q .status) ≡ n → Next) × (Each (λ n. stepIn (q .status) ≡ n → ⊥) → Same)
+
+abbrev pub StepsByHeads : ((Step → Type 0) → Type 0) → List ℕ → List ℕ → Process → Process → Type 0
+StepsByHeads Each heads heads' q r = AtName Each q (NextByHeads heads heads' q r) ((r ≡ q) × (heads' ≡ heads))
+
+abbrev pub StepsByTable : ((Step → Type 0) → Type 0) → List ℕ → List ℕ → List ℕ → Process → Process → Type 0
+StepsByTable Each starts table table' q r = AtName Each q (NextByTable starts table table' q r) ((r ≡ q) × (table' ≡ table))

@@ -39,20 +39,21 @@ same-length c = search needs
 returns : tie.Need-returns
 unfolding step go headOf write block
 returns c =
-    let a = c .before .before .before .before .before .before .before .before .before .before .before .before .before .args in
+    let w = c .before .before .before .before in
+    let b = w .before .before .before .before in
     rw (c .moved .ensures) (
       refl,
-      λ s k e n.
+      λ s k own g.
           rw (
-            ← e,
+            ← own,
             c .before .advance .ensures,
-            c .before .before .before .before .write-at .ensures,
-            node-written s (a .starts .now) (a .table .now) (a .leaf) _ _ n,
-            c .before .before .before .before .before .before .plus-operation .ensures,
-            c .before .before .before .before .before .before .before .operation-in .ensures,
-            c .before .before .before .before .before .before .before .before .block-at .ensures,
-            node-read s (a .starts .now) (a .table .now) (a .leaf) _ n,
-            c .before .before .before .before .before .before .before .before .before .before .head-of .ensures,
+            w .write-at .ensures,
+            node-written s _ _ _ _ _ g,
+            w .before .before .plus-operation .ensures,
+            w .before .before .before .operation-in .ensures,
+            b .block-at .ensures,
+            node-read s _ _ _ _ g,
+            b .before .before .head-of .ensures,
           ),
     )
 

@@ -1,13 +1,17 @@
 -- `blocks::step_c4` meets its contract. Assumes nothing.
-use mathlib.Core.Path.{refl, sym, _∙_, subst}
+use mathlib.Core.Path.{_≡_, refl, sym, _∙_}
 use Rattle.tree.specs.Memory.{block, writeIfAbsent}
+use Rattle.steps.specs.declared.Step.the-variants.{C4}
 use Rattle.steps.specs.Rules.{step, go}
-use Rattle.steps.specs.Contracts.Next.{Placed}
+use Rattle.steps.specs.Contracts.Next.{stepIn}
 use Rattle.tree.proofs.NodeReads.{node-read, node-written}
-use Rattle.steps.proofs.Told.{other, busy}
+use Rattle.steps.proofs.StepNames.{other, busy}
 use borrow.Author.Needs.{needs}
 use Rattle.steps.proofs.blocks.step_c4.Statement.{statement}
 use Rattle.steps.proofs.blocks.step_c4.Tie as tie
+
+at : (c : tie.After-visit) → let x = c .visit .given .0 in stepIn (c .before .before .before .before .args .q .status) ≡ C4 (x .0) (x .1 .0)
+at c = sym (c .before .before .step-in .ensures) ∙ c .visit .given .1
 
 step-in-requires : tie.Need-step-in-requires
 step-in-requires c κs = search needs
@@ -22,9 +26,7 @@ block-of-requires : tie.Need-block-of-requires
 block-of-requires c κs = search needs
 
 write-if-absent-requires : tie.Need-write-if-absent-requires
-write-if-absent-requires c κs =
-    let p = (c .before .before .before .before .before .before .before .pre .1 _ _ (sym (c .before .before .before .before .before .step-in .ensures) ∙ c .before .before .before .visit .given .1)) .0 in
-    search needs
+write-if-absent-requires c κs = let p = c .before .before .before .before .before .before .before .pre .1 _ _ (at (c .before .before .before)) .0 in search needs
 
 after-refresh-requires : tie.Need-after-refresh-requires
 after-refresh-requires c κs = search needs
@@ -33,9 +35,7 @@ advance-requires : tie.Need-advance-requires
 advance-requires c κs = search needs
 
 moved-requires : tie.Need-moved-requires
-moved-requires c κs =
-    let told = sym (c .before .before .before .before .before .before .before .before .before .before .step-in .ensures) ∙ c .before .before .before .before .before .before .before .before .visit .given .1 in
-    (search needs, busy _ told tt)
+moved-requires c κs = (search needs, busy _ (at (c .before .before .before .before .before .before .before .before)) tt)
 
 same-length : tie.Need-same-length
 same-length c = search needs
@@ -43,25 +43,24 @@ same-length c = search needs
 returns-2 : tie.Need-returns-2
 unfolding step go writeIfAbsent block
 returns-2 c =
-    let told = sym (c .before .before .before .before .before .before .before .before .before .before .before .step-in .ensures) ∙ c .before .before .before .before .before .before .before .before .before .visit .given .1 in
-    let a = c .before .before .before .before .before .before .before .before .before .before .before .before .before .args in
-    let p = c .before .before .before .before .before .write-if-absent .ensures in (
+    let here = at (c .before .before .before .before .before .before .before .before .before) in
+    let w = c .before .before .before .before .before in (
       λ _ _ _. rw (c .moved .ensures) (
         refl,
-        λ s k o heads i.
-            let g = subst (Placed s (a .starts .now)) told i in
+        λ s k o heads b.
+            let g = rw here at b in
             rw (
-              told,
+              here,
               c .before .advance .ensures,
               c .before .before .after-refresh .ensures,
-              p .1,
-              node-written s (a .starts .now) (a .table .now) _ _ _ g,
-              c .before .before .before .before .before .before .block-of .ensures,
-              p .0,
-              node-read s (a .starts .now) (a .table .now) _ _ g,
+              w .write-if-absent .ensures .1,
+              node-written s _ _ _ _ _ g,
+              w .before .block-of .ensures,
+              w .write-if-absent .ensures .0,
+              node-read s _ _ _ _ g,
             ),
       ),
-      λ no. absurd (no _ _ told),
+      λ no. absurd (no _ _ here),
     )
 
 pub step-c4-spec : {M : Type 1} → statement M

@@ -1,12 +1,17 @@
 -- `heads::step_r2` meets its contract. Assumes nothing.
-use mathlib.Core.Path.{refl, sym, _∙_}
+use mathlib.Core.Path.{_≡_, refl, sym, _∙_}
 use Rattle.tree.specs.Shape.{leftOf}
 use Rattle.tree.specs.Memory.{headOf}
+use Rattle.steps.specs.declared.Step.the-variants.{R2}
 use Rattle.steps.specs.Rules.{step, go}
-use Rattle.steps.proofs.Told.{other, busy}
+use Rattle.steps.specs.Contracts.Next.{stepIn}
+use Rattle.steps.proofs.StepNames.{other, busy}
 use borrow.Author.Needs.{needs}
 use Rattle.steps.proofs.heads.step_r2.Statement.{statement}
 use Rattle.steps.proofs.heads.step_r2.Tie as tie
+
+at : (c : tie.After-visit) → stepIn (c .before .before .before .before .args .q .status) ≡ R2 (c .visit .given .0 .0)
+at c = sym (c .before .before .step-in .ensures) ∙ c .visit .given .1
 
 step-in-requires : tie.Need-step-in-requires
 step-in-requires c κs = search needs
@@ -15,26 +20,19 @@ enum-known-visit : tie.Need-enum-known-visit
 enum-known-visit c = search needs
 
 returns : tie.Need-returns
-returns c = (λ _ e. absurd (other (c .match .keys2) (c .before .step-in .ensures ∙ e) tt), λ _. refl)
+returns c = (λ _ e. absurd (other (c .match .keys2) (c .before .step-in .ensures ∙ e) tt), λ _. (refl, refl))
 
-mul-head-of : tie.Need-mul-head-of
-mul-head-of c =
-    let p = c .before .before .before .before .before .before .pre .1 _ (sym (c .before .before .before .before .step-in .ensures) ∙ c .before .before .visit .given .1) in
-    search needs
-
-head-of-requires : tie.Need-head-of-requires
-head-of-requires c κs =
-    let p = c .before .before .before .before .before .before .pre .1 _ (sym (c .before .before .before .before .step-in .ensures) ∙ c .before .before .visit .given .1) in
-    search needs
+left-head-requires : tie.Need-left-head-requires
+left-head-requires c κs = let p = c .before .before .before .before .before .pre .1 _ (at (c .before)) in search needs
 
 moved-requires : tie.Need-moved-requires
-moved-requires c κs = (search needs, busy _ (sym (c .before .before .before .before .before .step-in .ensures) ∙ c .before .before .before .visit .given .1) tt)
+moved-requires c κs = (search needs, busy _ (at (c .before .before)) tt)
 
 returns-2 : tie.Need-returns-2
 unfolding step go headOf leftOf
 returns-2 c =
-    let told = sym (c .before .before .before .before .before .before .step-in .ensures) ∙ c .before .before .before .before .visit .given .1 in
-    (λ _ _. rw (c .moved .ensures) (refl, λ s k o t. rw (told, c .before .head-of .ensures)), λ no. absurd (no _ told))
+    let here = at (c .before .before .before) in
+    (λ _ _. rw (c .moved .ensures) (refl, λ s k o table. rw (here, c .before .left-head .ensures)), λ no. absurd (no _ here))
 
 pub step-r2-spec : {M : Type 1} → statement M
 step-r2-spec =
@@ -43,7 +41,6 @@ step-r2-spec =
     step-in-requires
     enum-known-visit
     returns
-    mul-head-of
-    head-of-requires
+    left-head-requires
     moved-requires
     returns-2)

@@ -22,10 +22,10 @@ use Rattle.steps.specs.declared.Visit.{Visit}
 use Rattle.steps.specs.declared.After.the-variants.{Up}
 use Rattle.steps.specs.declared.Built.{Built}
 use Rattle.steps.specs.Rules.{afterRefresh, plusOperation, blockOf}
-use Rattle.steps.proofs.Stages.{made, Stage, advancing, Holds, none-empty}
+use Rattle.steps.proofs.Stages.{made, Stage, advancing, Holds}
 use Rattle.steps.proofs.Turns.{Turn, afterHelp, rests, adds, supers, raises, starts, helps, endsLeft, endsRight, makes, finds, writes, meets, finishes}
-use Rattle.steps.proofs.Progress.{LeafOpen, OwnLeaf, Threshold, Refreshing, Passing, Failed, AfterAdvance, Advancing, Building, Way}
-use Rattle.steps.proofs.Others.{Effect, Registers, hand-below, reached, covered-stable, owed-stable, refreshing-stable, after-stable, way-stable, sound'}
+use Rattle.steps.proofs.Progress.{LeafOpen, OwnLeaf, Threshold, Refreshing, Passing, Failed, AfterAdvance, Advancing, Building, Carried}
+use Rattle.steps.proofs.Others.{Effect, Registers, hand-below, reached, covered-stable, owed-stable, refreshing-stable, after-stable, carried-stable, sound'}
 use Rattle.steps.proofs.Effects.{plus-one, made-has, build-fresh}
 use Rattle.steps.proofs.OwnTurn.{resumed, started, read-left, read-right, made-block, nothing-new}
 
@@ -112,21 +112,21 @@ module _ (s : Shape) (m : Memory) (sized : Sized s m) (sound : Sound s m) (hold 
         }
 
     -- ---- every turn
-    pub way-turn : {x : Stage} {n : Memory} {y : Stage} → Turn s k o m x n y → hold k ≡ x → hold' k ≡ y → Effect s k o m (hold k) n (hold' k) → OwnLeaf s m k b x → Way s m hold k b x
-        → Way s n hold' k b y
-    way-turn (rests x) e f eff own p = way-stable s m m sound hold hold' k kp o eff others regs k kp b x p
-    way-turn adds e f eff own p =
+    pub carried-turn : {x : Stage} {n : Memory} {y : Stage} → Turn s k o m x n y → hold k ≡ x → hold' k ≡ y → Effect s k o m (hold k) n (hold' k) → OwnLeaf s m k b x → Carried s m hold k b x
+        → Carried s n hold' k b y
+    carried-turn (rests x) e f eff own p = carried-stable s m m sound hold hold' k kp o eff others regs k kp b x p
+    carried-turn adds e f eff own p =
         added _ (write-here s m (leafOf s k) (headOf m (leafOf s k)) (plusOperation o (block s m (leafOf s k) (headOf m (leafOf s k) - 1))) sized (leaf-node s k kp)
         (omega (arith, leaf-places s k kp, own .head))) own
-    way-turn (supers w a v h z) e f eff own p = way-stable s m _ sound hold hold' k kp o eff others regs k kp b (advancing w a v h) p
-    way-turn (raises w a v h) e f eff own p =
+    carried-turn (supers w a v h z) e f eff own p = carried-stable s m _ sound hold hold' k kp o eff others regs k kp b (advancing w a v h) p
+    carried-turn (raises w a v h) e f eff own p =
         let nv : Node s v = p .node in
         resumed s (raise m v h) (sound' s m (raise m v h) sound hold hold' k kp o eff others regs k kp b) hold' k kp b w a v h
         (raise-past m v h (omega (arith, nv .last, sized .heads)) (present-low (sound .node v nv) h (p .present)))
         (after-stable s m (raise m v h) sound hold hold' k kp o eff others regs k kp b w a v h (p .present) (p .then))
-    way-turn (starts v q) e f eff own p =
-        started s m sound hold hold' k kp o eff others regs b v q (λ d u h z r. none-empty d z ((subst (λ (y : Stage). Holds d y u h z) f r) .2)) p
-    way-turn (helps w d c g) e f eff own p =
+    carried-turn (starts v q) e f eff own p =
+        started s m sound hold hold' k kp o eff others regs b v q (λ d u h z r. (subst (λ (y : Stage). Holds d y u h z) f r) .2) p
+    carried-turn (helps w d c g) e f eff own p =
         record {
           node = child-node s d (w .node) (refresh-inner w (p .refreshing));
           present = present-count (block s m (childOf d (w .node)) c) g;
@@ -136,18 +136,18 @@ module _ (s : Shape) (m : Memory) (sized : Sized s m) (sound : Sound s m) (hold 
         helped : (d : Side) → Refreshing s m hold' k b w → AfterAdvance s m hold' k b w (afterHelp d) (childOf d (w .node)) c
         helped onLeft r = r
         helped onRight r = r
-    way-turn (endsLeft w l g) e f eff own p = read-left s m sound hold hold' k kp o eff others regs b w (p .refreshing) l g
-    way-turn (endsRight w l r g) e f eff own p = read-right s m sound hold hold' k kp o eff others regs b w l r g p
-    way-turn (makes w l r g) e f eff own p = made-block s m sound hold hold' k kp o eff others regs b w l r p g
-    way-turn (finds w l r g) e f eff own p = nothing-new s m sound hold hold' k kp o eff others regs b w l r p g
-    way-turn (writes w c g) e f eff own p =
+    carried-turn (endsLeft w l g) e f eff own p = read-left s m sound hold hold' k kp o eff others regs b w (p .refreshing) l g
+    carried-turn (endsRight w l r g) e f eff own p = read-right s m sound hold hold' k kp o eff others regs b w l r g p
+    carried-turn (makes w l r g) e f eff own p = made-block s m sound hold hold' k kp o eff others regs b w l r p g
+    carried-turn (finds w l r g) e f eff own p = nothing-new s m sound hold hold' k kp o eff others regs b w l r p g
+    carried-turn (writes w c g) e f eff own p =
         let iv : Inner s (w .node) = refresh-inner w (p .refreshing) in
         let put = write-here s m (w .node) (w .head) (blockOf c) sized (inner-node s (w .node) iv) (place-within w c p iv g) in
         record { node = inner-node s (w .node) iv; present = rw put (omega (arith, p .hand .0 .more)); then = after-written _ eff w c p put }
-    way-turn (meets w c g) e f eff own p =
+    carried-turn (meets w c g) e f eff own p =
         record {
           node = inner-node s (w .node) (refresh-inner w (p .refreshing));
           present = present-count (block s m (w .node) (w .head)) g;
           then = after-taken m eff w c p (w .second) refl g;
         }
-    way-turn finishes e f eff own p = tt
+    carried-turn finishes e f eff own p = tt
