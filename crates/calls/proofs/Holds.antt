@@ -19,7 +19,7 @@ use Rattle.tree.proofs.Once.{InBlock, stands-most, in-block}
 use Rattle.steps.specs.Machine.{Machine}
 use Rattle.steps.proofs.Costs.{rest-first}
 use Rattle.calls.specs.History.{Event, ownSteps}
-use Rattle.calls.specs.Demand3.{queueAfter, stepLimit, Kept}
+use Rattle.calls.specs.Demand3.{queueAfter, stepLimit, QueuePromises}
 use Rattle.calls.proofs.Agrees.{Before, Agrees}
 use Rattle.calls.proofs.RecordsStay.{standing-opened, finished-stands}
 use Rattle.calls.proofs.RootQueue.{queue-length}
@@ -72,7 +72,7 @@ module _ {s : Shape} {m : Machine} {c : ℕ → ℕ} {h : List Event} {log : Lis
   unfolding stepLimit
   bounded x = omega (arith, ag .few x, rest-first s tall)
 
-  pub kept : Kept s h (logBytes log) t
+  pub kept : QueuePromises s h (logBytes log) t
   kept =
       record {
         finishedOnce = finished-stands ag tall;

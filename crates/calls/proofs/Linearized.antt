@@ -27,7 +27,7 @@ use Rattle.tree.proofs.Reached.{reached, reached-present}
 use Rattle.tree.proofs.Once.{kind-count, stands-found}
 use Rattle.steps.specs.Machine.{Machine}
 use Rattle.calls.specs.History.{Event, opens, moves, finishes, operation, isFinish, isFinished}
-use Rattle.calls.specs.Demand3.{queueAnswer, queueRecord, finishing, Kept}
+use Rattle.calls.specs.Demand3.{queueAnswer, queueRecord, finishing, QueuePromises}
 use Rattle.calls.specs.Linearizable.{response, precedes, Linearizable}
 use Rattle.calls.proofs.Agrees.{Before, Agrees}
 use Rattle.calls.proofs.Holds.{kept}
@@ -83,7 +83,7 @@ module _ {s : Shape} {m : Machine} {c : ℕ → ℕ} {h : List Event} {log : Lis
   sound : Sound s (m .memory)
   sound = ag .invariant .sound
 
-  holds : Kept s h (logBytes log) (m .memory .table)
+  holds : QueuePromises s h (logBytes log) (m .memory .table)
   holds = kept ag tall
 
   -- ---- the root order, cut after a root block

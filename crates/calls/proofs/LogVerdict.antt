@@ -24,7 +24,7 @@ use Rattle.calls.specs.Refusals.{accepted, torn}
 use Rattle.tree.specs.Shape.{shapeFor}
 use Rattle.calls.specs.Run.{Played}
 use Rattle.calls.specs.ListOrder.{playAll}
-use Rattle.calls.specs.CheckLog.{CheckLeaves, sameBytes, compared, verdictNumber, verdictIndex, checkRefusal, checked, verdictOn, checkPlayed, checkLog}
+use Rattle.calls.specs.CheckLog.{CheckResult, sameBytes, compared, verdictNumber, verdictIndex, checkRefusal, checked, verdictOn, checkPlayed, checkLog}
 use Rattle.calls.specs.LogVerdict.{logOfRules, NoRefusal, recordAt, DifferFirst, Judges}
 use Rattle.calls.proofs.SameBytes.{same-equal, itself-same}
 use Rattle.calls.proofs.CallAccepted.{accepted-zero, zero-accepted, check-whole}
@@ -187,6 +187,6 @@ module _ (p l : ℕ) (records log table : List ℕ) where
   pub check-judges : Judges p l (length table) records log (checkLog p l records log table .verdict) (checkLog p l records log table .index)
   unfolding checkLog checkPlayed checked
   check-judges =
-      cases (λ (e : CheckLeaves). Judges p l (length table) records log (e .verdict) (e .index)) (accepted call)
+      cases (λ (e : CheckResult). Judges p l (length table) records log (e .verdict) (e .index)) (accepted call)
       (λ ok. judges-played ok)
       (λ down. judges-refused p l (length table) records log call (λ none. contradiction (accepted call) (accepted-zero call (none .call)) down))

@@ -20,7 +20,7 @@ use Rattle.steps.specs.Machine.{Machine}
 use Rattle.calls.specs.Refusals.{accepted, callRefusal}
 use Rattle.calls.specs.Run.{Played, play, runPlayed, run}
 use Rattle.calls.specs.History.{machineAfter, history}
-use Rattle.calls.specs.Demand3.{Kept, Demand3, RunKeeps}
+use Rattle.calls.specs.Demand3.{QueuePromises, Demand3, RunKeeps}
 use Rattle.calls.proofs.Played.{played-machine, played-answers, played-legal}
 use Rattle.calls.proofs.Runs.{Run, runs}
 use Rattle.calls.proofs.Holds.{kept}
@@ -36,10 +36,10 @@ module _ (s : Shape) (tall : 1 ≤ s .height) (room : ℕ) (rs : List StepRecord
   agreed : Run s took
   agreed = runs s tall (played-legal s room rs)
 
-  pub played-kept : Kept s (history s took) (logBytes (g .answers)) (g .machine .memory .table)
+  pub played-kept : QueuePromises s (history s took) (logBytes (g .answers)) (g .machine .memory .table)
   played-kept =
-      subst (λ (x : Machine). Kept s (history s took) (logBytes (g .answers)) (x .memory .table)) (sym (played-machine s room rs))
-      (subst (λ (l : List AnswerRecord). Kept s (history s took) (logBytes l) (machineAfter s took .memory .table)) (sym (played-answers s room rs)) (kept agreed tall))
+      subst (λ (x : Machine). QueuePromises s (history s took) (logBytes (g .answers)) (x .memory .table)) (sym (played-machine s room rs))
+      (subst (λ (l : List AnswerRecord). QueuePromises s (history s took) (logBytes l) (machineAfter s took .memory .table)) (sym (played-answers s room rs)) (kept agreed tall))
 
   played-words : length (g .machine .memory .table) ≡ wordsNeeded s
   played-words = ap (λ (x : Machine). length (x .memory .table)) (played-machine s room rs) ∙ agreed .invariant .sized .words

@@ -11,8 +11,8 @@ use Rattle.tree.specs.Order.{rootOrder}
 use Rattle.calls.specs.declared.Refusal.{Refusal}
 use Rattle.calls.specs.Refusals.{refusalNumber, accepted, callRefusal}
 use Rattle.tree.specs.Shape.{shapeFor}
-use Rattle.calls.specs.Run.{RunLeaves, Played, play, runPlayed, runTurnedDown, run}
-use Rattle.calls.specs.ListOrder.{ListLeaves, playAll, listRefusal, listed, listPlayed, listOrder}
+use Rattle.calls.specs.Run.{RunResult, Played, play, runPlayed, runTurnedDown, run}
+use Rattle.calls.specs.ListOrder.{ListResult, playAll, listRefusal, listed, listPlayed, listOrder}
 use Rattle.order.specs.OrderList.{orderList}
 use Rattle.calls.specs.Continuation.{orderLeft, listWritten}
 use Rattle.calls.proofs.CallAccepted.{accepted-zero}
@@ -45,12 +45,12 @@ module _ (p l : ℕ) (records table answers : List ℕ) where
     pub run-played : accepted (g .refusal) ≡ true
     unfolding runPlayed
     run-played =
-        accepted-zero (g .refusal) (sym (ap (λ (e : RunLeaves). e .refusal) (run-is p l records table answers run-accepted)) ∙ none)
+        accepted-zero (g .refusal) (sym (ap (λ (e : RunResult). e .refusal) (run-is p l records table answers run-accepted)) ∙ none)
 
     pub run-order : orderLeft p l (run p l records table answers) ≡ rootOrder (shapeFor p l) (g .machine .memory .table)
     unfolding orderLeft
     run-order =
-        ap (λ (e : RunLeaves). rootOrder (shapeFor p l) (take (wordsNeeded (shapeFor p l)) (e .table))) (run-is p l records table answers run-accepted)
+        ap (λ (e : RunResult). rootOrder (shapeFor p l) (take (wordsNeeded (shapeFor p l)) (e .table))) (run-is p l records table answers run-accepted)
         ∙ ap (rootOrder (shapeFor p l)) (table-is p l records table answers run-accepted)
 
 -- ---- list the order on some bytes, without refusal
@@ -79,7 +79,7 @@ module _ (p l : ℕ) (records table output : List ℕ) where
     -- the refusal of the records, or 10
     final : refusalNumber (listRefusal (all .refusal) (length orders) (length output)) ≡ 0
     unfolding listPlayed listed
-    final = sym (ap (λ (e : ListLeaves). e .refusal) list-is) ∙ none
+    final = sym (ap (λ (e : ListResult). e .refusal) list-is) ∙ none
 
     refused : accepted (all .refusal) ≡ false → listRefusal (all .refusal) (length orders) (length output) ≡ all .refusal
     unfolding listRefusal
@@ -91,5 +91,5 @@ module _ (p l : ℕ) (records table output : List ℕ) where
     pub list-bytes : listWritten (listOrder p l records table output) ≡ orders
     unfolding listWritten listPlayed listed
     list-bytes =
-        ap (λ (e : ListLeaves). take (e .length) (e .output)) list-is
+        ap (λ (e : ListResult). take (e .length) (e .output)) list-is
         ∙ rw (accepted-zero (listRefusal (all .refusal) (length orders) (length output)) final) (take-at orders (drop (length orders) output) (length orders) refl)

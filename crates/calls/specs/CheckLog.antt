@@ -53,13 +53,13 @@ verdictRefusal (Differs i) = 0
 verdictRefusal (Refused n) = refusalNumber n
 
 -- what the call returns, in numbers, and all that it leaves in the work table
-pub record CheckLeaves : Type 0 where
+pub record CheckResult : Type 0 where
   pub refusal : ℕ
   pub verdict : ℕ
   pub index : ℕ
   pub table : List ℕ
 
-unfoldable pub checked : Verdict → List ℕ → CheckLeaves
+unfoldable pub checked : Verdict → List ℕ → CheckResult
 checked v table = record { refusal = verdictRefusal v; verdict = verdictNumber v; index = verdictIndex v; table = table }
 
 -- the verdict on a list that was played; a refusal gives neither 'same' nor 'differs'
@@ -68,11 +68,11 @@ verdictOn g log =
     if accepted (g .refusal) then compared 0 (map answerBytes (g .answers)) (cut answerSize (length log / answerSize) log)
     else Refused (g .refusal)
 
-unfoldable pub checkPlayed : Shape → Played → List ℕ → List ℕ → CheckLeaves
+unfoldable pub checkPlayed : Shape → Played → List ℕ → List ℕ → CheckResult
 checkPlayed s g log table = checked (verdictOn g log) (g .machine .memory .table ++ drop (wordsNeeded s) table)
 
 -- check a log takes p, L, step records, log, work table
-unfoldable pub checkLog : ℕ → ℕ → List ℕ → List ℕ → List ℕ → CheckLeaves
+unfoldable pub checkLog : ℕ → ℕ → List ℕ → List ℕ → List ℕ → CheckResult
 checkLog p l records log table =
     let n = checkRefusal p l (length table) (length records) (length log) in
     let s = shapeFor p l in

@@ -9,7 +9,7 @@
 --   it finished before another began                                                                                   finishedBefore (History)
 --   its own steps; a finished operation's answer gives their number                                                    ownSteps (History); queueRecord
 --   it stands in root block b once for each time that opening b's puts or takes gives its place                        standsIn (tree, Standing), opened (tree, Order)
---   nothing else stands there                                                                                          Kept.nothingElse
+--   nothing else stands there                                                                                          QueuePromises.nothingElse
 --   the last root block                                                                                                lastRoot (tree, Order)
 --   the plain queue, fed the operations in root order, each with the kind and value of its begin record                fed, answers (PlainQueue); queueAfter, queueAnswer
 use Prim.Native.Nat.{ℕ, _+_, _*_, _≤_, _<_}
@@ -29,7 +29,7 @@ use Rattle.tree.specs.Layout.{wordsNeeded}
 use Rattle.tree.specs.Blocks.{blockAt}
 use Rattle.tree.specs.Order.{OpId, lastRoot, rootOperations}
 use Rattle.tree.specs.Standing.{same, times, standsIn, rootBlockOf}
-use Rattle.calls.specs.Run.{RunLeaves}
+use Rattle.calls.specs.Run.{RunResult}
 use Rattle.calls.specs.PlainQueue.{fed, answers}
 use Rattle.calls.specs.History.{Event, opens, moves, finishes, history, isOpened, isFinished, finishedBefore, ownSteps, does}
 
@@ -66,7 +66,7 @@ unfoldable pub stepLimit : Shape → ℕ
 stepLimit s = 36 * s .height + 1
 
 -- the claims, on a history, the answer bytes and the table words
-pub record Kept (s : Shape) (h : List Event) (log t : List ℕ) : Type 0 where
+pub record QueuePromises (s : Shape) (h : List Event) (log t : List ℕ) : Type 0 where
   -- each finished operation stands in the root order exactly once
   pub finishedOnce : (x : OpId) → isFinished x h ≡ true → times x (rootOperations s t) ≡ 1
   -- any other at most once
@@ -84,9 +84,9 @@ pub record Kept (s : Shape) (h : List Event) (log t : List ℕ) : Type 0 where
 
 -- Demand 3, on p, L, the records taken, the answer bytes written and the table words left
 abbrev pub Demand3 : ℕ → ℕ → List StepRecord → List ℕ → List ℕ → Type 0
-Demand3 p l taken log t = Kept (shapeFor p l) (history (shapeFor p l) taken) log t
+Demand3 p l taken log t = QueuePromises (shapeFor p l) (history (shapeFor p l) taken) log t
 
 -- Demand 3 of a call of Run on some records: of those that it took, the bytes that it wrote and the needed words that it left
-abbrev pub RunKeeps : ℕ → ℕ → List ℕ → RunLeaves → Type 0
+abbrev pub RunKeeps : ℕ → ℕ → List ℕ → RunResult → Type 0
 RunKeeps p l records e =
     Demand3 p l (take (e .taken) (stepRecords records)) (take (answerSize * e .answered) (e .answers)) (take (wordsNeeded (shapeFor p l)) (e .table))

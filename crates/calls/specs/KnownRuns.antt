@@ -15,7 +15,7 @@ use Rattle.tree.specs.Shape.{Shape, leafOf, shapeFor}
 use Rattle.tree.specs.Order.{OpId, inRoot}
 use Rattle.tree.specs.Memory.{Memory, headOf, memoryOf}
 use Rattle.calls.specs.Answer.{margin}
-use Rattle.calls.specs.Run.{RunLeaves, play, run}
+use Rattle.calls.specs.Run.{RunResult, play, run}
 use Rattle.calls.specs.All.{rules}
 
 -- ---- what a row is made of
@@ -124,7 +124,7 @@ found s m (takeMargin b i z) = takeMargin b i (margin s (m .table) b i)
 found s m (leafHead k h) = leafHead k (headOf m (leafOf s k))
 
 -- the memory after a row's records: the table that Run leaves, and the heads
-unfoldable pub memoryAfter : Row → RunLeaves → Memory
+unfoldable pub memoryAfter : Row → RunResult → Memory
 memoryAfter r e =
     memoryOf (e .table) (play (shapeFor (r .p) (r .most)) (r .room) (stepRecords (r .records)) .machine .memory .heads)
 

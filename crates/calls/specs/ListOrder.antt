@@ -20,7 +20,7 @@ unfoldable pub playAll : Shape → List StepRecord → Played
 playAll s rs = play s (answerSize * length rs) rs
 
 -- what the call returns (the paper's number of the refusal, the list's length), and all that it leaves in the work table and in the output
-pub record ListLeaves : Type 0 where
+pub record ListResult : Type 0 where
   pub refusal : ℕ
   pub length : ℕ
   pub table : List ℕ
@@ -31,7 +31,7 @@ unfoldable pub listRefusal : Refusal → ℕ → ℕ → Refusal
 listRefusal n list output = if accepted n then (if ltb output list then OutputShort else None) else n
 
 -- any refusal writes no output and returns length 0
-unfoldable pub listed : Refusal → List ℕ → List ℕ → List ℕ → ListLeaves
+unfoldable pub listed : Refusal → List ℕ → List ℕ → List ℕ → ListResult
 listed n list table output =
     record {
       refusal = refusalNumber n;
@@ -40,14 +40,14 @@ listed n list table output =
       output = if accepted n then list ++ drop (length list) output else output;
     }
 
-unfoldable pub listPlayed : Shape → Played → List ℕ → List ℕ → ListLeaves
+unfoldable pub listPlayed : Shape → Played → List ℕ → List ℕ → ListResult
 listPlayed s g table output =
     let t = g .machine .memory .table in
     let list = orderList s t in
     listed (listRefusal (g .refusal) (length list) (length output)) list (t ++ drop (wordsNeeded s) table) output
 
 -- list the order takes p, L, step records, work table, output
-unfoldable pub listOrder : ℕ → ℕ → List ℕ → List ℕ → List ℕ → ListLeaves
+unfoldable pub listOrder : ℕ → ℕ → List ℕ → List ℕ → List ℕ → ListResult
 listOrder p l records table output =
     let n = callRefusal p l (length table) (length records) in
     let s = shapeFor p l in

@@ -1,4 +1,4 @@
--- Outcomes that demand 3 refuses: each clause of Kept refutes some, and each weaker clause that a mistakes/weak_*.edit
+-- Outcomes that demand 3 refuses: each clause of QueuePromises refutes some, and each weaker clause that a mistakes/weak_*.edit
 -- puts in its place would let one of them pass.
 use Prim.Native.Nat.{ℕ, zero, suc, _+_, _*_, _<_}
 use native.Mathlib.Omega.{arith}
@@ -18,7 +18,7 @@ use Rattle.steps.specs.declared.Operation.{Operation}
 use Rattle.steps.specs.declared.Operation.the-variants.{Put, Take}
 use Rattle.calls.specs.CheckLog.{sameBytes}
 use Rattle.calls.specs.History.{Event, opens, moves, finishes, operation, isOpened, ownSteps}
-use Rattle.calls.specs.Demand3.{queueAfter, queueRecord, finishing, stepLimit, Kept, Demand3}
+use Rattle.calls.specs.Demand3.{queueAfter, queueRecord, finishing, stepLimit, QueuePromises, Demand3}
 use Rattle.calls.specs.KnownRuns.{beginPut, beginTake, steps}
 use Rattle.calls.specs.All.{rules}
 
@@ -70,7 +70,7 @@ stepping n after = opens x Take ∷ replicate n (moves x) ++ after
 
 -- demand 3 does not hold of this history and these table words, whatever the answer bytes are
 abbrev pub Refuted : Shape → List Event → List ℕ → Type 0
-Refuted s h t = (log : List ℕ) → Kept s h log t → ⊥
+Refuted s h t = (log : List ℕ) → QueuePromises s h log t → ⊥
 
 -- ---- each finished operation stands in the root order exactly once, any other at most once, nothing else
 
@@ -137,7 +137,7 @@ wrongLogs =
     ∷ []
 
 -- answered: no other log will do
-pub noOtherLog : (log : List ℕ) → Kept (shape 1 1) overlapping log inTwoBlocks → log ≡ rightLog
+pub noOtherLog : (log : List ℕ) → QueuePromises (shape 1 1) overlapping log inTwoBlocks → log ≡ rightLog
 unfolding rules
 noOtherLog log k = k .answered
 
@@ -145,12 +145,12 @@ unequal : (right log : List ℕ) → sameBytes right right ≡ true → sameByte
 unequal right log a b e = true≢false (sym a ∙ sym (ap (λ (l : List ℕ). sameBytes l right) e) ∙ b)
 
 noneOf : (logs : List (List ℕ)) → map (λ log. sameBytes log rightLog) logs ≡ map (λ log. false) logs
-    → All (λ log. Kept (shape 1 1) overlapping log inTwoBlocks → ⊥) logs
+    → All (λ log. QueuePromises (shape 1 1) overlapping log inTwoBlocks → ⊥) logs
 unfolding rules
 noneOf [] e = tt
 noneOf (log ∷ logs) e = ((λ k. unequal rightLog log refl (cc) (noOtherLog log k)), noneOf logs (cc))
 
-pub wrongAnswers : All (λ log. Kept (shape 1 1) overlapping log inTwoBlocks → ⊥) wrongLogs
+pub wrongAnswers : All (λ log. QueuePromises (shape 1 1) overlapping log inTwoBlocks → ⊥) wrongLogs
 unfolding rules
 wrongAnswers = noneOf wrongLogs refl
 
@@ -164,7 +164,7 @@ abbrev pub lastSize : ℕ → List ℕ
 lastSize n = table (sixWords 1 0 1 0 1) (sixWords 2 0 1 1 n) (putBlock 7) (putBlock 8)
 
 -- endSize: no other size than 2 will do; one too large, one too small
-pub noOtherSize : (n : ℕ) (log : List ℕ) → Kept (shape 1 1) twoPuts log (lastSize n) → n ≡ 2
+pub noOtherSize : (n : ℕ) (log : List ℕ) → QueuePromises (shape 1 1) twoPuts log (lastSize n) → n ≡ 2
 unfolding rules
 noOtherSize n log k = omega (arith, k .endSize)
 

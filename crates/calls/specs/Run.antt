@@ -61,7 +61,7 @@ unfoldable pub play : Shape → ℕ → List StepRecord → Played
 play s room rs = foldl (playRecord s room) (atStart s) rs
 
 -- what Run returns (the paper's number of the refusal, the records taken, the answers written), and all that it leaves in the work table and in the answer bytes
-pub record RunLeaves : Type 0 where
+pub record RunResult : Type 0 where
   pub refusal : ℕ
   pub taken : ℕ
   pub answered : ℕ
@@ -69,11 +69,11 @@ pub record RunLeaves : Type 0 where
   pub answers : List ℕ
 
 -- a call turned down returns zero counts and changes nothing
-unfoldable pub runTurnedDown : Refusal → List ℕ → List ℕ → RunLeaves
+unfoldable pub runTurnedDown : Refusal → List ℕ → List ℕ → RunResult
 runTurnedDown n table answers = record { refusal = refusalNumber n; taken = 0; answered = 0; table = table; answers = answers }
 
 -- words past those needed and bytes past the answers keep their content
-unfoldable pub runPlayed : Shape → Played → List ℕ → List ℕ → RunLeaves
+unfoldable pub runPlayed : Shape → Played → List ℕ → List ℕ → RunResult
 runPlayed s g table answers =
     record {
       refusal = refusalNumber (g .refusal);
@@ -84,7 +84,7 @@ runPlayed s g table answers =
     }
 
 -- Run takes p, L, step records, work table, answer bytes
-unfoldable pub run : ℕ → ℕ → List ℕ → List ℕ → List ℕ → RunLeaves
+unfoldable pub run : ℕ → ℕ → List ℕ → List ℕ → List ℕ → RunResult
 run p l records table answers =
     let n = callRefusal p l (length table) (length records) in
     let s = shapeFor p l in

@@ -1,4 +1,5 @@
 // The last root block, and how long the list of the root order is.
+use base::as_index;
 use tree::access;
 use tree::heads;
 ghost use mathlib.Core.Path.{_≡_};
@@ -32,5 +33,5 @@ pub fn list_length(table: &[u32], starts: &[usize; 17], last: u32) -> usize
         r ≡ length (orderList s (now (table .entry)))) ⌝ }
 {
     let block = access::block_at(table, starts, 1, last);
-    8 * (heads::wide(block.puts) + heads::wide(block.takes))
+    8 * (as_index(block.puts) + as_index(block.takes))
 }

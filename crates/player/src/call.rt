@@ -1,7 +1,7 @@
 // The records of a call, played from the start: the needed words of the table cleared, and each head 1.
 use crate::Outcome;
 use crate::play::play;
-use tree::heads::wide;
+use base::as_index;
 use tree::layout::clear;
 use tree::layout::height_for;
 use tree::layout::starts;
@@ -34,7 +34,7 @@ pub fn play_call(
     ensures rest { λ _. ⌜ drop (wordsNeeded (shapeFor p l)) (now (table .exit)) ≡ drop (wordsNeeded (shapeFor p l)) (now (table .entry)) ⌝ }
 {
     let height = height_for(p);
-    let most = wide(l);
+    let most = as_index(l);
     let needed = words_needed(height, most);
     clear(table, needed);
     let firsts = starts(height, most);

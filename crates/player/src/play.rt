@@ -3,6 +3,7 @@
 use crate::Outcome;
 use crate::records::operation_of;
 use answer::answers::answer_of;
+use base::as_index;
 use calls::Refusal;
 use log::compare::equal_after;
 use log::write::write_answer;
@@ -26,7 +27,6 @@ use steps::heads::step_r4;
 use steps::heads::step_v1;
 use steps::heads::step_v3;
 use steps::turn::operation_in;
-use tree::heads::wide;
 ghost use mathlib.Core.Path.{_≡_};
 ghost use lib.ListN.{length};
 ghost use Rattle.record.specs.StepRecords.{stepRecords};
@@ -75,7 +75,7 @@ pub fn play(
         let first = word_at(records, at);
         if word_at(records, at + 4) == 0 {
             if first < p {
-                let k = wide(first);
+                let k = as_index(first);
                 let seen = procs[k];
                 let status = seen.status;
                 match status {
@@ -167,7 +167,7 @@ pub fn play(
         if record::step_records::ill_formed(p, r) {
             return ended(Refusal::IllFormed, i, answers, equal);
         }
-        let k = wide(r.process);
+        let k = as_index(r.process);
         let q = procs[k];
         let refusal = begin_refusal(l, q);
         if !accepted(refusal) {

@@ -7,7 +7,7 @@ use lib.Dec.{ltb}
 use Rattle.base.specs.Choice.{if_then_else_}
 use Rattle.record.specs.Bytes.{cut}
 use Rattle.record.specs.AnswerRecords.{answerSize}
-use Rattle.calls.specs.Run.{RunLeaves, run}
+use Rattle.calls.specs.Run.{RunResult, run}
 use Rattle.record.specs.ReadAnswers.{answerRecord}
 use Rattle.print.specs.Lines.{answerLine, lastLine, longLine}
 
@@ -20,7 +20,7 @@ unfoldable pub printed : List ℕ → ℕ → ℕ → ℕ → List ℕ
 printed answers n refusal taken = answerLines answers n ++ lastLine refusal taken
 
 -- the text of what Run leaves
-unfoldable pub runText : RunLeaves → List ℕ
+unfoldable pub runText : RunResult → List ℕ
 runText r = printed (r .answers) (r .answered) (r .refusal) (r .taken)
 
 -- what the printing program prints of an input: p = 4, L = 24, a table of 1,770 words, 1,536 answer bytes; an input longer than 65,536 bytes prints long alone

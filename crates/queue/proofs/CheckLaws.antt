@@ -15,7 +15,7 @@ use Rattle.calls.specs.Refusals.{accepted}
 use Rattle.tree.specs.Shape.{shapeFor}
 use Rattle.calls.specs.Run.{Played}
 use Rattle.calls.specs.ListOrder.{playAll}
-use Rattle.calls.specs.CheckLog.{CheckLeaves, verdictNumber, verdictIndex, checkRefusal, checked, verdictOn, checkPlayed, checkLog}
+use Rattle.calls.specs.CheckLog.{CheckResult, verdictNumber, verdictIndex, checkRefusal, checked, verdictOn, checkPlayed, checkLog}
 use Rattle.calls.specs.LogVerdict.{Judges}
 use Rattle.calls.proofs.LogVerdict.{check-judges}
 use Rattle.calls.proofs.Played.{played-room}
@@ -35,7 +35,7 @@ module _ (p l : ℕ) (records log table : List ℕ) where
   pub with-judges : (v : Verdict) (table' : List ℕ) → checkLeft v table' ≡ checkLog p l records log table
       → (checkLeft v table' ≡ checkLog p l records log table) × Judges p l (length table) records log (verdictNumber v) (verdictIndex v)
   unfolding checkLeft checked
-  with-judges v table' e = (e, subst (λ (x : CheckLeaves). Judges p l (length table) records log (x .verdict) (x .index)) (sym e) (check-judges p l records log table))
+  with-judges v table' e = (e, subst (λ (x : CheckResult). Judges p l (length table) records log (x .verdict) (x .index)) (sym e) (check-judges p l records log table))
 
   pub check-down : (m : Refusal) → m ≡ n → accepted n ≡ false → checkLeft (Refused m) table ≡ checkLog p l records log table
   unfolding checkLeft checkLog

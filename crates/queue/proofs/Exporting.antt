@@ -4,9 +4,9 @@ use mathlib.Core.Path.{_≡_, ap, _∙_, subst}
 use mathlib.Core.List.{List}
 use Rattle.calls.specs.declared.Verdict.{Verdict}
 use Rattle.calls.specs.Refusals.{refusalNumber}
-use Rattle.calls.specs.Run.{RunLeaves}
-use Rattle.calls.specs.ListOrder.{ListLeaves}
-use Rattle.calls.specs.CheckLog.{CheckLeaves, verdictNumber, verdictIndex, checked}
+use Rattle.calls.specs.Run.{RunResult}
+use Rattle.calls.specs.ListOrder.{ListResult}
+use Rattle.calls.specs.CheckLog.{CheckResult, verdictNumber, verdictIndex, checked}
 use Rattle.calls.specs.LogVerdict.{Judges}
 use Rattle.queue.specs.declared.Ran.{Ran}
 use Rattle.queue.specs.declared.Listed.{Listed}
@@ -14,32 +14,32 @@ use Rattle.queue.specs.declared.OtqCheck.{OtqCheck}
 use Rattle.queue.specs.Left.{runLeft, listLeft, checkLeft}
 use Rattle.queue.specs.Exported.{RunExport, ListExport, CheckExport}
 
-pub run-export : (r : Ran) (n : ℕ) (table answers : List ℕ) (e : RunLeaves) → runLeft r table answers ≡ e → n ≡ refusalNumber (r .refusal)
+pub run-export : (r : Ran) (n : ℕ) (table answers : List ℕ) (e : RunResult) → runLeft r table answers ≡ e → n ≡ refusalNumber (r .refusal)
     → RunExport e (record { refusal = n; taken = r .taken; answers = r .answers }) table answers
 unfolding runLeft
 run-export r n table answers e h f =
     record {
-      refusal = f ∙ ap (λ (x : RunLeaves). x .refusal) h;
-      taken = ap (λ (x : RunLeaves). x .taken) h;
-      answered = ap (λ (x : RunLeaves). x .answered) h;
-      words = ap (λ (x : RunLeaves). x .table) h;
-      bytes = ap (λ (x : RunLeaves). x .answers) h;
+      refusal = f ∙ ap (λ (x : RunResult). x .refusal) h;
+      taken = ap (λ (x : RunResult). x .taken) h;
+      answered = ap (λ (x : RunResult). x .answered) h;
+      words = ap (λ (x : RunResult). x .table) h;
+      bytes = ap (λ (x : RunResult). x .answers) h;
     }
 
-pub list-export : (r : Listed) (n : ℕ) (table output : List ℕ) (e : ListLeaves) → listLeft r table output ≡ e → n ≡ refusalNumber (r .refusal)
+pub list-export : (r : Listed) (n : ℕ) (table output : List ℕ) (e : ListResult) → listLeft r table output ≡ e → n ≡ refusalNumber (r .refusal)
     → ListExport e (record { refusal = n; length = r .length }) table output
 unfolding listLeft
 list-export r n table output e h f =
     record {
-      refusal = f ∙ ap (λ (x : ListLeaves). x .refusal) h;
-      size = ap (λ (x : ListLeaves). x .length) h;
-      words = ap (λ (x : ListLeaves). x .table) h;
-      bytes = ap (λ (x : ListLeaves). x .output) h;
+      refusal = f ∙ ap (λ (x : ListResult). x .refusal) h;
+      size = ap (λ (x : ListResult). x .length) h;
+      words = ap (λ (x : ListResult). x .table) h;
+      bytes = ap (λ (x : ListResult). x .output) h;
     }
 
-pub check-export : (v : Verdict) (r : OtqCheck) (table : List ℕ) (e : CheckLeaves) → checkLeft v table ≡ e → CheckExport (checked v table) r table → CheckExport e r table
+pub check-export : (v : Verdict) (r : OtqCheck) (table : List ℕ) (e : CheckResult) → checkLeft v table ≡ e → CheckExport (checked v table) r table → CheckExport e r table
 unfolding checkLeft
-check-export v r table e h x = subst (λ (z : CheckLeaves). CheckExport z r table) h x
+check-export v r table e h x = subst (λ (z : CheckResult). CheckExport z r table) h x
 
 -- what a verdict tells, its numbers tell
 pub check-told : (p l words : ℕ) (records log table : List ℕ) (v : Verdict) (r : OtqCheck) → CheckExport (checked v table) r table

@@ -1,13 +1,13 @@
 // List the order.
 use crate::Listed;
 use crate::play_all::play_all;
+use base::as_index;
 use calls::Refusal;
 use order::list::write_order;
 use order::roots::last_root;
 use order::roots::list_length;
 use refusals::before::of_call;
 use refusals::numbers::accepted;
-use tree::heads::wide;
 use tree::layout::height_for;
 use tree::layout::starts;
 use tree::layout::words_needed;
@@ -29,7 +29,7 @@ fn write_list(p: u32, l: u32, heads: &[u32], table: &[u32], output: &mut [u8]) -
     ensures { λ r. ⌜ ((rest : List ℕ) → listLeft r rest (now (output .exit)) ≡ listFrom (shapeFor p l) (now (table .entry)) rest (now (output .entry))) ⌝ }
 {
     let height = height_for(p);
-    let firsts = starts(height, wide(l));
+    let firsts = starts(height, as_index(l));
     let last = last_root(heads, table, &firsts);
     let length = list_length(table, &firsts, last);
     if output.len() < length {
@@ -51,8 +51,8 @@ fn list_played(p: u32, l: u32, heads: &[u32], table: &[u32], output: &mut [u8]) 
     ensures { λ r. ⌜ listLeft r (now (table .entry)) (now (output .exit))
         ≡ listFrom (shapeFor p l) (take (wordsNeeded (shapeFor p l)) (now (table .entry))) (now (table .entry)) (now (output .entry)) ⌝ }
 {
-    let nodes = 2 * wide(p);
-    let needed = words_needed(height_for(p), wide(l));
+    let nodes = 2 * as_index(p);
+    let needed = words_needed(height_for(p), as_index(l));
     write_list(p, l, &heads[..nodes], &table[..needed], output)
 }
 

@@ -1,7 +1,7 @@
 // The records of a call played without an answer buffer, as list the order and check a log play them.
+use base::as_index;
 use player::Outcome;
 use player::call::play_unanswered;
-use tree::heads::wide;
 ghost use mathlib.Core.Path.{_≡_};
 ghost use mathlib.Core.Bool.{true};
 ghost use Prim.Native.Nat.{_*_};
@@ -23,6 +23,6 @@ pub fn play_all(
     requires ones { ⌜ now heads ≡ replicate 16 1 ⌝ }
     ensures { λ r. ⌜ PlayedAll p l (now (records .entry)) (now (log .entry)) (now (table .entry)) r (take (2 * p) (now (heads .exit))) (now (table .exit)) ⌝ }
 {
-    let nodes = 2 * wide(p);
+    let nodes = 2 * as_index(p);
     play_unanswered(p, l, records, &mut heads[..nodes], table, log)
 }

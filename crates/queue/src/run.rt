@@ -1,9 +1,9 @@
 // Run.
 use crate::Ran;
+use base::as_index;
 use player::call::play_call;
 use refusals::before::of_call;
 use refusals::numbers::accepted;
-use tree::heads::wide;
 ghost use mathlib.Core.Path.{_≡_};
 ghost use mathlib.Core.Bool.{true};
 ghost use Prim.Native.Nat.{_*_};
@@ -24,7 +24,7 @@ fn run_accepted(p: u32, l: u32, records: &[u8], table: &mut [u32], answers: &mut
     ensures { λ r. ⌜ runLeft r (now (table .exit)) (now (answers .exit)) ≡ runOf p l (now (records .entry)) (now (table .entry)) (now (answers .entry)) ⌝ }
 {
     let mut heads = [1u32; 16];
-    let nodes = 2 * wide(p);
+    let nodes = 2 * as_index(p);
     let room = answers.len();
     let o = play_call(
         p,

@@ -1,8 +1,8 @@
 // The tests that a call makes before its first record: a call that fails one changes nothing.
 use crate::numbers::accepted;
+use base::as_index;
 use calls::Refusal;
 use steps::Process;
-use tree::heads::wide;
 use tree::layout::height_for;
 use tree::layout::words_needed;
 ghost use mathlib.Core.Path.{_≡_};
@@ -29,7 +29,7 @@ fn buffers(p: u32, l: u32, words: usize, bytes: usize) -> Refusal
     requires { ⌜ isAccepted (settingsRefusal p l) ≡ true ⌝ }
     ensures { λ r. ⌜ r ≡ bufferRefusal (shapeFor p l) words bytes ⌝ }
 {
-    if words < words_needed(height_for(p), wide(l)) {
+    if words < words_needed(height_for(p), as_index(l)) {
         return Refusal::TableShort;
     }
     if bytes % 8 != 0 {

@@ -1,10 +1,10 @@
 // From an operation's leaf up to its root block.
 use crate::Standing;
 use crate::places::first_place;
+use base::as_index;
 use tree::LEFT_WORD;
 use tree::access::block_at;
 use tree::heads::head_of;
-use tree::heads::wide;
 ghost use mathlib.Core.Path.{_≡_};
 ghost use Prim.Native.Nat.{ℕ};
 ghost use Rattle.base.specs.Contracts.Some.{SomeTwo};
@@ -25,7 +25,7 @@ fn holder(heads: &[u32], table: &[u32], starts: &[usize; 17], v: u32, place: u32
         table,
         starts,
         v / 2,
-        LEFT_WORD + wide(v % 2),
+        LEFT_WORD + as_index(v % 2),
         last,
         place,
         guess,

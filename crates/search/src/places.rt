@@ -1,8 +1,8 @@
 // Search of a node's places for the first whose word reaches a number.
+use base::as_index;
 use tree::BLOCK_WORDS;
 use tree::access::start_of;
 use tree::bisect;
-use tree::heads::wide;
 ghost use mathlib.Core.Path.{_≡_};
 ghost use mathlib.Core.Bool.{true};
 ghost use Prim.Native.Nat.{_+_, _*_, _≤_, _<_};
@@ -34,7 +34,7 @@ fn first_in(part: &[u32], word: usize, last: usize, x: u32, guess: u32) -> usize
     requires { ⌜ Reaches (now part) word last x ⌝ }
     ensures { λ r. ⌜ First (now (part .entry)) word last x r ⌝ }
 {
-    let i = wide(guess);
+    let i = as_index(guess);
     if is_first(part, word, last, x, i) {
         return i;
     }
@@ -59,5 +59,5 @@ pub fn first_place(
 {
     let from = start_of(starts, v);
     let to = start_of(starts, v + 1);
-    first_in(&table[from..to], word, wide(last), x, guess) as u32
+    first_in(&table[from..to], word, as_index(last), x, guess) as u32
 }

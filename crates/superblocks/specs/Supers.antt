@@ -11,7 +11,7 @@ use Rattle.tree.specs.Shape.{Shape, processes, root, shapeFor}
 use Rattle.tree.specs.Layout.{wordsNeeded}
 use Rattle.tree.specs.Blocks.{blockAt, absent}
 use Rattle.tree.specs.Sides.{Side, childOf, subblocks}
-use Rattle.calls.specs.Run.{RunLeaves}
+use Rattle.calls.specs.Run.{RunResult}
 
 -- super z is set, and place q is z or one place later
 unfoldable pub nearSuper : ℕ → ℕ → Bool
@@ -24,5 +24,5 @@ pub record SupersNear (s : Shape) (t : List ℕ) : Type 0 where
       → All (λ i. nearSuper q (blockAt s t (childOf d v) i .superblock) ≡ true) (subblocks s t d v q)
 
 -- of a call of Run: of the needed words that it left
-abbrev pub RunSupers : ℕ → ℕ → RunLeaves → Type 0
+abbrev pub RunSupers : ℕ → ℕ → RunResult → Type 0
 RunSupers p l e = SupersNear (shapeFor p l) (take (wordsNeeded (shapeFor p l)) (e .table))

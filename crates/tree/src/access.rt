@@ -4,8 +4,8 @@ use crate::Block;
 use crate::PUTS_WORD;
 use crate::TAKES_WORD;
 use crate::blocks;
-use crate::heads::wide;
 use crate::table;
+use base::as_index;
 ghost use mathlib.Core.Path.{_≡_};
 ghost use Prim.Native.Nat.{_<_};
 ghost use lib.ListN.{getD};
@@ -20,7 +20,7 @@ pub fn start_of(starts: &[usize; 17], v: u32) -> usize
     requires { ⌜ v < 17 ⌝ }
     ensures { λ r. ⌜ r ≡ getD (now (starts .entry)) v 0 ⌝ }
 {
-    starts[wide(v)]
+    starts[as_index(v)]
 }
 
 // Node v's block at place i, which it has.
@@ -30,7 +30,7 @@ pub fn block_at(words: &[u32], starts: &[usize; 17], v: u32, i: u32) -> Block
 {
     let from = start_of(starts, v);
     let to = start_of(starts, v + 1);
-    blocks::block_in(&words[from..to], wide(i))
+    blocks::block_in(&words[from..to], as_index(i))
 }
 
 // One word of node v's block at any place. One past the last it is 0: there a child is looked at whose places are all filled.
@@ -40,7 +40,7 @@ fn word_at(words: &[u32], starts: &[usize; 17], v: u32, i: u32, word: usize) -> 
 {
     let from = start_of(starts, v);
     let to = start_of(starts, v + 1);
-    blocks::word_or_zero(&words[from..to], BLOCK_WORDS * wide(i) + word)
+    blocks::word_or_zero(&words[from..to], BLOCK_WORDS * as_index(i) + word)
 }
 
 // Whether node v's block at place i is absent.
@@ -58,7 +58,7 @@ pub fn write_at(words: &mut [u32], starts: &[usize; 17], v: u32, i: u32, b: Bloc
 {
     let from = start_of(starts, v);
     let to = start_of(starts, v + 1);
-    table::node_write(words, from, to, wide(i), b);
+    table::node_write(words, from, to, as_index(i), b);
 }
 
 // The superblock of node v's block at place i set to x, if it is 0.
@@ -69,7 +69,7 @@ pub fn set_super_at(words: &mut [u32], starts: &[usize; 17], v: u32, i: u32, x: 
 {
     let from = start_of(starts, v);
     let to = start_of(starts, v + 1);
-    table::node_set_super(words, from, to, wide(i), x);
+    table::node_set_super(words, from, to, as_index(i), x);
 }
 
 // Block b at place i of node v, if none is there: the first of several processes to come here writes. Whether this one did.

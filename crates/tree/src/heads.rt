@@ -1,23 +1,17 @@
 // The heads of the nodes: read, and raised.
+use base::as_index;
 ghost use mathlib.Core.Path.{_≡_};
 ghost use mathlib.Core.List.{[]};
 ghost use Prim.Native.Nat.{_<_};
 ghost use lib.ListN.{length, getD};
 ghost use Rattle.tree.specs.Memory.{raise as raiseOf, memoryOf};
 
-// A register as an index. Every index goes through here, so that no other place has a cast to prove.
-pub fn wide(x: u32) -> usize
-    ensures { λ r. ⌜ r ≡ x ⌝ }
-{
-    x as usize
-}
-
 // The head of v.
 pub fn head_of(heads: &[u32], v: u32) -> u32
     requires { ⌜ v < length (now heads) ⌝ }
     ensures { λ r. ⌜ r ≡ getD (now (heads .entry)) v 1 ⌝ }
 {
-    heads[wide(v)]
+    heads[as_index(v)]
 }
 
 // The head of v raised from h to h + 1. If it is no longer h, another process has raised it already, and it stays.
@@ -26,6 +20,6 @@ pub fn raise(heads: &mut [u32], v: u32, h: u32)
     ensures { λ _. ⌜ now (heads .exit) ≡ raiseOf (memoryOf [] (now (heads .entry))) v h .heads ⌝ }
 {
     if head_of(heads, v) == h {
-        heads[wide(v)] = h + 1;
+        heads[as_index(v)] = h + 1;
     }
 }

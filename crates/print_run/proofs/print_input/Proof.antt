@@ -11,7 +11,7 @@ use Rattle.record.specs.AnswerRecords.{answerSize}
 use Rattle.record.specs.StepRecords.{stepRecords}
 use Rattle.calls.specs.Refusals.{accepted, callRefusal}
 use Rattle.tree.specs.Shape.{shapeFor}
-use Rattle.calls.specs.Run.{RunLeaves, runTurnedDown, runPlayed, run}
+use Rattle.calls.specs.Run.{RunResult, runTurnedDown, runPlayed, run}
 use Rattle.calls.proofs.Played.{played-room}
 use Rattle.base.proofs.Stored.{stored-length}
 use Rattle.queue.specs.declared.Ran.{Ran}
@@ -27,13 +27,13 @@ use Rattle.print_run.proofs.print_input.Tie as tie
 run-room : (p l : ℕ) (records table answers : List ℕ) → 16 * run p l records table answers .answered ≤ length answers
 unfolding run runTurnedDown runPlayed answerSize
 run-room p l records table answers =
-    both (λ (r : RunLeaves). 16 * r .answered ≤ length answers) (accepted (callRefusal p l (length table) (length records)))
+    both (λ (r : RunResult). 16 * r .answered ≤ length answers) (accepted (callRefusal p l (length table) (length records)))
     (played-room (shapeFor p l) (length answers) (stepRecords records)) (omega arith)
 
 few : (r : Ran) (records table answers : List ℕ) → runLeft r table answers ≡ run 4 24 records (replicate 1770 0) (replicate 1536 0) → r .answers ≤ 96
 unfolding runLeft
 few r records table answers e =
-    omega (arith, ap (λ (x : RunLeaves). x .answered) e, run-room 4 24 records (replicate 1770 0) (replicate 1536 0))
+    omega (arith, ap (λ (x : RunResult). x .answered) e, run-room 4 24 records (replicate 1770 0) (replicate 1536 0))
 
 slice-aggregate-put-text : tie.Need-slice-aggregate-put-text
 slice-aggregate-put-text c = search needs

@@ -8,7 +8,7 @@ use Rattle.tree.specs.Shape.{Shape, shapeFor}
 use Rattle.tree.specs.Contracts.Invariant.{Sized, Sound}
 use Rattle.steps.specs.Process.{processesAllowed, operationsAllowed}
 use Rattle.calls.specs.declared.Refusal.the-variants.{None}
-use Rattle.calls.specs.ListOrder.{ListLeaves, listRefusal, listed}
+use Rattle.calls.specs.ListOrder.{ListResult, listRefusal, listed}
 use Rattle.order.specs.OrderList.{orderList}
 use Rattle.tree.specs.Memory.{memoryOf}
 
@@ -20,5 +20,5 @@ pub record ListingCall (p l : ℕ) (heads table : List ℕ) : Type 0 where
   pub sound : Sound (shapeFor p l) (memoryOf table heads)
 
 -- the list of a played table t: 10 if it is longer than the output; `table` is all that the call leaves in the work table
-unfoldable pub listFrom : Shape → List ℕ → List ℕ → List ℕ → ListLeaves
+unfoldable pub listFrom : Shape → List ℕ → List ℕ → List ℕ → ListResult
 listFrom s t table output = listed (listRefusal None (length (orderList s t)) (length output)) (orderList s t) table output

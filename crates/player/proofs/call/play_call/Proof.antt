@@ -12,24 +12,24 @@ use Rattle.player.proofs.call.play_call.Tie as tie
 -- where the words needed are worked out
 measured : (c : tie.After-words-needed) →
     let a = c .before .before .before .before .before .before .before .before .args in
-    Measured (a .p) (a .l) (a .heads .now) (length (a .table .now)) (a .room) (length (a .out .now)) (c .before .before .height-for .result) (c .before .wide .result)
+    Measured (a .p) (a .l) (a .heads .now) (length (a .table .now)) (a .room) (length (a .out .now)) (c .before .before .height-for .result) (c .before .as-index .result)
     (c .words-needed .result)
 measured c =
     record {
       callable = c .before .before .before .before .before .before .before .before .pre;
       height = c .before .before .height-for .ensures .0;
-      most = c .before .wide .ensures;
+      most = c .before .as-index .ensures;
       needs = c .words-needed .ensures .0;
     }
 
 height-for-requires : tie.Need-height-for-requires
 height-for-requires c κs = search needs
 
-wide-requires : tie.Need-wide-requires
-wide-requires c κs = search needs
+as-index-requires : tie.Need-as-index-requires
+as-index-requires c κs = search needs
 
 words-needed-requires : tie.Need-words-needed-requires
-words-needed-requires c κs = (c .before .height-for .ensures .2, omega (arith, c .wide .ensures, allowed-most _ (c .before .before .before .before .before .before .before .pre .most) .1))
+words-needed-requires c κs = (c .before .height-for .ensures .2, omega (arith, c .as-index .ensures, allowed-most _ (c .before .before .before .before .before .before .before .pre .most) .1))
 
 clear-requires : tie.Need-clear-requires
 clear-requires c κs = call-fits (measured (c .before))
@@ -74,7 +74,7 @@ play-call-spec =
     tie.close
     (tie.spec
     height-for-requires
-    wide-requires
+    as-index-requires
     words-needed-requires
     clear-requires
     starts-requires

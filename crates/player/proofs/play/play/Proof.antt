@@ -31,21 +31,21 @@ unfolding idle
 refused-begin c =
     let w = c .before .before .before .before .before in
     rw (c .ended4 .ensures)
-    (begin-refused (other-at (w .before .before .before)) (well (w .before)) (w .wide2 .ensures) (c .before .before .before .begin-refusal .ensures)
+    (begin-refused (other-at (w .before .before .before)) (well (w .before)) (w .as-index2 .ensures) (c .before .before .before .begin-refusal .ensures)
     (sym (c .before .before .accepted .ensures) ∙ not-true _ (c .before .if5 .taken)))
 
 entered-requires : tie.Need-entered-requires Inv-loop μ-loop
 unfolding idle
 entered-requires c κs =
     let w = c .before .before .before .before .before in
-    omega (arith, begin-few (other-at (w .before .before .before)) (well (w .before)) (w .wide2 .ensures))
+    omega (arith, begin-few (other-at (w .before .before .before)) (well (w .before)) (w .as-index2 .ensures))
 
 again-begin : tie.Need-loop-again-15 Inv-loop μ-loop
 unfolding idle
 again-begin c =
     let w = c .before .before .before .before .before .before in
     rw (c .entered .ensures, c .before .operation-of .ensures)
-    (begin-moves (other-at (w .before .before .before)) (well (w .before)) (w .wide2 .ensures) (c .before .before .before .before .begin-refusal .ensures)
+    (begin-moves (other-at (w .before .before .before)) (well (w .before)) (w .as-index2 .ensures) (c .before .before .before .before .begin-refusal .ensures)
     (sym (c .before .before .before .accepted .ensures) ∙ not-false _ (c .before .before .if5 .left)))
 
 ends : tie.Need-returns-5 Inv-loop μ-loop

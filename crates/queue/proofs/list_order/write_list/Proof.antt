@@ -12,17 +12,17 @@ use Rattle.queue.proofs.list_order.write_list.Tie as tie
 height-for-requires : tie.Need-height-for-requires
 height-for-requires c κs = search needs
 
-wide-requires : tie.Need-wide-requires
-wide-requires c κs = search needs
+as-index-requires : tie.Need-as-index-requires
+as-index-requires c κs = search needs
 
 starts-requires : tie.Need-starts-requires
-starts-requires c κs = (c .before .height-for .ensures .2, omega (arith, c .wide .ensures, allowed-most _ (c .before .before .before .before .before .pre .operations) .1))
+starts-requires c κs = (c .before .height-for .ensures .2, omega (arith, c .as-index .ensures, allowed-most _ (c .before .before .before .before .before .pre .operations) .1))
 
 -- where the parts of the table begin, once it was worked out
 tree : (c : tie.After-starts) → let a = c .before .before .before .before .before .before .args in SoundTree (shapeFor (a .p) (a .l)) (c .starts .result) (a .heads .now) (a .table .now)
 tree c =
     let at = c .before .before .before .before .before .before in
-    listing-tree (at .args .p) (at .args .l) _ _ (at .pre) _ _ (c .before .before .height-for .ensures .0) (c .before .wide .ensures) _ (c .starts .ensures .0)
+    listing-tree (at .args .p) (at .args .l) _ _ (at .pre) _ _ (c .before .before .height-for .ensures .0) (c .before .as-index .ensures) _ (c .starts .ensures .0)
 
 last-root-requires : tie.Need-last-root-requires
 last-root-requires c κs = record { one = _; holds = tree (c .before) }
@@ -68,7 +68,7 @@ write-list-spec =
     tie.close
     (tie.spec
     height-for-requires
-    wide-requires
+    as-index-requires
     starts-requires
     last-root-requires
     list-length-requires

@@ -8,8 +8,8 @@ use Rattle.queue.proofs.PlayAll.{played-all}
 use Rattle.queue.proofs.play_all.play_all.Statement.{statement}
 use Rattle.queue.proofs.play_all.play_all.Tie as tie
 
-wide-requires : tie.Need-wide-requires
-wide-requires c κs = search needs
+as-index-requires : tie.Need-as-index-requires
+as-index-requires c κs = search needs
 
 mul-nodes : tie.Need-mul-nodes
 mul-nodes c = search needs
@@ -17,19 +17,19 @@ mul-nodes c = search needs
 slice-relend-prefix-play-unanswered : tie.Need-slice-relend-prefix-play-unanswered
 slice-relend-prefix-play-unanswered c =
     let at = c .before .before .before .before .before in
-    accepted-heads _ _ _ _ (at .pre .0) _ (at .pre .1) _ (c .wide .ensures)
+    accepted-heads _ _ _ _ (at .pre .0) _ (at .pre .1) _ (c .as-index .ensures)
 
 slice-aggregate-play-unanswered : tie.Need-slice-aggregate-play-unanswered
 slice-aggregate-play-unanswered c =
     let w = c .before in
     let at = w .before .before .before .before .before in
-    sym (accepted-nodes _ _ _ _ (at .pre .0) _ (at .pre .1) _ (w .wide .ensures))
+    sym (accepted-nodes _ _ _ _ (at .pre .0) _ (at .pre .1) _ (w .as-index .ensures))
 
 play-unanswered-requires : tie.Need-play-unanswered-requires
 play-unanswered-requires c κs =
     let w = c .before .before in
     let at = w .before .before .before .before .before in
-    accepted-callable _ _ _ _ (at .pre .0) _ (at .pre .1) _ (w .wide .ensures) (inl refl)
+    accepted-callable _ _ _ _ (at .pre .0) _ (at .pre .1) _ (w .as-index .ensures) (inl refl)
 
 same-length : tie.Need-same-length
 same-length c = search needs
@@ -42,14 +42,14 @@ returns c =
     let o = c .before .before .before .before in
     let w = o .before .before .before in
     let at = w .before .before .before .before .before in
-    let nodes = o .play-unanswered .kept .1 .1 .1 .0 ∙ accepted-nodes _ _ _ _ (at .pre .0) _ (at .pre .1) _ (w .wide .ensures) ∙ ap (λ (x : ℕ). 2 * x) (w .wide .ensures) in
+    let nodes = o .play-unanswered .kept .1 .1 .1 .0 ∙ accepted-nodes _ _ _ _ (at .pre .0) _ (at .pre .1) _ (w .as-index .ensures) ∙ ap (λ (x : ℕ). 2 * x) (w .as-index .ensures) in
     played-all _ _ _ _ (at .pre .0) _ _ _ _ _ nodes (o .play-unanswered .ensures .0) (o .play-unanswered .ensures .1)
 
 pub play-all-spec : {M : Type 1} → statement M
 play-all-spec =
     tie.close
     (tie.spec
-    wide-requires
+    as-index-requires
     mul-nodes
     slice-relend-prefix-play-unanswered
     slice-aggregate-play-unanswered

@@ -7,17 +7,17 @@ use Rattle.queue.proofs.RunLaws.{run-left}
 use Rattle.queue.proofs.run.run_accepted.Statement.{statement}
 use Rattle.queue.proofs.run.run_accepted.Tie as tie
 
-wide-requires : tie.Need-wide-requires
-wide-requires c κs = search needs
+as-index-requires : tie.Need-as-index-requires
+as-index-requires c κs = search needs
 
 mul-nodes : tie.Need-mul-nodes
 mul-nodes c = search needs
 
 array-borrow-prefix-heads : tie.Need-array-borrow-prefix-heads
-array-borrow-prefix-heads c = accepted-heads _ _ _ _ (c .before .before .before .before .pre) _ refl _ (c .wide .ensures)
+array-borrow-prefix-heads c = accepted-heads _ _ _ _ (c .before .before .before .before .pre) _ refl _ (c .as-index .ensures)
 
 slice-aggregate-play-call : tie.Need-slice-aggregate-play-call
-slice-aggregate-play-call c = sym (accepted-nodes _ _ _ _ (c .before .before .before .before .before .pre) _ refl _ (c .before .wide .ensures))
+slice-aggregate-play-call c = sym (accepted-nodes _ _ _ _ (c .before .before .before .before .before .pre) _ refl _ (c .before .as-index .ensures))
 
 slice-aggregate-play-call-2 : tie.Need-slice-aggregate-play-call-2
 slice-aggregate-play-call-2 c = search needs
@@ -25,7 +25,7 @@ slice-aggregate-play-call-2 c = search needs
 play-call-requires : tie.Need-play-call-requires
 play-call-requires c κs =
     let w = c .before .before .before .before in
-    accepted-callable _ _ _ _ (w .before .before .before .before .pre) _ refl _ (w .wide .ensures) (inr refl)
+    accepted-callable _ _ _ _ (w .before .before .before .before .pre) _ refl _ (w .as-index .ensures) (inr refl)
 
 same-length : tie.Need-same-length
 same-length c = search needs
@@ -43,7 +43,7 @@ pub run-accepted-spec : {M : Type 1} → statement M
 run-accepted-spec =
     tie.close
     (tie.spec
-    wide-requires
+    as-index-requires
     mul-nodes
     array-borrow-prefix-heads
     slice-aggregate-play-call

@@ -13,31 +13,31 @@ use Rattle.refusals.proofs.before.buffers.Tie as tie
 height-for-requires : tie.Need-height-for-requires
 height-for-requires c κs = search needs
 
-wide-requires : tie.Need-wide-requires
-wide-requires c κs = search needs
+as-index-requires : tie.Need-as-index-requires
+as-index-requires c κs = search needs
 
 words-needed-requires : tie.Need-words-needed-requires
-words-needed-requires c κs = (c .before .height-for .ensures .2, omega (arith, c .wide .ensures, allowed-most _ (settings-operations _ _ (c .before .before .pre)) .1))
+words-needed-requires c κs = (c .before .height-for .ensures .2, omega (arith, c .as-index .ensures, allowed-most _ (settings-operations _ _ (c .before .before .pre)) .1))
 
 returns : tie.Need-returns
 unfolding bufferRefusal
 returns c =
     let w = c .before in
-    rw (← (w .words-needed .ensures .0 ∙ needed-for _ _ _ _ (w .before .before .height-for .ensures .0) (w .before .wide .ensures)), lt-ltb _ _ (c .if1 .taken))
+    rw (← (w .words-needed .ensures .0 ∙ needed-for _ _ _ _ (w .before .before .height-for .ensures .0) (w .before .as-index .ensures)), lt-ltb _ _ (c .if1 .taken))
 
 returns-2 : tie.Need-returns-2
 unfolding bufferRefusal torn stepSize
 returns-2 c =
     let w = c .before .before in
-    rw (← (w .words-needed .ensures .0 ∙ needed-for _ _ _ _ (w .before .before .height-for .ensures .0) (w .before .wide .ensures)), le-ltb _ _ (c .before .if1 .left), ne-eqb _ _ (c .if2 .taken))
+    rw (← (w .words-needed .ensures .0 ∙ needed-for _ _ _ _ (w .before .before .height-for .ensures .0) (w .before .as-index .ensures)), le-ltb _ _ (c .before .if1 .left), ne-eqb _ _ (c .if2 .taken))
 
 returns-3 : tie.Need-returns-3
 unfolding bufferRefusal torn stepSize
 returns-3 c =
     let w = c .before .before in
-    rw (← (w .words-needed .ensures .0 ∙ needed-for _ _ _ _ (w .before .before .height-for .ensures .0) (w .before .wide .ensures)), le-ltb _ _ (c .before .if1 .left), eq-eqb _ _ (c .if2 .left))
+    rw (← (w .words-needed .ensures .0 ∙ needed-for _ _ _ _ (w .before .before .height-for .ensures .0) (w .before .as-index .ensures)), le-ltb _ _ (c .before .if1 .left), eq-eqb _ _ (c .if2 .left))
 
 pub buffers-spec : {M : Type 1} → statement M
 buffers-spec =
     tie.close
-    (tie.spec height-for-requires wide-requires words-needed-requires returns returns-2 returns-3)
+    (tie.spec height-for-requires as-index-requires words-needed-requires returns returns-2 returns-3)

@@ -12,8 +12,8 @@ sub-last c = search needs
 block-at-requires : tie.Need-block-at-requires
 block-at-requires c κs = search needs
 
-wide-requires : tie.Need-wide-requires
-wide-requires c κs = search needs
+as-index-requires : tie.Need-as-index-requires
+as-index-requires c κs = search needs
 
 add-first-place : tie.Need-add-first-place
 add-first-place c = search needs
@@ -21,10 +21,10 @@ add-first-place c = search needs
 first-place-requires : tie.Need-first-place-requires
 first-place-requires c κs =
     let p = c .before .before .before .before .before .pre in
-    (p .above, rw (c .wide .ensures, c .before .before .head-of .ensures) (p .ends))
+    (p .above, rw (c .as-index .ensures, c .before .before .head-of .ensures) (p .ends))
 
 returns : tie.Need-returns
-returns c = rw (c .before .wide .ensures, c .before .before .before .head-of .ensures) at (c .first-place .ensures)
+returns c = rw (c .before .as-index .ensures, c .before .before .before .head-of .ensures) at (c .first-place .ensures)
 
 pub holder-spec : {M : Type 1} → statement M
 holder-spec =
@@ -33,7 +33,7 @@ holder-spec =
     head-of-requires
     sub-last
     block-at-requires
-    wide-requires
+    as-index-requires
     add-first-place
     first-place-requires
     returns)

@@ -4,8 +4,8 @@ use borrow.Author.Needs.{needs}
 use Rattle.search.proofs.places.first_in.Statement.{statement}
 use Rattle.search.proofs.places.first_in.Tie as tie
 
-wide-requires : tie.Need-wide-requires
-wide-requires c κs = search needs
+as-index-requires : tie.Need-as-index-requires
+as-index-requires c κs = search needs
 
 is-first-requires : tie.Need-is-first-requires
 is-first-requires c κs = search needs
@@ -39,7 +39,7 @@ pub first-in-spec : {M : Type 1} → statement M
 first-in-spec =
     tie.close
     (tie.spec
-    wide-requires
+    as-index-requires
     is-first-requires
     returns
     add-is-first

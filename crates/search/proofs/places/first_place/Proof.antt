@@ -25,13 +25,13 @@ part-first-in-start c = search needs
 part-first-in-end : tie.Need-part-first-in-end
 part-first-in-end c = search needs
 
-wide-requires : tie.Need-wide-requires
-wide-requires c κs = search needs
+as-index-requires : tie.Need-as-index-requires
+as-index-requires c κs = search needs
 
 first-in-requires : tie.Need-first-in-requires
 unfolding nodePart
 first-in-requires c κs =
-    rw (c .wide .ensures, c .before .before .start-of2 .ensures, c .before .before .before .start-of .ensures)
+    rw (c .as-index .ensures, c .before .before .start-of2 .ensures, c .before .before .before .start-of .ensures)
     (c .before .before .before .before .before .pre .1)
 
 cast-result : tie.Need-cast-result
@@ -40,7 +40,7 @@ cast-result c = search needs
 returns : tie.Need-returns
 unfolding nodePart
 returns c =
-    rw (c .before .wide .ensures, c .before .before .before .start-of2 .ensures, c .before .before .before .before .start-of .ensures)
+    rw (c .before .as-index .ensures, c .before .before .before .start-of2 .ensures, c .before .before .before .before .start-of .ensures)
     at (c .first-in .ensures)
 
 pub first-place-spec : {M : Type 1} → statement M
@@ -54,7 +54,7 @@ first-place-spec =
     sub-first-in
     part-first-in-start
     part-first-in-end
-    wide-requires
+    as-index-requires
     first-in-requires
     cast-result
     returns)

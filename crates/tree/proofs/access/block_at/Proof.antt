@@ -25,15 +25,15 @@ part-block-in-start c = search needs
 part-block-in-end : tie.Need-part-block-in-end
 part-block-in-end c = search needs
 
-wide-requires : tie.Need-wide-requires
-wide-requires c κs = search needs
+as-index-requires : tie.Need-as-index-requires
+as-index-requires c κs = search needs
 
 block-in-requires : tie.Need-block-in-requires
 block-in-requires c κs = search needs
 
 returns : tie.Need-returns
 unfolding nodeBlock nodePart
-returns c = rw (c .block-in .ensures, c .before .wide .ensures, c .before .before .before .start-of2 .ensures, c .before .before .before .before .start-of .ensures)
+returns c = rw (c .block-in .ensures, c .before .as-index .ensures, c .before .before .before .start-of2 .ensures, c .before .before .before .before .start-of .ensures)
 
 pub block-at-spec : {M : Type 1} → statement M
 block-at-spec =
@@ -46,6 +46,6 @@ block-at-spec =
     sub-block-in
     part-block-in-start
     part-block-in-end
-    wide-requires
+    as-index-requires
     block-in-requires
     returns)

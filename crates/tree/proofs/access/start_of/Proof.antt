@@ -3,8 +3,8 @@ use borrow.Author.Needs.{needs}
 use Rattle.tree.proofs.access.start_of.Statement.{statement}
 use Rattle.tree.proofs.access.start_of.Tie as tie
 
-wide-requires : tie.Need-wide-requires
-wide-requires c κs = search needs
+as-index-requires : tie.Need-as-index-requires
+as-index-requires c κs = search needs
 
 mul-result : tie.Need-mul-result
 mul-result c = search needs
@@ -13,7 +13,7 @@ element-copy-out-result : tie.Need-element-copy-out-result
 element-copy-out-result c = search needs
 
 returns : tie.Need-returns
-returns c = rw (c .before .wide .ensures)
+returns c = rw (c .before .as-index .ensures)
 
 pub start-of-spec : {M : Type 1} → statement M
-start-of-spec = tie.close (tie.spec wide-requires mul-result element-copy-out-result returns)
+start-of-spec = tie.close (tie.spec as-index-requires mul-result element-copy-out-result returns)

@@ -26,8 +26,8 @@ part-word-or-zero-start c = search needs
 part-word-or-zero-end : tie.Need-part-word-or-zero-end
 part-word-or-zero-end c = search needs
 
-wide-requires : tie.Need-wide-requires
-wide-requires c κs = search needs
+as-index-requires : tie.Need-as-index-requires
+as-index-requires c κs = search needs
 
 mul-word-or-zero-2 : tie.Need-mul-word-or-zero-2
 mul-word-or-zero-2 c = search needs
@@ -40,7 +40,7 @@ word-or-zero-requires c κs = search needs
 
 returns : tie.Need-returns
 unfolding wordIn nodePart
-returns c = rw (c .word-or-zero .ensures, c .before .wide .ensures, c .before .before .before .start-of2 .ensures, c .before .before .before .before .start-of .ensures)
+returns c = rw (c .word-or-zero .ensures, c .before .as-index .ensures, c .before .before .before .start-of2 .ensures, c .before .before .before .before .start-of .ensures)
 
 pub word-at-spec : {M : Type 1} → statement M
 word-at-spec =
@@ -53,7 +53,7 @@ word-at-spec =
     sub-word-or-zero
     part-word-or-zero-start
     part-word-or-zero-end
-    wide-requires
+    as-index-requires
     mul-word-or-zero-2
     add-word-or-zero
     word-or-zero-requires

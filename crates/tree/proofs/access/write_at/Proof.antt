@@ -13,8 +13,8 @@ add-start-of c = search needs
 start-of-requires-2 : tie.Need-start-of-requires-2
 start-of-requires-2 c κs = search needs
 
-wide-requires : tie.Need-wide-requires
-wide-requires c κs = search needs
+as-index-requires : tie.Need-as-index-requires
+as-index-requires c κs = search needs
 
 node-write-requires : tie.Need-node-write-requires
 node-write-requires c κs = search needs
@@ -26,7 +26,7 @@ returns : tie.Need-returns
 unfolding withNodeBlock nodePart
 returns c =
     let b = c .before .before .before in
-    rw (← b .before .before .before .start-of .ensures, ← b .before .before .start-of2 .ensures, ← b .wide .ensures) (c .before .before .node-write .ensures)
+    rw (← b .before .before .before .start-of .ensures, ← b .before .before .start-of2 .ensures, ← b .as-index .ensures) (c .before .before .node-write .ensures)
 
 pub write-at-spec : {M : Type 1} → statement M
 write-at-spec =
@@ -35,7 +35,7 @@ write-at-spec =
     start-of-requires
     add-start-of
     start-of-requires-2
-    wide-requires
+    as-index-requires
     node-write-requires
     same-length
     returns)

@@ -4,8 +4,8 @@ use borrow.Author.Needs.{needs}
 use Rattle.tree.proofs.heads.head_of.Statement.{statement}
 use Rattle.tree.proofs.heads.head_of.Tie as tie
 
-wide-requires : tie.Need-wide-requires
-wide-requires c κs = search needs
+as-index-requires : tie.Need-as-index-requires
+as-index-requires c κs = search needs
 
 mul-result : tie.Need-mul-result
 mul-result c = search needs
@@ -14,7 +14,7 @@ shared-slice-read-result : tie.Need-shared-slice-read-result
 shared-slice-read-result c = search needs
 
 returns : tie.Need-returns
-returns c = rw (c .before .wide .ensures) (entry (c .before .before .before .args .heads .now) (c .before .before .before .args .v) 0 1 (c .before .before .before .pre))
+returns c = rw (c .before .as-index .ensures) (entry (c .before .before .before .args .heads .now) (c .before .before .before .args .v) 0 1 (c .before .before .before .pre))
 
 pub head-of-spec : {M : Type 1} → statement M
-head-of-spec = tie.close (tie.spec wide-requires mul-result shared-slice-read-result returns)
+head-of-spec = tie.close (tie.spec as-index-requires mul-result shared-slice-read-result returns)

@@ -11,8 +11,8 @@ head-of-requires c κs = search needs
 add-heads : tie.Need-add-heads
 add-heads c = search needs
 
-wide-requires : tie.Need-wide-requires
-wide-requires c κs = search needs
+as-index-requires : tie.Need-as-index-requires
+as-index-requires c κs = search needs
 
 mul-heads : tie.Need-mul-heads
 mul-heads c = search needs
@@ -25,7 +25,7 @@ same-length c = search needs
 
 returns : tie.Need-returns
 unfolding headOf raise
-returns c = rw (← c .before .before .head-of .ensures, eq-eqb _ _ (c .before .if1 .taken), c .wide .ensures)
+returns c = rw (← c .before .before .head-of .ensures, eq-eqb _ _ (c .before .if1 .taken), c .as-index .ensures)
 
 same-length-2 : tie.Need-same-length-2
 same-length-2 c = search needs
@@ -40,7 +40,7 @@ raise-spec =
     (tie.spec
     head-of-requires
     add-heads
-    wide-requires
+    as-index-requires
     mul-heads
     slice-write-heads
     same-length

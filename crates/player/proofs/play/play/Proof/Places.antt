@@ -60,12 +60,12 @@ few c = omega (arith, c .loop-test .taken, c .before .before .before .before .be
 
 -- after its process was found
 abbrev pub AtStep : Type 0
-AtStep = tie.After-wide Inv-loop μ-loop
+AtStep = tie.After-as-index Inv-loop μ-loop
 
 abbrev pub StepIs : AtStep → Type 0
 StepIs c =
     let r = c .before .before .before .before .before in
-    StepAt (callAt r) (stateAt r) (r .before .loop .i) (c .before .before .before .before .word-at .result) (c .wide .result)
+    StepAt (callAt r) (stateAt r) (r .before .loop .i) (c .before .before .before .before .word-at .result) (c .as-index .result)
 
 pub step-at : (c : AtStep) → StepIs c
 step-at c =
@@ -75,7 +75,7 @@ step-at c =
       word = c .before .before .before .before .word-at .ensures;
       zero = sym (c .before .before .before .word-at2 .ensures) ∙ c .before .before .if1 .taken;
       low = c .before .if2 .taken;
-      at = c .wide .ensures;
+      at = c .as-index .ensures;
     }
 
 -- where that process is busy
@@ -88,11 +88,11 @@ recordOf b = b .before .before .before .before .before .before .before .before .
 pub found : (b : AtBusy) → StepIs (b .before .before .before .before)
 found b = step-at (b .before .before .before .before)
 
-pub slot : (b : AtBusy) → b .before .before .before .before .wide .result < 8
+pub slot : (b : AtBusy) → b .before .before .before .before .as-index .result < 8
 slot b = step-low (found b)
 
 pub few-steps : (b : AtBusy)
-    → getD (stateAt (recordOf b) .procs) (b .before .before .before .before .wide .result) (record { status = Idle; begun = 0; steps = 0 }) .steps < 65536
+    → getD (stateAt (recordOf b) .procs) (b .before .before .before .before .as-index .result) (record { status = Idle; begun = 0; steps = 0 }) .steps < 65536
 unfolding idle
 few-steps b = omega (arith, steps-small _ _ _ _ _ _ _ (step-plays (found b)))
 
@@ -128,5 +128,5 @@ well c = sym (c .before .ill-formed .ensures) ∙ c .if4 .left
 abbrev pub AtBegin : Type 0
 AtBegin = tie.After-wide2 Inv-loop μ-loop
 
-pub begin-slot : (w : AtBegin) → w .wide2 .result < 8
-begin-slot w = begin-low (other-at (w .before .before .before)) (well (w .before)) (w .wide2 .ensures)
+pub begin-slot : (w : AtBegin) → w .as-index2 .result < 8
+begin-slot w = begin-low (other-at (w .before .before .before)) (well (w .before)) (w .as-index2 .ensures)
