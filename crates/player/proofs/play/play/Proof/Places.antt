@@ -126,7 +126,7 @@ well c = sym (c .before .ill-formed .ensures) ∙ c .if4 .left
 
 -- after its process was found
 abbrev pub AtBegin : Type 0
-AtBegin = tie.After-wide2 Inv-loop μ-loop
+AtBegin = tie.After-as-index2 Inv-loop μ-loop
 
 pub begin-slot : (w : AtBegin) → w .as-index2 .result < 8
 begin-slot w = begin-low (other-at (w .before .before .before)) (well (w .before)) (w .as-index2 .ensures)
