@@ -26,14 +26,14 @@ use tree::heads::head_of;
 ghost use mathlib.Core.Bool.{false};
 ghost use mathlib.Core.Path.{_≡_};
 ghost use mathlib.Core.List.{List};
-ghost use Prim.Native.Nat.{ℕ, _+_, _*_, _<_};
+ghost use Prim.Native.Nat.{ℕ, _+_, _*_, _-_, _<_};
 ghost use Rattle.base.specs.Choice.{if_then_else_};
 ghost use Rattle.tree.specs.Shape.{Shape, leafOf};
 ghost use Rattle.tree.specs.Memory.{memoryOf};
-ghost use Rattle.steps.specs.Rules.{above as aboveOf, help as helpOf, sameTotals, step, go};
+ghost use Rattle.steps.specs.Rules.{above as aboveOf, help as helpOf, built as builtOf, sameTotals, step, go};
 ghost use Rattle.steps.specs.Machine.{isIdle};
-ghost use Rattle.steps.specs.Contracts.Next.{operationIn, stepIn, Moves, LeadsByTable, StepsByTable, Fits, FitsLeaf};
-ghost use Rattle.tree.specs.Contracts.Access.{Begins, HasPart, HasPlace};
+ghost use Rattle.steps.specs.Contracts.Next.{operationIn, stepIn, Moves, PartsBegin, StepsByTable, Fits, FitsLeaf};
+ghost use Rattle.tree.specs.Contracts.Access.{Begins, HasPart, HasPlace, nodeBlock};
 ghost use Rattle.steps.specs.Contracts.Ready.{Adds, Builds};
 
 // A: the operation's block at the head of its own leaf, where no other process writes.
@@ -140,16 +140,16 @@ fn settle(w: Visit, n: Built, old: Block) -> Step
     Step::C4 { visit: w, built: n }
 }
 
-// What C3 comes to: a block of the children's blocks at the ends l and r.
-fn build(table: &[u32], starts: &[usize; 17], w: Visit, l: u32, r: u32) -> Step
-    requires { ⌜ Builds (now starts) (now table) w l r ⌝ }
-    ensures { λ z. ⌜ LeadsByTable (now (starts .entry)) (now (table .entry)) (now (table .entry)) (Step.C3 w l r) z ⌝ }
+// What C3 makes of the children's blocks at the ends l and r; `old` is the node's block before.
+fn build(table: &[u32], starts: &[usize; 17], w: Visit, old: Block, l: u32, r: u32) -> Built
+    requires { ⌜ Builds (now starts) (now table) w l r × (old ≡ nodeBlock (now starts) (now table) (w .node) (w .head - 1)) ⌝ }
+    ensures { λ n. ⌜ ((s : Shape) (heads : List ℕ) → PartsBegin s (now (starts .entry)) (Step.C3 w l r) →
+        n ≡ builtOf s (memoryOf (now (table .entry)) heads) w l r) ⌝ }
 {
     let v = w.node;
-    let old = block_at(table, starts, v, w.head - 1);
     let x = block_at(table, starts, 2 * v, l);
     let y = block_at(table, starts, 2 * v + 1, r);
-    settle(w, joined(v, old, x, y, l, r), old)
+    joined(v, old, x, y, l, r)
 }
 
 // C3: the block is made of the children's blocks at the ends that C1 and C2 found.
@@ -161,7 +161,9 @@ pub fn step_c3(table: &[u32], starts: &[usize; 17], q: Process) -> Process
     let Step::C3 { visit, left, right } = step_in(q) else {
         return q;
     };
-    moved(q, build(table, starts, visit, left, right))
+    let old = block_at(table, starts, visit.node, visit.head - 1);
+    let built = build(table, starts, visit, old, left, right);
+    moved(q, settle(visit, built, old))
 }
 
 // C4: the block is written if its place is still empty. The refresh has then succeeded.

@@ -76,15 +76,11 @@ NextByHeads heads heads' q r = Moves q r × ((s : Shape) (k : ℕ) (o : Operatio
     → step s k o (memoryOf table heads) (stepIn (q .status))
     ≡ go s k o (memoryOf table heads) (memoryOf table heads') (stepIn (r .status)))
 
--- step n leads to n' and leaves table', whatever the heads are: it looks at this table alone, by the starts of its parts
-abbrev pub LeadsByTable : List ℕ → List ℕ → List ℕ → Step → Step → Type 0
-LeadsByTable starts table table' n n' = (s : Shape) (k : ℕ) (o : Operation) (heads : List ℕ) → PartsBegin s starts n
-    → step s k o (memoryOf table heads) n
-    ≡ go s k o (memoryOf table heads) (memoryOf table' heads) n'
-
--- q becomes r by such a step
+-- q becomes r by a step that looks at this table alone, by the starts of its parts, and leaves table'
 abbrev pub NextByTable : List ℕ → List ℕ → List ℕ → Process → Process → Type 0
-NextByTable starts table table' q r = Moves q r × LeadsByTable starts table table' (stepIn (q .status)) (stepIn (r .status))
+NextByTable starts table table' q r = Moves q r × ((s : Shape) (k : ℕ) (o : Operation) (heads : List ℕ) → PartsBegin s starts (stepIn (q .status))
+    → step s k o (memoryOf table heads) (stepIn (q .status))
+    ≡ go s k o (memoryOf table heads) (memoryOf table' heads) (stepIn (r .status)))
 
 -- The functions of the named steps. A name is told by what it is to say P of each step of that name: of R2, (w : Visit) → P (R2 w). Where process q is at such a step,
 -- Next holds; where it is at a step of another name, nothing changes
