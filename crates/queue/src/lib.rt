@@ -1,4 +1,5 @@
-// The public library: Run, list the order and check a log. Each call turns down what document 01 says, plays the records and leaves what its definition says (crate rules).
+// The public library: Run, list the order and check a log. Each call turns down what document 01 says, plays the
+// records and leaves what its definition says (crate rules).
 pub mod check_log;
 pub mod exports;
 pub mod list_order;
@@ -34,7 +35,8 @@ pub struct OtqList {
     pub length: u64,
 }
 
-// What check a log returns, for C: a refusal's number, a verdict's (0 same, 1 differs, 2 refused), and the index of the first record that differs, 0 where none does.
+// What check a log returns, for C: a refusal's number, a verdict's (0 same, 1 differs, 2 refused), and the index of the
+// first record that differs, 0 where none does.
 #[repr(C)]
 pub struct OtqCheck {
     pub refusal: u32,

@@ -14,7 +14,7 @@ use tree::layout::words_needed;
 ghost use mathlib.Core.Path.{_≡_};
 ghost use mathlib.Core.Bool.{true};
 ghost use mathlib.Core.List.{List};
-ghost use Prim.Native.Nat.{ℕ, _*_};
+ghost use Prim.Native.Nat.{_*_};
 ghost use lib.ListN.{length, take};
 ghost use Rattle.tree.specs.Layout.{wordsNeeded};
 ghost use Rattle.calls.specs.Refusals.{accepted as isAccepted, callRefusal};
@@ -23,37 +23,32 @@ ghost use Rattle.calls.specs.ListOrder.{listOrder};
 ghost use Rattle.queue.specs.Left.{listLeft};
 ghost use Rattle.queue.specs.Contracts.ListingCall.{ListingCall, listFrom};
 
-// The list of the root order that a played table has, written to the output if it is not longer than that.
+// The list of the root order that a played table has, written to the output if it is not longer than that. The first 2p
+// heads are those of the nodes.
 fn write_list(p: u32, l: u32, heads: &[u32], table: &[u32], output: &mut [u8]) -> Listed
-    requires { ⌜ ListingCall p l (now heads) (now table) ⌝ }
-    ensures { λ r. ⌜ ((rest : List ℕ) → listLeft r rest (now (output .exit)) ≡ listFrom (shapeFor p l) (now (table .entry)) rest (now (output .entry))) ⌝ }
+    requires { ⌜ ListingCall p l (take (2 * p) (now heads)) (take (wordsNeeded (shapeFor p l)) (now table)) ⌝ }
+    ensures { λ r. ⌜ listLeft r (now (table .entry)) (now (output .exit))
+        ≡ listFrom (shapeFor p l) (take (wordsNeeded (shapeFor p l)) (now (table .entry))) (now (table .entry)) (now (output .entry)) ⌝ }
 {
     let height = height_for(p);
-    let firsts = starts(height, as_index(l));
-    let last = last_root(heads, table, &firsts);
-    let length = list_length(table, &firsts, last);
+    let most = as_index(l);
+    let needed = words_needed(height, most);
+    let words = &table[..needed];
+    let firsts = starts(height, most);
+    let nodes = 2 * as_index(p);
+    let last = last_root(&heads[..nodes], words, &firsts);
+    let length = list_length(words, &firsts, last);
     if output.len() < length {
         return Listed {
             refusal: Refusal::OutputShort,
             length: 0,
         };
     }
-    write_order(table, &firsts, height, last, output);
+    write_order(words, &firsts, height, last, output);
     Listed {
         refusal: Refusal::None,
         length: length,
     }
-}
-
-// The same of all heads and of a whole table, of which the first 2p and the needed words were played.
-fn list_played(p: u32, l: u32, heads: &[u32], table: &[u32], output: &mut [u8]) -> Listed
-    requires { ⌜ ListingCall p l (take (2 * p) (now heads)) (take (wordsNeeded (shapeFor p l)) (now table)) ⌝ }
-    ensures { λ r. ⌜ listLeft r (now (table .entry)) (now (output .exit))
-        ≡ listFrom (shapeFor p l) (take (wordsNeeded (shapeFor p l)) (now (table .entry))) (now (table .entry)) (now (output .entry)) ⌝ }
-{
-    let nodes = 2 * as_index(p);
-    let needed = words_needed(height_for(p), as_index(l));
-    write_list(p, l, &heads[..nodes], &table[..needed], output)
 }
 
 // List the order, of a call that is not turned down.
@@ -70,7 +65,7 @@ fn list_accepted(p: u32, l: u32, records: &[u8], table: &mut [u32], output: &mut
             length: 0,
         };
     }
-    list_played(p, l, &heads, table, output)
+    write_list(p, l, &heads, table, output)
 }
 
 // Plays step records as Run does, without answers, and lists the root order that they leave. What it returns and all

@@ -9,8 +9,8 @@ ghost use lib.ListN.{length, take, replicate};
 ghost use Rattle.calls.specs.Refusals.{accepted as isAccepted, callRefusal};
 ghost use Rattle.queue.specs.Contracts.PlayedAll.{PlayedAll};
 
-// Plays the records of a call that is not turned down, with room for the answer of each, and compares the answers with a
-// log. Of 16 heads the first 2p are those of the nodes.
+// Plays the records of a call that is not turned down, with room for the answer of each, and compares the answers with
+// a log. Of 16 heads the first 2p are those of the nodes.
 pub fn play_all(
     p: u32,
     l: u32,

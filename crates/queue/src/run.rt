@@ -45,9 +45,9 @@ fn run_accepted(p: u32, l: u32, records: &[u8], table: &mut [u32], answers: &mut
 }
 
 // Plays step records with p processes of at most l operations each, and writes the answers. What it returns and all
-// that it leaves in the table and in the answer bytes is what the step rules say; and of a call that is not turned down,
-// demand 3 holds of the records that it took, the bytes that it wrote and the needed words that it left, and in these
-// words each superblock stands at its block's super or one place later.
+// that it leaves in the table and in the answer bytes is what the step rules say; and of a call that is not turned
+// down, demand 3 holds of the records that it took, the bytes that it wrote and the needed words that it left, and in
+// these words each superblock stands at its block's super or one place later.
 pub fn run(p: u32, l: u32, records: &[u8], table: &mut [u32], answers: &mut [u8]) -> Ran
     ensures rules { λ r. ⌜ runLeft r (now (table .exit)) (now (answers .exit)) ≡ runOf p l (now (records .entry)) (now (table .entry)) (now (answers .entry)) ⌝ }
     ensures demand3 { λ r. ⌜ (isAccepted (callRefusal p l (length (now (table .entry))) (length (now (records .entry)))) ≡ true →

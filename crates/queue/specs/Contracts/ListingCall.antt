@@ -19,6 +19,7 @@ pub record ListingCall (p l : ℕ) (heads table : List ℕ) : Type 0 where
   pub sized : Sized (shapeFor p l) (memoryOf table heads)
   pub sound : Sound (shapeFor p l) (memoryOf table heads)
 
--- the list of a played table t: 10 if it is longer than the output; `table` is all that the call leaves in the work table
+-- the list of a played table t: 10 if it is longer than the output; `table` is all that the call leaves in the work
+-- table
 unfoldable pub listFrom : Shape → List ℕ → List ℕ → List ℕ → ListResult
 listFrom s t table output = listed (listRefusal None (length (orderList s t)) (length output)) (orderList s t) table output

@@ -27,11 +27,11 @@ returns c =
     let at = o .before .before .before .before .before .before .before in
     list-refused (at .pre) (o .play-all .ensures) _ (found-refused refl (c .before .accepted .ensures) (c .if1 .taken))
 
-slice-aggregate-list-played : tie.Need-slice-aggregate-list-played
-slice-aggregate-list-played c = search needs
+slice-aggregate-write-list : tie.Need-slice-aggregate-write-list
+slice-aggregate-write-list c = search needs
 
-list-played-requires : tie.Need-list-played-requires
-list-played-requires c κs =
+write-list-requires : tie.Need-write-list-requires
+write-list-requires c κs =
     let o = c .before .before .before .before .before .before .before .before in
     let at = o .before .before .before .before .before .before .before in
     list-listing (at .pre) (o .play-all .ensures)
@@ -48,7 +48,7 @@ returns-2 c =
     let t = r .before .before .before .before in
     let o = t .before .before .before .before .before in
     let at = o .before .before .before .before .before .before .before in
-    list-left (at .pre) (o .play-all .ensures) (r .list-played .result) _ _ (found-accepted refl (t .before .accepted .ensures) (t .if1 .left)) (r .list-played .ensures)
+    list-left (at .pre) (o .play-all .ensures) (r .write-list .result) _ _ (found-accepted refl (t .before .accepted .ensures) (t .if1 .left)) (r .write-list .ensures)
 
 pub list-accepted-spec : {M : Type 1} → statement M
 list-accepted-spec =
@@ -60,8 +60,8 @@ list-accepted-spec =
     accepted-requires
     same-length
     returns
-    slice-aggregate-list-played
-    list-played-requires
+    slice-aggregate-write-list
+    write-list-requires
     same-length-2
     same-length-3
     returns-2)
