@@ -29,25 +29,34 @@ as-index-requires : tie.Need-as-index-requires
 as-index-requires c κs = search needs
 
 words-needed-requires : tie.Need-words-needed-requires
-words-needed-requires c κs = (c .before .height-for .ensures .2, omega (arith, c .as-index .ensures, allowed-most _ (c .before .before .before .before .before .before .before .pre .most) .1))
+words-needed-requires c κs =
+    let a = c .before .before .before .before .before .before .before in
+    (c .before .height-for .ensures .2, omega (arith, c .as-index .ensures, allowed-most _ (a .pre .most) .1))
 
 clear-requires : tie.Need-clear-requires
 clear-requires c κs = call-fits (measured (c .before))
 
 starts-requires : tie.Need-starts-requires
 starts-requires c κs =
-    let k = measured (c .before .before .before .before) in (c .before .before .before .before .before .before .height-for .ensures .2, omega (arith, k .most, allowed-most _ (k .callable .most) .1))
+    let w = c .before .before .before .before in
+    let k = measured w in
+    (w .before .before .height-for .ensures .2, omega (arith, k .most, allowed-most _ (k .callable .most) .1))
 
 slice-relend-prefix-play : tie.Need-slice-relend-prefix-play
-slice-relend-prefix-play c = omega (arith, call-fits (measured (c .before .before .before .before .before .before .before)), c .before .before .before .before .before .clear .kept .0)
+slice-relend-prefix-play c =
+    let b = c .before .before .before .before .before in
+    omega (arith, call-fits (measured (b .before .before)), b .clear .kept .0)
 
 slice-aggregate-play : tie.Need-slice-aggregate-play
-slice-aggregate-play c = sym (length-take-le _ _ (omega (arith, call-fits (measured (c .before .before .before .before .before .before .before .before)), c .before .before .before .before .before .before .clear .kept .0)))
+slice-aggregate-play c =
+    let b = c .before .before .before .before .before .before in
+    sym (length-take-le _ _ (omega (arith, call-fits (measured (b .before .before)), b .clear .kept .0)))
 
 play-requires : tie.Need-play-requires
 play-requires c κs =
-    let k = measured (c .before .before .before .before .before .before .before .before .before) in
-    (rw (c .before .before .before .before .before .before .before .clear .ensures) (call-starts k _ _ (c .before .before .before .before .starts .ensures .0)), allowed-width _ _ (k .callable .processes))
+    let b = c .before .before .before .before .before .before .before in
+    let k = measured (b .before .before) in
+    (rw (b .clear .ensures) (call-starts k _ _ (c .before .before .before .before .starts .ensures .0)), allowed-width _ _ (k .callable .processes))
 
 same-length : tie.Need-same-length
 same-length c = search needs
