@@ -1,4 +1,5 @@
--- A process whose next step is Q: its operation stands in the root, and where it stands gives its answer. Used by proofs; no exported promise names it.
+-- A process whose next step is Q: its operation stands in the root, and where it stands gives its answer. Used by
+-- proofs; no exported promise names it.
 use Prim.Native.Nat.{ℕ, zero, suc, _+_, _-_, _^_, _≤_, _<_}
 use native.Mathlib.Omega.{arith}
 use mathlib.Core.Path.{_≡_, refl, subst, _∙_}
@@ -45,7 +46,7 @@ module _ {s : Shape} {ps : List Process} {starts heads table : List ℕ} {k : �
   m = memoryOf table heads
 
   pub leaf-small : p + k < 16
-  leaf-small = omega (arith, plays .low, processes-most s (plays .tall) (plays .few))
+  leaf-small = omega (arith, plays .low, processes-most s (plays .tall))
 
   pub answer-small : {r : Reply} {b : ℕ} {x : AnswerRecord} → x ≡ recordOf k q r b → (x .process < 256) × (x .steps < 65536)
   answer-small e = rw e (omega (arith, leaf-small), omega (arith, steps-small s ps starts heads table k q plays))

@@ -32,7 +32,8 @@ fn answer(k: u32, q: Process, reply: Reply, block: u32) -> AnswerRecord
     }
 }
 
-// The answer of operation o of process k, which is q. Its leaf is node p + k. Only a take's reply goes by its number in the root block.
+// The answer of operation o of process k, which is q. Its leaf is node p + k. Only a take's reply goes by its number in
+// the root block.
 pub fn answer_of(
     heads: &[u32],
     table: &[u32],

@@ -11,7 +11,8 @@ ghost use Rattle.tree.specs.Shape.{Shape};
 ghost use Rattle.calls.specs.Answer.{takeReply};
 ghost use Rattle.answer.specs.Contracts.Answering.{TakeAt};
 
-// The reply of the i-th take of root block b. The root is node 1. Where the margin is not below 0, the put with that number is in the root blocks up to b.
+// The reply of the i-th take of root block b. The root is node 1. Where the margin is not below 0, the put with that
+// number is in the root blocks up to b.
 pub fn take_reply(table: &[u32], starts: &[usize; 17], height: usize, b: u32, i: u32) -> Reply
     requires { ⌜ SomeTwo (TakeAt (now starts) (now table) height b i) ⌝ }
     ensures { λ r. ⌜ ((s : Shape) (heads : List ℕ) →

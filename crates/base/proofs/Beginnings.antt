@@ -1,5 +1,5 @@
--- What a beginning is: no longer than the list, with every entry at its own place there. What is added at the end leaves
--- it a beginning, and so does gathering from each entry.
+-- What a beginning is: no longer than the list, with every entry at its own place there. What is added at the end
+-- leaves it a beginning, and so does gathering from each entry.
 use Prim.Native.Nat.{ℕ, _≤_, _<_}
 use native.Mathlib.Omega.{arith}
 use mathlib.Core.Path.{_≡_, ap, sym, _∙_}

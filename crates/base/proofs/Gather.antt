@@ -1,4 +1,5 @@
--- Lists gathered over the numbers between two numbers: flatMap f (between i j). Used by proofs; no exported promise names it.
+-- Lists gathered over the numbers between two numbers: flatMap f (between i j). Used by proofs; no exported promise
+-- names it.
 use Prim.Native.Nat.{ℕ, zero, suc, _+_, _-_, _≤_, _<_}
 use native.Mathlib.Omega.{arith}
 use native.Mathlib.Nat.{le-refl, zero-add, add-zero, add-suc, suc-add, sub-self}
@@ -105,7 +106,8 @@ module _ {A : Type 0} where
       between-all (λ a l. ((b : ℕ) → a ≤ b → b < j → All P (f (suc b))) → All P (flatMap f l)) j (λ h. tt)
       (λ a l la ih h. all-append P (f (suc a)) (flatMap f l) (h a (le-refl _) la) (ih (λ b al lb. h b (omega arith) lb))) i le
 
-  -- a measure that adds up, and that the list at each number brings from G before it to G at it, is brought from G at the first to G at the last
+  -- a measure that adds up, and that the list at each number brings from G before it to G at it, is brought from G at
+  -- the first to G at the last
   module _ (μ : List A → ℕ) (nil : μ [] ≡ 0) (app : (xs ys : List A) → μ (xs ++ ys) ≡ μ xs + μ ys) where
     pub gather-measure : (f : ℕ → List A) (G : ℕ → ℕ) (i j : ℕ) → i ≤ j → ((b : ℕ) → i ≤ b → b < j → μ (f (suc b)) + G b ≡ G (suc b))
         → μ (flatMap f (between i j)) + G i ≡ G j

@@ -149,7 +149,9 @@ module _ {s : Shape} {m : Machine} {c : ℕ → ℕ} {h : List Event} {log : Lis
         (record { process = kp; last = sym here; busy = ap (λ (q : Process). isIdle (q .status)) (begun-here s m (ag .invariant) k kp o rests few) }))
       where
         old : Running s m c x → Running s (begin m k o) c' x
-        old r = record { process = r .process; last = r .last ∙ sym (there (x .process) other); busy = ap (λ (q : Process). isIdle (q .status)) (begun-other s m (ag .invariant) k kp o rests few (x .process) other) ∙ r .busy }
+        old r =
+            let kept = begun-other s m (ag .invariant) k kp o rests few (x .process) other in
+            record { process = r .process; last = r .last ∙ sym (there (x .process) other); busy = ap (λ (q : Process). isIdle (q .status)) kept ∙ r .busy }
           where
             other : x .process ≢ k
             other z = true≢false (sym (ap (λ (j : ℕ). isIdle (processOf m j .status)) z ∙ ap isIdle rests) ∙ r .busy)

@@ -83,7 +83,9 @@ module _ {s : Shape} {m : Machine} {c : ℕ → ℕ} {h : List Event} {log : Lis
   mem' = stepOf s m k .memory
 
   eff : Effect s k o (m .memory) (holding m k) mem' (stageOf (step s k o (m .memory) n .next))
-  eff = subst (λ (x : Memory). Effect s k o (m .memory) (holding m k) x (stageOf (step s k o (m .memory) n .next))) (sym (stepped-memory s tall m inv k kp o n busy)) (step-effect s tall m inv k kp o n busy)
+  eff =
+      subst (λ (x : Memory). Effect s k o (m .memory) (holding m k) x (stageOf (step s k o (m .memory) n .next)))
+      (sym (stepped-memory s tall m inv k kp o n busy)) (step-effect s tall m inv k kp o n busy)
 
   pub later : Later s (m .memory) mem'
   later = later-grows (later-refl s (m .memory)) (eff .grows)
@@ -239,7 +241,8 @@ module _ {s : Shape} {m : Machine} {c : ℕ → ℕ} {h : List Event} {log : Lis
               arith,
               r,
               ag .counts k kp,
-              reached-rises s (m .memory) (inv .sound) k kp (headOf (m .memory) root - 1) (lastRoot s (m .memory .table)) (omega (arith, head-last s (m .memory) (inv .sound))) (last-written s (m .memory) (inv .sound)),
+              reached-rises s (m .memory) (inv .sound) k kp (headOf (m .memory) root - 1) (lastRoot s (m .memory .table))
+                  (omega (arith, head-last s (m .memory) (inv .sound))) (last-written s (m .memory) (inv .sound)),
             );
       }
 

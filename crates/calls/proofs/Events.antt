@@ -1,4 +1,5 @@
--- What one more event keeps: what an operation does, and which operations have finished. Lists of operations by what holds of each.
+-- What one more event keeps: what an operation does, and which operations have finished. Lists of operations by what
+-- holds of each.
 use Prim.Native.Nat.{suc, _≤_}
 use native.Mathlib.Omega.{arith}
 use mathlib.Core.Path.{_≡_, refl, _∙_}

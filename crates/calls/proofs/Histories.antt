@@ -14,7 +14,8 @@ use Rattle.tree.specs.Standing.{same}
 use Rattle.tree.proofs.Names.{count-append}
 use Rattle.steps.specs.Machine.{start}
 use Rattle.calls.specs.Run.{takeRecord, recordAnswers}
-use Rattle.calls.specs.History.{Event, opens, moves, finishes, machineAfter, begins, event, eventsAfter, history, isOpening, isOwnStep, isFinish, isOpened, isFinished, finishedBefore, ownSteps, does}
+use Rattle.calls.specs.History.{Event, opens, moves, finishes, machineAfter, begins, event, eventsAfter, history}
+use Rattle.calls.specs.History.{isOpening, isOwnStep, isFinish, isOpened, isFinished, finishedBefore, ownSteps, does}
 use Rattle.calls.specs.Demand3.{finishing}
 use Rattle.calls.proofs.Legal.{answersAfter, answersAlong}
 

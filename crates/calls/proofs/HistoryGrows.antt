@@ -1,5 +1,5 @@
--- The theorem: history only grows. For general H of every legal list and of every two runs; and of what Run and list the
--- order leave, for every p, L, list of bytes, continuation, table and buffer.
+-- The theorem: history only grows. For general H of every legal list and of every two runs; and of what Run and list
+-- the order leave, for every p, L, list of bytes, continuation, table and buffer.
 use Prim.Native.Nat.{ℕ, _*_, _≤_}
 use mathlib.Core.Path.{_≡_, ap, _∙_, subst}
 use mathlib.Core.Bool.{true, false}

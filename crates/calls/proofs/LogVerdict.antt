@@ -1,4 +1,5 @@
--- The verdict of check a log tells exactly whether a log is that of the rules, and if not, at which record they first differ.
+-- The verdict of check a log tells exactly whether a log is that of the rules, and if not, at which record they first
+-- differ.
 use Prim.Native.Nat.{ℕ, zero, suc, _+_, _*_, _/_, _%_, _≤_, _<_}
 use native.Mathlib.Omega.{arith}
 use native.Mathlib.Nat.{add-zero, zero-add}

@@ -1,4 +1,5 @@
--- What a run leaves is what the records that it took leave. The invariant is only used by proofs, and no exported promise names it.
+-- What a run leaves is what the records that it took leave. The invariant is only used by proofs, and no exported
+-- promise names it.
 use Prim.Native.Nat.{ℕ, _+_, _*_, _-_, _≤_}
 use native.Mathlib.Omega.{arith}
 use mathlib.Core.Path.{_≡_, refl, ap, sym, _∙_, subst}

@@ -1,4 +1,5 @@
--- The plain queue fed the root order answers each operation that stands there as the tree's answer rule does. Used by proofs; no exported promise names it.
+-- The plain queue fed the root order answers each operation that stands there as the tree's answer rule does. Used by
+-- proofs; no exported promise names it.
 use Prim.Native.Nat.{ℕ, suc, _+_, _-_, _≤_, _<_}
 use native.Mathlib.Omega.{arith}
 use native.Mathlib.Decide.{decLt}

@@ -1,4 +1,5 @@
--- What C3 and Q read can no longer change, save super: of every run without refusal and of every continuation without refusal, for general H.
+-- What C3 and Q read can no longer change, save super: of every run without refusal and of every continuation without
+-- refusal, for general H.
 use Prim.Native.Nat.{ℕ, suc, _-_, _≤_, _<_}
 use native.Mathlib.Omega.{arith}
 use native.Mathlib.Nat.{le-refl}

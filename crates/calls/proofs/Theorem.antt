@@ -1,4 +1,5 @@
--- THE theorem: demand 3 holds of what Run leaves, for every p, L, list of bytes, table and answer buffer; and of every list of records, for general H.
+-- THE theorem: demand 3 holds of what Run leaves, for every p, L, list of bytes, table and answer buffer; and of every
+-- list of records, for general H.
 use Prim.Native.Nat.{ℕ, _*_, _≤_}
 use native.Mathlib.Omega.{arith}
 use native.Mathlib.Nat.{le-refl}
@@ -85,7 +86,11 @@ module _ (p l : ℕ) (records table answers : List ℕ) (taken : accepted (callR
   -- of a call that is not turned down
   pub demand3-run : RunKeeps p l records (run p l records table answers)
   demand3-run =
+      let e = runPlayed s played table answers in
+      let t = take (wordsNeeded s) (e .table) in
+      let log = take (answerSize * e .answered) (e .answers) in
       subst (RunKeeps p l records) (sym run-is)
-      (subst (λ (n : ℕ). Demand3 p l (take n (stepRecords records)) (take (answerSize * runPlayed s played table answers .answered) (runPlayed s played table answers .answers)) (take (wordsNeeded (shapeFor p l)) (runPlayed s played table answers .table))) (sym taken-is)
-      (subst (λ (x : List ℕ). Demand3 p l (take (played .taken) (stepRecords records)) x (take (wordsNeeded (shapeFor p l)) (runPlayed s played table answers .table))) (sym log-is)
-      (subst (Demand3 p l (take (played .taken) (stepRecords records)) (logBytes (played .answers))) (sym table-is) (demand3-played p l (length answers) records))))
+      (subst (λ (n : ℕ). Demand3 p l (take n (stepRecords records)) log t) (sym taken-is)
+      (subst (λ (x : List ℕ). Demand3 p l (take (played .taken) (stepRecords records)) x t) (sym log-is)
+      (subst (Demand3 p l (take (played .taken) (stepRecords records)) (logBytes (played .answers))) (sym table-is)
+      (demand3-played p l (length answers) records))))

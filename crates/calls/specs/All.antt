@@ -15,5 +15,11 @@ use Rattle.calls.specs.Demand3.{queueAfter, queueAnswer, queueRecord, fi
 use Rattle.calls.specs.Linearizable.{response, precedes}
 
 unfoldable pub rules : Unit {0}
-unfolding records trees stepRules margin putNumber valueOf byMargin takeReply replyOf answerOf answersFrom answersOf refusalNumber accepted torn firstRefusal settingsRefusal bufferRefusal callRefusal beginRefusal stepRefusal recordRefusal operationOf takeRecord recordAnswers atStart taking refusing playRecord play runTurnedDown runPlayed run kindNumber orderRecord orderList playAll listRefusal listed listPlayed listOrder sameBytes compared checkRefusal verdictNumber verdictIndex verdictRefusal checked verdictOn checkPlayed checkLog logOfRules recordAt fed answers machineAfter doesQ begins operation event eventsAfter history isOpening isOwnStep isFinish isOpened isFinished finishedBefore ownSteps does queueAfter queueAnswer queueRecord finishing stepLimit response precedes
+unfolding records trees stepRules margin putNumber valueOf byMargin takeReply replyOf answerOf answersFrom answersOf
+    refusalNumber accepted torn firstRefusal settingsRefusal bufferRefusal callRefusal beginRefusal stepRefusal
+    recordRefusal operationOf takeRecord recordAnswers atStart taking refusing playRecord play runTurnedDown runPlayed
+    run kindNumber orderRecord orderList playAll listRefusal listed listPlayed listOrder sameBytes compared
+    checkRefusal verdictNumber verdictIndex verdictRefusal checked verdictOn checkPlayed checkLog logOfRules recordAt
+    fed answers machineAfter doesQ begins operation event eventsAfter history isOpening isOwnStep isFinish isOpened
+    isFinished finishedBefore ownSteps does queueAfter queueAnswer queueRecord finishing stepLimit response precedes
 rules = tt

@@ -36,7 +36,8 @@ compared i (x ∷ xs) (y ∷ ys) = let r = compared (suc i) xs ys in if sameByte
 unfoldable pub checkRefusal : ℕ → ℕ → ℕ → ℕ → ℕ → Refusal
 checkRefusal p l words bytes log = firstRefusal (callRefusal p l words bytes) (if torn answerSize log then LogTorn else None)
 
--- a verdict in numbers: 0 same, 1 differs, 2 refused; the index of the first record that differs, and the paper's number of the refusal, each 0 where there is none
+-- a verdict in numbers: 0 same, 1 differs, 2 refused; the index of the first record that differs, and the paper's
+-- number of the refusal, each 0 where there is none
 unfoldable pub verdictNumber : Verdict → ℕ
 verdictNumber Same = 0
 verdictNumber (Differs i) = 1

@@ -1,5 +1,5 @@
--- History only grows: the root order that a list of records leaves is the beginning of the one that it leaves when it is
--- continued.
+-- History only grows: the root order that a list of records leaves is the beginning of the one that it leaves when it
+-- is continued.
 use Prim.Native.Nat.{ℕ}
 use mathlib.Core.Path.{_≡_}
 use mathlib.Core.List.{List, _++_}

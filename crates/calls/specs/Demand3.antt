@@ -1,17 +1,19 @@
 -- Demand 3: what holds of the answer bytes and of the table words that a run leaves, whatever the order of its steps.
 --
 -- Document 01, "Terms of demand 3", and what says it:
---   a single claim about a whole list .. on the answers that Run writes and the blocks in the table that it leaves     Demand3, RunKeeps
---   before the first record the needed words are zero, each head is 1 and every process is idle                        start (steps, Machine)
---   each record meets what the one before left; a refused record and those after it play no part                       machineAfter, over the records taken (History)
---   an operation is opened by a begin record, has its kind and value; its serial is its number among its begins        event, operation, begins, does, isOpened (History)
---   it finishes with the record that does its Q                                                                        doesQ, isFinished (History)
---   it finished before another began                                                                                   finishedBefore (History)
---   its own steps; a finished operation's answer gives their number                                                    ownSteps (History); queueRecord
---   it stands in root block b once for each time that opening b's puts or takes gives its place                        standsIn (tree, Standing), opened (tree, Order)
---   nothing else stands there                                                                                          QueuePromises.nothingElse
---   the last root block                                                                                                lastRoot (tree, Order)
---   the plain queue, fed the operations in root order, each with the kind and value of its begin record                fed, answers (PlainQueue); queueAfter, queueAnswer
+--   a single claim about a whole list .. on the answers that Run writes and the blocks in the table that it leaves
+-- Demand3, RunKeeps   before the first record the needed words are zero, each head is 1 and every process is idle
+-- start (steps, Machine)   each record meets what the one before left; a refused record and those after it play no part
+-- machineAfter, over the records taken (History)   an operation is opened by a begin record, has its kind and value;
+-- its serial is its number among its begins        event, operation, begins, does, isOpened (History)   it finishes
+-- with the record that does its Q                                                                        doesQ,
+-- isFinished (History)   it finished before another began
+-- finishedBefore (History)   its own steps; a finished operation's answer gives their number
+-- ownSteps (History); queueRecord   it stands in root block b once for each time that opening b's puts or takes gives
+-- its place                        standsIn (tree, Standing), opened (tree, Order)   nothing else stands there
+-- QueuePromises.nothingElse   the last root block
+-- lastRoot (tree, Order)   the plain queue, fed the operations in root order, each with the kind and value of its begin
+-- record                fed, answers (PlainQueue); queueAfter, queueAnswer
 use Prim.Native.Nat.{ℕ, _+_, _*_, _≤_, _<_}
 use mathlib.Core.Path.{_≡_}
 use mathlib.Core.Bool.{true}
@@ -73,7 +75,8 @@ pub record QueuePromises (s : Shape) (h : List Event) (log t : List ℕ) : Type 
   pub atMostOnce : (x : OpId) → times x (rootOperations s t) ≤ 1
   -- nothing else
   pub nothingElse : (x : OpId) → 1 ≤ times x (rootOperations s t) → isOpened x h ≡ true
-  -- the plain queue fed the root order gives every finished take its answer, and the answers are those of the finished operations, in the order of their Q's
+  -- the plain queue fed the root order gives every finished take its answer, and the answers are those of the finished
+  -- operations, in the order of their Q's
   pub answered : log ≡ logBytes (map (queueRecord s t h) (finishing h))
   -- and ends with as many values as the last root block says
   pub endSize : length (queueAfter h [] (rootOperations s t)) ≡ blockAt s t root (lastRoot s t) .size
@@ -86,7 +89,8 @@ pub record QueuePromises (s : Shape) (h : List Event) (log t : List ℕ) : Type 
 abbrev pub Demand3 : ℕ → ℕ → List StepRecord → List ℕ → List ℕ → Type 0
 Demand3 p l taken log t = QueuePromises (shapeFor p l) (history (shapeFor p l) taken) log t
 
--- Demand 3 of a call of Run on some records: of those that it took, the bytes that it wrote and the needed words that it left
+-- Demand 3 of a call of Run on some records: of those that it took, the bytes that it wrote and the needed words that
+-- it left
 abbrev pub RunKeeps : ℕ → ℕ → List ℕ → RunResult → Type 0
 RunKeeps p l records e =
     Demand3 p l (take (e .taken) (stepRecords records)) (take (answerSize * e .answered) (e .answers)) (take (wordsNeeded (shapeFor p l)) (e .table))

@@ -22,7 +22,8 @@ pub data Event : Type 0 where
 
 -- ---- the events of the records
 
--- which record does a Q: the step rules, played over the records before it, have its process at Q. Nothing else here names the step rules.
+-- which record does a Q: the step rules, played over the records before it, have its process at Q. Nothing else here
+-- names the step rules.
 unfoldable pub machineAfter : Shape → List StepRecord → Machine
 machineAfter s before = foldl (takeRecord s) (start s) before
 
@@ -38,7 +39,8 @@ begins k (r ∷ rs) = let n = begins k rs in if isBegin r && eqb (r .process) k 
 unfoldable pub operation : ℕ → ℕ → OpId
 operation k serial = record { process = k; serial = serial }
 
--- the event of a record: a begin opens the next operation of its process, a step is one of the last that its process began
+-- the event of a record: a begin opens the next operation of its process, a step is one of the last that its process
+-- began
 unfoldable pub event : Shape → List StepRecord → StepRecord → Event
 event s before r =
     let k = r .process in
@@ -88,8 +90,8 @@ unfoldable pub finishedBefore : OpId → OpId → List Event → Bool
 finishedBefore x y [] = false
 finishedBefore x y (e ∷ h) = (isFinish x e && isOpened y h) || finishedBefore x y h
 
--- the own steps of x: the kind 0 records of its process after its begin, up to and with its Q, or to the end of the run where it has none (after its Q a process takes no
--- step before its next begin: that is refused with 7)
+-- the own steps of x: the kind 0 records of its process after its begin, up to and with its Q, or to the end of the run
+-- where it has none (after its Q a process takes no step before its next begin: that is refused with 7)
 unfoldable pub ownSteps : OpId → List Event → ℕ
 ownSteps x [] = 0
 ownSteps x (e ∷ h) = let n = ownSteps x h in if isOwnStep x e then suc n else n

@@ -48,8 +48,8 @@ pub data Fact : Type 0 where
   -- the leaf of process k has this head
   leafHead : ℕ → ℕ → Fact
 
--- a call of Run and what it must leave: p, L, the words of the table, the bytes of the answer buffer and the records; the number returned, the records taken, the answers
--- written, the whole answer buffer, and facts
+-- a call of Run and what it must leave: p, L, the words of the table, the bytes of the answer buffer and the records;
+-- the number returned, the records taken, the answers written, the whole answer buffer, and facts
 pub record Row : Type 0 where
   pub p : ℕ
   pub most : ℕ

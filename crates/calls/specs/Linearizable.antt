@@ -13,7 +13,8 @@ use Rattle.tree.specs.Standing.{same, times}
 use Rattle.calls.specs.History.{Event, operation, isOpened, isFinished, finishedBefore, ownSteps}
 use Rattle.calls.specs.Demand3.{queueAnswer}
 
--- The concurrent history: an operation is invoked by the record that opens it, and responds with the record that finishes it. Its response is what its answer record says.
+-- The concurrent history: an operation is invoked by the record that opens it, and responds with the record that
+-- finishes it. Its response is what its answer record says.
 unfoldable pub response : List AnswerRecord → OpId → Reply
 response [] x = Nothing
 response (a ∷ log) x = let r = response log x in if same x (operation (a .process) (a .serial)) then a .reply else r
@@ -23,8 +24,9 @@ unfoldable pub precedes : OpId → OpId → List OpId → Bool
 precedes x y [] = false
 precedes x y (z ∷ order) = (same x z && ltb 0 (times y order)) || precedes x y order
 
--- A history is linearizable to a FIFO queue if some order of operations, among them all that responded and, of the others, some that were invoked, is one in which a FIFO queue
--- gives every operation that responded its response, and which keeps the order of operations that do not overlap.
+-- A history is linearizable to a FIFO queue if some order of operations, among them all that responded and, of the
+-- others, some that were invoked, is one in which a FIFO queue gives every operation that responded its response, and
+-- which keeps the order of operations that do not overlap.
 pub record Linearizable (h : List Event) (log : List AnswerRecord) : Type 0 where
   pub order : List OpId
   pub responded : (x : OpId) → isFinished x h ≡ true → times x order ≡ 1
@@ -33,7 +35,8 @@ pub record Linearizable (h : List Event) (log : List AnswerRecord) : Type 0 wher
   pub legal : (x : OpId) → isFinished x h ≡ true → response log x ≡ queueAnswer h x [] order
   pub keepsOrder : (x y : OpId) → finishedBefore x y h ≡ true → 1 ≤ times x order → 1 ≤ times y order → precedes x y order ≡ true
 
--- Wait-free with a bound: whatever the others do, an operation takes no more own steps than the bound, and with that many it has responded.
+-- Wait-free with a bound: whatever the others do, an operation takes no more own steps than the bound, and with that
+-- many it has responded.
 pub record WaitFree (bound : ℕ) (h : List Event) : Type 0 where
   pub within : (x : OpId) → ownSteps x h ≤ bound
   pub responds : (x : OpId) → bound ≤ ownSteps x h → isFinished x h ≡ true

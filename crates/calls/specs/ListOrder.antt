@@ -15,11 +15,13 @@ use Rattle.calls.specs.Refusals.{refusalNumber, accepted, callRefusal}
 use Rattle.calls.specs.Run.{Played, play}
 use Rattle.order.specs.OrderList.{orderList}
 
--- the records played as Run plays them, with room for the answer of each: without an answer buffer no record is refused with 9
+-- the records played as Run plays them, with room for the answer of each: without an answer buffer no record is refused
+-- with 9
 unfoldable pub playAll : Shape → List StepRecord → Played
 playAll s rs = play s (answerSize * length rs) rs
 
--- what the call returns (the paper's number of the refusal, the list's length), and all that it leaves in the work table and in the output
+-- what the call returns (the paper's number of the refusal, the list's length), and all that it leaves in the work
+-- table and in the output
 pub record ListResult : Type 0 where
   pub refusal : ℕ
   pub length : ℕ

@@ -1,4 +1,5 @@
--- Demand 2, "a supplier's log passes exactly if it is byte for byte theirs": what the verdict of check a log tells of the log, and where two logs differ.
+-- Demand 2, "a supplier's log passes exactly if it is byte for byte theirs": what the verdict of check a log tells of
+-- the log, and where two logs differ.
 use Prim.Native.Nat.{ℕ, _*_}
 use mathlib.Core.Path.{_≡_}
 use mathlib.Core.List.{List}

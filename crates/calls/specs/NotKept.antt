@@ -1,5 +1,5 @@
--- Outcomes that demand 3 refuses: each clause of QueuePromises refutes some, and each weaker clause that a mistakes/weak_*.edit
--- puts in its place would let one of them pass.
+-- Outcomes that demand 3 refuses: each clause of QueuePromises refutes some, and each weaker clause that a
+-- mistakes/weak_*.edit puts in its place would let one of them pass.
 use Prim.Native.Nat.{ℕ, zero, suc, _+_, _*_, _<_}
 use native.Mathlib.Omega.{arith}
 use mathlib.Core.Path.{_≡_, refl, ap, sym, _∙_}

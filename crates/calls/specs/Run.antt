@@ -60,7 +60,8 @@ playRecord s room g r =
 unfoldable pub play : Shape → ℕ → List StepRecord → Played
 play s room rs = foldl (playRecord s room) (atStart s) rs
 
--- what Run returns (the paper's number of the refusal, the records taken, the answers written), and all that it leaves in the work table and in the answer bytes
+-- what Run returns (the paper's number of the refusal, the records taken, the answers written), and all that it leaves
+-- in the work table and in the answer bytes
 pub record RunResult : Type 0 where
   pub refusal : ℕ
   pub taken : ℕ

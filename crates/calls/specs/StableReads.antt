@@ -1,4 +1,5 @@
--- Document 01, "C3 and Q read only blocks that can no longer change, save super": of a machine m, and of one that it becomes as more records are taken.
+-- Document 01, "C3 and Q read only blocks that can no longer change, save super": of a machine m, and of one that it
+-- becomes as more records are taken.
 use Prim.Native.Nat.{ℕ, _*_, _-_, _≤_, _<_}
 use mathlib.Core.Path.{_≡_}
 use Rattle.tree.specs.declared.Block.{Block}
@@ -22,9 +23,10 @@ pub record EqualSaveSuper (x y : Block) : Type 0 where
   pub right : x .right ≡ y .right
   pub size : x .size ≡ y .size
 
--- What is below a head can no longer change: in n it is what it is in m. What a block below a head opens is below heads too: its ends are.
--- Process k at C3: the three blocks that it reads are below heads. Process k at Q: its root block is below the root's head, and so is all that this block and those before it open;
--- what it finds there, its root block and its reply, it would find in n.
+-- What is below a head can no longer change: in n it is what it is in m. What a block below a head opens is below heads
+-- too: its ends are. Process k at C3: the three blocks that it reads are below heads. Process k at Q: its root block is
+-- below the root's head, and so is all that this block and those before it open; what it finds there, its root block
+-- and its reply, it would find in n.
 pub record StableReads (s : Shape) (m n : Machine) (k : ℕ) : Type 0 where
   pub stays : (v i : ℕ) → 1 ≤ v → v < 2 * processes s → i < headOf (m .memory) v → EqualSaveSuper (block s (n .memory) v i) (block s (m .memory) v i)
   pub opens : (v i : ℕ) → 1 ≤ v → v < processes s → i < headOf (m .memory) v → (d : Side) → endOf d (block s (m .memory) v i) < headOf (m .memory) (childOf d v)

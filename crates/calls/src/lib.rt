@@ -1,4 +1,5 @@
-// What Run, list the order and check a log do, defined, and that demand 3 holds of every run. There is no code here but the two enums of the answers.
+// What Run, list the order and check a log do, defined, and that demand 3 holds of every run. There is no code here but
+// the two enums of the answers.
 
 // Why a call or a record is refused.
 pub enum Refusal {

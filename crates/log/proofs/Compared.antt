@@ -1,4 +1,5 @@
--- Two logs compared by the equal records at their beginning: the same where these are all of both, and otherwise they differ at the record after them.
+-- Two logs compared by the equal records at their beginning: the same where these are all of both, and otherwise they
+-- differ at the record after them.
 use Prim.Native.Nat.{ℕ, suc, _+_, _*_, _%_}
 use native.Mathlib.Nat.{add-zero}
 use native.Mathlib.Omega.{arith}

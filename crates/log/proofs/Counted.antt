@@ -1,4 +1,5 @@
--- The equal records at the beginning of two logs, when one of them gets more records: what `countAfter` says of one more.
+-- The equal records at the beginning of two logs, when one of them gets more records: what `countAfter` says of one
+-- more.
 use Prim.Native.Nat.{ℕ, suc, _+_, _*_, _/_, _≤_, _<_}
 use native.Mathlib.Nat.{suc-add}
 use native.Mathlib.Omega.{arith}

@@ -21,7 +21,8 @@ fn same_sixteen(bytes: &[u8], log: &[u8], at: usize) -> bool
     true
 }
 
-// How many records at the beginning of two logs are equal, when the one with n answers gets another, a, and `equal` were so far. Once they differ, later records count no more.
+// How many records at the beginning of two logs are equal, when the one with n answers gets another, a, and `equal`
+// were so far. Once they differ, later records count no more.
 pub fn equal_after(log: &[u8], n: usize, equal: usize, a: AnswerRecord) -> usize
     requires { ⌜ (16 * n + 16 < 18446744073709551616) × (a .process < 256) × (a .steps < 65536) ⌝ }
     ensures { λ r. ⌜ r ≡ countAfter (now (log .entry)) n equal a ⌝ }
@@ -41,8 +42,8 @@ pub fn equal_after(log: &[u8], n: usize, equal: usize, a: AnswerRecord) -> usize
     equal
 }
 
-// What checking a log of so many bytes finds, when `equal` records at the beginning are those of the answers: the same log, if these are all records of both. A log has whole
-// records here, so its bytes tell how many they are.
+// What checking a log of so many bytes finds, when `equal` records at the beginning are those of the answers: the same
+// log, if these are all records of both. A log has whole records here, so its bytes tell how many they are.
 pub fn verdict(equal: usize, answers: usize, bytes: usize) -> calls::Verdict
     requires { ⌜ 16 * answers < 18446744073709551616 ⌝ }
     ensures { λ r. ⌜ r ≡ verdictOf equal answers bytes ⌝ }

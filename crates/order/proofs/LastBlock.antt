@@ -1,5 +1,5 @@
--- The last root block of a settled memory: it is at the root's head, if a block is there, and just before the head if none is; its place is the root's, and it counts the
--- list's records.
+-- The last root block of a settled memory: it is at the root's head, if a block is there, and just before the head if
+-- none is; its place is the root's, and it counts the list's records.
 use Prim.Native.Nat.{ℕ, _*_, _-_, _≤_, _<_}
 use native.Mathlib.Omega.{arith}
 use native.Mathlib.Decide.{ℕ-discrete}

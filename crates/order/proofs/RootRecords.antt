@@ -1,4 +1,5 @@
--- Root blocks as order records: the list of the root order is theirs one after the other, a root block's are its puts' and then its takes', and how many bytes they have.
+-- Root blocks as order records: the list of the root order is theirs one after the other, a root block's are its puts'
+-- and then its takes', and how many bytes they have.
 use Prim.Native.Nat.{ℕ, suc, _+_, _*_, _^_}
 use native.Mathlib.Omega.{arith}
 use mathlib.Core.Path.{_≡_, refl, ap₂, _∙_}

@@ -1,4 +1,5 @@
--- A present block and its subblocks: the node has their places, its words are small, and what the block opens to is what its subblocks do, left before right.
+-- A present block and its subblocks: the node has their places, its words are small, and what the block opens to is
+-- what its subblocks do, left before right.
 use Prim.Native.Nat.{ℕ, zero, suc, _+_, _-_, _≤_, _<_}
 use native.Mathlib.Omega.{arith}
 use native.Mathlib.Numerals.{add-one}

@@ -33,8 +33,8 @@ module _ {starts table : List ℕ} {h b : ℕ} where
   tree-room q =
       record { shape = q .shape; heads = q .heads; holds = q .holds; fits = rw (← tree-list (q .shape) (q .heads) (q .holds)) (q .fits) }
 
-  -- the output once all root blocks are stored. Any two shapes that the table may have give lists of the same length, so
-  -- that each has room.
+  -- the output once all root blocks are stored. Any two shapes that the table may have give lists of the same length,
+  -- so that each has room.
   pub tree-stored : {before after : List ℕ} {next : ℕ} → Room (TreeOf starts table h b) (λ s. orderList s table) 0 (length before)
       → Lists (TreeOf starts table h b) (gathered (rootRecords table) 0 b) before 0 after next
       → (s : Shape) (heads : List ℕ) → TreeOf starts table h b s heads → after ≡ orderList s table ++ drop (length (orderList s table)) before

@@ -1,9 +1,10 @@
-// The root order of a table: its last root block, and all its operations written as order records. The table is one that steps have left; nothing here changes it.
+// The root order of a table: its last root block, and all its operations written as order records. The table is one
+// that steps have left; nothing here changes it.
 pub mod list;
 pub mod roots;
 
-// What the order records of one list have in common: the kind of the operations and the root block that they stand in. The process of leaf v is v less the number of
-// processes.
+// What the order records of one list have in common: the kind of the operations and the root block that they stand in.
+// The process of leaf v is v less the number of processes.
 pub struct Listing {
     pub kind: tree::Kind,
     pub processes: u32,

@@ -27,7 +27,8 @@ fn kind_number(kind: Kind) -> u32
     }
 }
 
-// Whether block b of a leaf adds an operation of the kind. Only the totals tell: a put of 0 leaves the same end left as a take.
+// Whether block b of a leaf adds an operation of the kind. Only the totals tell: a put of 0 leaves the same end left as
+// a take.
 fn adds(table: &[u32], starts: &[usize; 17], kind: Kind, leaf: u32, b: u32) -> bool
     requires { ⌜ (1 ≤ b) × HasPlace (now starts) (now table) leaf (b - 1) × HasPlace (now starts) (now table) leaf b ⌝ }
     ensures { λ r. ⌜ r ≡ addsTo (now (starts .entry)) (now (table .entry)) kind leaf b ⌝ }
@@ -37,7 +38,8 @@ fn adds(table: &[u32], starts: &[usize; 17], kind: Kind, leaf: u32, b: u32) -> b
     before < here
 }
 
-// The operation that a leaf's block adds, if it is of the kind. Returned here and below is the index after what was stored.
+// The operation that a leaf's block adds, if it is of the kind. Returned here and below is the index after what was
+// stored.
 fn list_leaf(
     table: &[u32],
     starts: &[usize; 17],
@@ -77,7 +79,8 @@ fn child(top: Subtree, node: u32) -> Subtree
     }
 }
 
-// The operations of a present block, opened down to the leaves: those of its left subblocks, then those of the right. A child is lower than its node, so this ends.
+// The operations of a present block, opened down to the leaves: those of its left subblocks, then those of the right. A
+// child is lower than its node, so this ends.
 fn list_block(
     table: &[u32],
     starts: &[usize; 17],
@@ -103,7 +106,8 @@ fn list_block(
     list_range(table, starts, list, right, old.right, new.right, out, next)
 }
 
-// The operations of a node's blocks after `from`, up to and with `to`, in place order. These are a block's subblocks on one side.
+// The operations of a node's blocks after `from`, up to and with `to`, in place order. These are a block's subblocks on
+// one side.
 fn list_range(
     table: &[u32],
     starts: &[usize; 17],

@@ -13,7 +13,8 @@ ghost use Rattle.tree.specs.Contracts.SoundTree.{SoundTree};
 ghost use Rattle.order.specs.OrderList.{orderList};
 ghost use Rattle.order.specs.Contracts.Opens.{LastRootIs};
 
-// The last present root block, 0 if there is none. It stands at the root's head, where no process has raised the head past it yet, or else just before.
+// The last present root block, 0 if there is none. It stands at the root's head, where no process has raised the head
+// past it yet, or else just before.
 pub fn last_root(heads: &[u32], table: &[u32], starts: &[usize; 17]) -> u32
     requires { ⌜ Some (λ s. SoundTree s (now starts) (now heads) (now table)) ⌝ }
     ensures { λ r. ⌜ ((s : Shape) → SoundTree s (now (starts .entry)) (now (heads .entry)) (now (table .entry)) →

@@ -47,7 +47,7 @@ so-far-start c begun =
       within = omega arith;
       going = refl;
       count = refl;
-      machine = rw (begun .words, begun .ones, take-replicate idle (processes (shapeOf c)) 8 (processes-most (shapeOf c) (begun .tall) (begun .few)));
+      machine = rw (begun .words, begun .ones, take-replicate idle (processes (shapeOf c)) 8 (processes-most (shapeOf c) (begun .tall)));
       answered = refl;
       spare = omega arith;
       same = sym (leading-none (c .log));
@@ -59,7 +59,7 @@ loop-start c begun width = record { begun = begun; width = width; nodes = refl; 
 
 module _ {c : Call} {t : State} {i : ℕ} (k : LoopInvariant c t i) where
   pub loop-narrow : c .p ≤ 8
-  loop-narrow = omega (arith, k .width, processes-most (shapeOf c) (k .begun .tall) (k .begun .few))
+  loop-narrow = omega (arith, k .width, processes-most (shapeOf c) (k .begun .tall))
 
   -- after the last record
   pub loop-ends : countOf c ≤ i → EndsWith c t None (countOf c)

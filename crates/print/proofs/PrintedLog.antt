@@ -1,4 +1,5 @@
--- The text of a log is one line for each of its answer records, and the last line. A law about the definitions; no proof of code uses it.
+-- The text of a log is one line for each of its answer records, and the last line. A law about the definitions; no
+-- proof of code uses it.
 use Prim.Native.Nat.{ℕ}
 use mathlib.Core.Path.{_≡_, refl, ap}
 use mathlib.Core.List.{List, [], _∷_, _++_, flatMap, append-assoc}

@@ -10,8 +10,9 @@ ghost use Rattle.io.specs.Counts.{Counts};
 ghost use Rattle.base.specs.Contracts.Stored.{Stored};
 ghost use Rattle.print.specs.Printed.{printRun, ReadFrom};
 
-// Writes the text of every input of which this was read: `records`, the bytes that the record buffer holds, and `next`, the byte after them, if there is one. The longest text has
-// room: 96 lines of at most 48 bytes each, and a last line of at most 36.
+// Writes the text of every input of which this was read: `records`, the bytes that the record buffer holds, and `next`,
+// the byte after them, if there is one. The longest text has room: 96 lines of at most 48 bytes each, and a last line
+// of at most 36.
 fn print_input(records: &[u8], next: &[u8], out: &mut [u8; 4644]) -> usize
     requires { ⌜ ReadFrom (now records ++ now next) (now records) (now next) ⌝ }
     ensures { λ r. ⌜ Counts r (now (out .exit)) ⌝ }
@@ -38,8 +39,8 @@ fn read_next(got: usize, next: &mut [u8]) -> usize
     io::read_full(0, next)
 }
 
-// Only reads and writes; the text is made by print_input. No contract of the library io says which bytes a call reads or writes, so main promises nothing of them. A read that fails
-// counts as the end of the input.
+// Only reads and writes; the text is made by print_input. No contract of the library io says which bytes a call reads
+// or writes, so main promises nothing of them. A read that fails counts as the end of the input.
 fn main() {
     let mut records = [0u8; 65536];
     let mut next = [0u8; 1];

@@ -20,7 +20,7 @@ module _ (p l words bytes : ℕ) (ok : accepted (callRefusal p l words bytes) �
   narrow : p ≤ 8
   unfolding shapeFor
   narrow =
-      omega (arith, allowed-width p l (accepted-processes p l words bytes ok), processes-most (shapeFor p l) (short-for p l) (allowed-most l (accepted-operations p l words bytes ok) .1))
+      omega (arith, allowed-width p l (accepted-processes p l words bytes ok), processes-most (shapeFor p l) (short-for p l))
 
   -- the first 2p are those of the nodes
   pub accepted-heads : 2 * j ≤ length heads

@@ -1,4 +1,5 @@
--- What a call returns together with what it leaves in the buffers, as the definitions have it: of an enum the paper's numbers.
+-- What a call returns together with what it leaves in the buffers, as the definitions have it: of an enum the paper's
+-- numbers.
 use Prim.Native.Nat.{ℕ}
 use mathlib.Core.List.{List}
 use Rattle.calls.specs.declared.Verdict.{Verdict}

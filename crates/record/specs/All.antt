@@ -6,5 +6,6 @@ use Rattle.record.specs.AnswerRecords.{replyKind, replyValue, answerSize
 use Rattle.record.specs.OrderRecords.{orderBytes}
 
 unfoldable pub records : Unit {0}
-unfolding flatMap bytesOf numberOf cut stepSize isStep isBegin isBeginPut stepRecord stepRecords illFormed replyKind replyValue answerSize answerBytes logBytes orderBytes
+unfolding flatMap bytesOf numberOf cut stepSize isStep isBegin isBeginPut stepRecord stepRecords illFormed replyKind
+    replyValue answerSize answerBytes logBytes orderBytes
 records = tt

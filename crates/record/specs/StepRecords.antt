@@ -35,7 +35,8 @@ stepRecord bs =
 unfoldable pub stepRecords : List ℕ → List StepRecord
 stepRecords bs = map stepRecord (cut stepSize (length bs / stepSize) bs)
 
--- ill-formed, where there are p processes: process not below p, kind above 2, a byte that must be zero (the two, and the value's unless the kind is 1)
+-- ill-formed, where there are p processes: process not below p, kind above 2, a byte that must be zero (the two, and
+-- the value's unless the kind is 1)
 unfoldable pub illFormed : ℕ → StepRecord → Bool
 illFormed p r =
     leb p (r .process) || ltb 2 (r .kind) || not (eqb (r .zeros) 0) || (not (isBeginPut r) && not (eqb (r .value) 0))

@@ -29,7 +29,8 @@ pub fn reply_value(x: Reply) -> u32
     }
 }
 
-// Stores an answer record in the sixteen bytes from an index on. The caller shows that the process and the steps fit their bytes.
+// Stores an answer record in the sixteen bytes from an index on. The caller shows that the process and the steps fit
+// their bytes.
 pub fn put_answer(out: &mut [u8], at: usize, a: AnswerRecord)
     requires { ⌜ (at + 16 ≤ length (now out)) × (a .process < 256) × (a .steps < 65536) ⌝ }
     ensures { λ _. ⌜ now (out .exit) ≡ sets (now (out .entry)) at (answerBytes a) ⌝ }

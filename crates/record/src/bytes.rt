@@ -1,4 +1,5 @@
-// Numbers as bytes, low byte first. A half is two bytes and a word two halves, so that each reader and writer is two calls of the one below it.
+// Numbers as bytes, low byte first. A half is two bytes and a word two halves, so that each reader and writer is two
+// calls of the one below it.
 ghost use mathlib.Core.Path.{_≡_};
 ghost use Prim.Native.Nat.{_+_, _≤_, _<_};
 ghost use mathlib.Core.List.{_++_};

@@ -1,4 +1,5 @@
-// The records: step records, answer records and order records, as the fields that their bytes hold. This crate knows nothing of trees, steps or queues.
+// The records: step records, answer records and order records, as the fields that their bytes hold. This crate knows
+// nothing of trees, steps or queues.
 pub mod answer_records;
 pub mod bytes;
 pub mod order_records;

@@ -1,4 +1,5 @@
--- One level up from a block that holds an operation: what finding the parent's block needs, and what holds of the block found. Used by proofs; no exported promise names it.
+-- One level up from a block that holds an operation: what finding the parent's block needs, and what holds of the block
+-- found. Used by proofs; no exported promise names it.
 use Prim.Native.Nat.{ℕ, zero, suc, _+_, _-_, _%_, _≤_, _<_}
 use native.Mathlib.Omega.{arith}
 use mathlib.Core.Path.{_≡_}
@@ -29,7 +30,8 @@ use Rattle.search.proofs.HeldBelow.{end-reaches}
 use Rattle.search.proofs.NumbersUp.{besideTotal, number-low, number-high, number-rank}
 use Rattle.tree.specs.Layout.{blockWords}
 
--- Block b of the parent of v, the node of height j, holds the operation that v's block `place` holds. Its number there is larger by what is beside it.
+-- Block b of the parent of v, the node of height j, holds the operation that v's block `place` holds. Its number there
+-- is larger by what is beside it.
 pub record Above (s : Shape) (k i j : ℕ) (starts heads table : List ℕ) (v place b : ℕ) : Type 0 where
   pub beside : Beside starts table v b
   pub holds : HoldsAs s k i (suc j) starts heads table b

@@ -1,4 +1,5 @@
--- One level down from a block that has a put: the child and the number there, the search there, and the put in the subblock found. Used by proofs; no exported promise names it.
+-- One level down from a block that has a put: the child and the number there, the search there, and the put in the
+-- subblock found. Used by proofs; no exported promise names it.
 use Prim.Native.Nat.{ℕ, zero, suc, _+_, _-_, _≤_, _<_}
 use native.Mathlib.Omega.{arith}
 use native.Mathlib.Decide.{decLe}
@@ -120,7 +121,7 @@ module _ (s : Shape) (heads starts table : List ℕ) (h v a n : ℕ) (f : Finds 
       let e : suc a - 1 ≡ a = omega arith in
       record {
         some = omega arith;
-        low = omega (arith, node .last, processes-most s (sets .tall) (sets .few));
+        low = omega (arith, node .last, processes-most s (sets .tall));
         here = written-place sets v (suc a) node (inr has);
         before = rw e (written-place sets v a node before);
         left = end-place s starts heads table sets v inner onLeft (suc a) (inr has);

@@ -1,4 +1,5 @@
--- An operation that the root's blocks hold is held below the head of every node above its leaf. Used by proofs; no exported promise names it.
+-- An operation that the root's blocks hold is held below the head of every node above its leaf. Used by proofs; no
+-- exported promise names it.
 use Prim.Native.Nat.{ℕ, zero, suc, _-_, _≤_, _<_}
 use native.Mathlib.Omega.{arith}
 use native.Mathlib.Nat.{le-refl}

@@ -1,4 +1,5 @@
--- Which block of a node holds an operation, and its number there: the invariants of the climb, without and with the count. Used by proofs; no exported promise names it.
+-- Which block of a node holds an operation, and its number there: the invariants of the climb, without and with the
+-- count. Used by proofs; no exported promise names it.
 use Prim.Native.Nat.{ℕ, _+_, _-_, _≤_, _<_}
 use mathlib.Core.Path.{_≡_}
 use mathlib.Core.List.{List}
@@ -12,8 +13,9 @@ use Rattle.tree.proofs.Ancestors.{ancestor}
 use Rattle.tree.proofs.Reach.{reach}
 use Rattle.search.specs.Contracts.Stands.{Stands, OfKind}
 
--- Of the operations of kind κ in a node's blocks from place 1 on, `number` says how many stand up to operation i of process k, which is in block `place` of the node of height
--- j above k's leaf. If the operation is of another kind, the number is within the block's all the same.
+-- Of the operations of kind κ in a node's blocks from place 1 on, `number` says how many stand up to operation i of
+-- process k, which is in block `place` of the node of height j above k's leaf. If the operation is of another kind, the
+-- number is within the block's all the same.
 pub record CountsAs (s : Shape) (k i j : ℕ) (table : List ℕ) (κ : Kind) (place number : ℕ) : Type 0 where
   pub low : total κ (blockAt s table (ancestor s k j) (place - 1)) ≤ number
   pub high : number ≤ total κ (blockAt s table (ancestor s k j) place)

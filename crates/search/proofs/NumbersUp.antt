@@ -1,5 +1,5 @@
--- The number of an operation in a node, counted from the node's first block on, and its number in the parent: they differ by the sibling's total where its operations stop
--- to come before. Used by proofs; no exported promise names it.
+-- The number of an operation in a node, counted from the node's first block on, and its number in the parent: they
+-- differ by the sibling's total where its operations stop to come before. Used by proofs; no exported promise names it.
 use Prim.Native.Nat.{ℕ, suc, _+_, _-_, _≤_, _<_}
 use native.Mathlib.Omega.{arith}
 use mathlib.Core.Path.{_≡_}
@@ -17,7 +17,8 @@ use Rattle.tree.proofs.Levels.{Level, level-inner}
 use Rattle.tree.proofs.SideTotals.{childTotal, endTotal, addedBefore}
 use Rattle.tree.proofs.Rank.{rank-step}
 
--- the total of the other child where its operations stop to come before those on side d in v's block suc b: all of the left child's come first
+-- the total of the other child where its operations stop to come before those on side d in v's block suc b: all of the
+-- left child's come first
 abbrev pub besideTotal : Shape → Memory → Kind → ℕ → ℕ → Side → ℕ
 besideTotal s m κ v b onLeft = endTotal s m κ v b onRight
 besideTotal s m κ v b onRight = endTotal s m κ v (suc b) onLeft

@@ -13,8 +13,8 @@ ghost use Rattle.tree.specs.Shape.{Shape};
 ghost use Rattle.search.specs.Contracts.Stands.{Stands, StandsOf, RootBlockIs, StandsAt};
 ghost use Rattle.search.specs.Contracts.Climbing.{Ascends, FirstAbove, Beside, besideOf};
 
-// The block of v's parent that holds v's block `place`: the first whose end towards v reaches it. The superblock word of v's block is a guess only: the parent's head may
-// have been raised after it was read.
+// The block of v's parent that holds v's block `place`: the first whose end towards v reaches it. The superblock word
+// of v's block is a guess only: the parent's head may have been raised after it was read.
 fn holder(heads: &[u32], table: &[u32], starts: &[usize; 17], v: u32, place: u32) -> u32
     requires { ⌜ Ascends (now starts) (now heads) (now table) v place ⌝ }
     ensures { λ r. ⌜ FirstAbove (now (starts .entry)) (now (heads .entry)) (now (table .entry)) v place r ⌝ }
@@ -32,8 +32,9 @@ fn holder(heads: &[u32], table: &[u32], starts: &[usize; 17], v: u32, place: u32
     )
 }
 
-// How many takes of v's sibling, from its first block on, come before v's in block b of the parent. In a block the left child's come first, so they are those up to the
-// sibling's end in the block before b if v is on the left, and in b if v is on the right.
+// How many takes of v's sibling, from its first block on, come before v's in block b of the parent. In a block the left
+// child's come first, so they are those up to the sibling's end in the block before b if v is on the left, and in b if
+// v is on the right.
 fn beside(table: &[u32], starts: &[usize; 17], v: u32, b: u32) -> u32
     requires { ⌜ Beside (now starts) (now table) v b ⌝ }
     ensures { λ r. ⌜ r ≡ besideOf (now (starts .entry)) (now (table .entry)) Takes v b ⌝ }
@@ -46,8 +47,8 @@ fn beside(table: &[u32], starts: &[usize; 17], v: u32, b: u32) -> u32
     block_at(table, starts, v - 1, end).takes
 }
 
-// The root block of operation `serial` of the process with that leaf, found from the leaf up to the root, which is node 1. The answer of a put needs no more than this: it
-// is spared the reads that counting takes.
+// The root block of operation `serial` of the process with that leaf, found from the leaf up to the root, which is node
+// 1. The answer of a put needs no more than this: it is spared the reads that counting takes.
 pub fn root_block(heads: &[u32], table: &[u32], starts: &[usize; 17], leaf: u32, serial: u32) -> u32
     requires { ⌜ SomeTwo (Stands (now starts) (now heads) (now table) leaf serial) ⌝ }
     ensures { λ r. ⌜ ((s : Shape) (k : ℕ) →
@@ -63,8 +64,9 @@ pub fn root_block(heads: &[u32], table: &[u32], starts: &[usize; 17], leaf: u32,
     place
 }
 
-// Where operation `serial` of the process with that leaf, a take, stands among the takes: the same climb, with a count. The number counts v's takes from its first block on. Counted
-// so, a leaf's is its block's total, the parent's is v's and what comes before from the sibling, and only the root's blocks before the operation's own are taken off. Takes
+// Where operation `serial` of the process with that leaf, a take, stands among the takes: the same climb, with a count.
+// The number counts v's takes from its first block on. Counted so, a leaf's is its block's total, the parent's is v's
+// and what comes before from the sibling, and only the root's blocks before the operation's own are taken off. Takes
 // alone are counted, since nothing asks for the number of a put in its block.
 pub fn standing(
     heads: &[u32],

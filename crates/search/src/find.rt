@@ -16,8 +16,8 @@ struct Descent {
     number: u32,
 }
 
-// Where put number n of node v, which is in v's block b, is in v's children. A number counts a node's puts from its first block on. The left child's puts up to its end in b
-// come before the right child's of b.
+// Where put number n of node v, which is in v's block b, is in v's children. A number counts a node's puts from its
+// first block on. The left child's puts up to its end in b come before the right child's of b.
 fn descend(table: &[u32], starts: &[usize; 17], v: u32, b: u32, n: u32) -> Descent
     requires { ⌜ Descends (now starts) (now table) v b n ⌝ }
     ensures { λ r. ⌜ r ≡ descentOf (now (starts .entry)) (now (table .entry)) v b n ⌝ }
@@ -40,8 +40,8 @@ fn descend(table: &[u32], starts: &[usize; 17], v: u32, b: u32, n: u32) -> Desce
     }
 }
 
-// The value of put number n of node v, of the height given, which is in v's block b. A leaf's block has the value in its left end. The last subblock is the guess, since most
-// blocks have few.
+// The value of put number n of node v, of the height given, which is in v's block b. A leaf's block has the value in
+// its left end. The last subblock is the guess, since most blocks have few.
 fn find_put(table: &[u32], starts: &[usize; 17], height: usize, v: u32, b: u32, n: u32) -> u32
     requires { ⌜ SomeTwo (Finds (now starts) (now table) height v b n) ⌝ }
     ensures { λ r. ⌜ ((s : Shape) (heads : List ℕ) →

@@ -29,7 +29,8 @@ fn is_first(part: &[u32], word: usize, last: usize, x: u32, i: usize) -> bool
     part[BLOCK_WORDS * (i - 1) + word] < x
 }
 
-// The first place of a part. The guess and the place after it are tried first, since mostly one of them is right. The search by halving finds the place whatever the guess.
+// The first place of a part. The guess and the place after it are tried first, since mostly one of them is right. The
+// search by halving finds the place whatever the guess.
 fn first_in(part: &[u32], word: usize, last: usize, x: u32, guess: u32) -> usize
     requires { ⌜ Reaches (now part) word last x ⌝ }
     ensures { λ r. ⌜ First (now (part .entry)) word last x r ⌝ }

@@ -1,4 +1,5 @@
--- The block that C3 makes: with other totals it may follow the block before; with equal totals its ends are that block's.
+-- The block that C3 makes: with other totals it may follow the block before; with equal totals its ends are that
+-- block's.
 use Prim.Native.Nat.{ℕ, _+_, _-_, _≤_, _<_}
 use native.Mathlib.Omega.{arith}
 use native.Mathlib.Decide.{ℕ-discrete}

@@ -1,5 +1,5 @@
--- How far an operation has come after any turn of its own process. The second C4 is where two refreshes are seen to be enough: the block that was written there first reaches
--- the operation too.
+-- How far an operation has come after any turn of its own process. The second C4 is where two refreshes are seen to be
+-- enough: the block that was written there first reaches the operation too.
 use Prim.Native.Nat.{ℕ, suc, _-_, _≤_, _<_}
 use native.Mathlib.Omega.{arith}
 use mathlib.Core.Path.{_≡_, refl, ap, sym, _∙_, subst}

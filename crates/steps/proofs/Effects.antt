@@ -126,7 +126,8 @@ module _ (s : Shape) (k : ℕ) (o : Operation) (m : Memory) where
 
     -- a new block c at place h of node v
     module _ (x y : Stage) (v h : ℕ) (c : Block) (nv : Node s v) (i : ℕ) (hi : h ≡ suc i) (none-here : count (block s m v h) ≡ 0) (new : Fresh s m v i c)
-        (held : Inner s v → (d : Side) → Holds d x v h (endOf d c)) (added : (r : ℕ) → v ≡ leafOf s r → (r ≡ k) × (x ≡ adding) × (suc i ≡ headOf m (leafOf s k)) × (c ≡ plusOperation o (block s m (leafOf s k) i)))
+        (held : Inner s v → (d : Side) → Holds d x v h (endOf d c))
+        (added : (r : ℕ) → v ≡ leafOf s r → (r ≡ k) × (x ≡ adding) × (suc i ≡ headOf m (leafOf s k)) × (c ≡ plusOperation o (block s m (leafOf s k) i)))
         (empty : (d : Side) (u h e : ℕ) → Holds d y u h e → ⊥)
       where
         abbrev n : Memory

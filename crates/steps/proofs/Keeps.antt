@@ -77,7 +77,9 @@ module _ (s : Shape) (m : Machine) (inv : Invariant s m) (k : ℕ) (kp : k < pro
         }
       where
         on : (j : ℕ) → j < processes s → Dec (j ≡ k) → ProcessSound s n (holding after) j (processOf after j)
-        on j jp (yes e) = subst (λ (i : ℕ). ProcessSound s n (holding after) i (processOf after i)) (sym e) (subst (ProcessSound s n (holding after) k) (sym (process-here s m (inv .counted) k kp p n)) own)
+        on j jp (yes e) =
+            subst (λ (i : ℕ). ProcessSound s n (holding after) i (processOf after i)) (sym e)
+            (subst (ProcessSound s n (holding after) k) (sym (process-here s m (inv .counted) k kp p n)) own)
         on j jp (no e) = subst (ProcessSound s n (holding after) j) (sym (process-other s m (inv .counted) k kp p n j e)) (other-sound j jp e)
 
 -- ---- a begin

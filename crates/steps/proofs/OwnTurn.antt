@@ -144,7 +144,8 @@ module _ (s : Shape) (m : Memory) (sound : Sound s m) (hold hold' : ℕ → Stag
 
       read-mine : (d : Side) → sideAt s k (r .level) ≡ d → (e : ℕ) → headOf m (childOf d (w .node)) - 1 ≡ e → b ≤ reach s m k (r .level) e
       read-mine d de e q =
-          let z : childOf d (w .node) ≡ ancestor s k (r .level) = ap (λ (u : ℕ). childOf d u) (r .node) ∙ ap (λ (x : Side). childOf x (ancestor s k (suc (r .level)))) (sym de) ∙ child-at s k (r .level) in
+          let side = ap (λ (x : Side). childOf x (ancestor s k (suc (r .level)))) (sym de) in
+          let z : childOf d (w .node) ≡ ancestor s k (r .level) = ap (λ (u : ℕ). childOf d u) (r .node) ∙ side ∙ child-at s k (r .level) in
           let y : headOf m (ancestor s k (r .level)) - 1 ≡ e = subst (λ (u : ℕ). headOf m u - 1 ≡ e) z q in
           rw (← y) (r .covered)
 

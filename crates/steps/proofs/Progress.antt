@@ -1,4 +1,5 @@
--- The process invariant: how far operation b of process k has come, by its stage. Used by proofs and by contracts of functions; no exported promise names it.
+-- The process invariant: how far operation b of process k has come, by its stage. Used by proofs and by contracts of
+-- functions; no exported promise names it.
 use Prim.Native.Nat.{ℕ, suc, _+_, _-_, _≤_, _<_}
 use mathlib.Core.Path.{_≡_}
 use mathlib.Core.Logic.{_⊎_}
@@ -51,7 +52,8 @@ OwnLeaf s m k b answering = LeafDone s m k b
 abbrev pub Covered : Shape → Memory → ℕ → ℕ → ℕ → Type 0
 Covered s m k b j = b ≤ reach s m k j (headOf m (ancestor s k j) - 1)
 
--- Why two refreshes are enough: each block of the ancestor of height j + 1 past place t, and each end in hand for such a block, reaches the operation.
+-- Why two refreshes are enough: each block of the ancestor of height j + 1 past place t, and each end in hand for such
+-- a block, reaches the operation.
 pub record Owed (s : Shape) (m : Memory) (hold : ℕ → Stage) (k b j t : ℕ) : Type 0 where
   pub blocks : (i : ℕ) → t < i → Present s m (ancestor s k (suc j)) i → b ≤ reach s m k (suc j) i
   pub ends : (r : ℕ) → r < processes s → (h e : ℕ) → Holds (sideAt s k j) (hold r) (ancestor s k (suc j)) h e → t < h → b ≤ reach s m k j e

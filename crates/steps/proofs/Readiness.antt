@@ -1,4 +1,5 @@
--- The invariant gives each process what its next step needs, for at most 8 processes and at most 500 operations of each.
+-- The invariant gives each process what its next step needs, for at most 8 processes and at most 500 operations of
+-- each.
 use Prim.Native.Nat.{ℕ, zero, suc, _+_, _*_, _-_, _≤_, _<_}
 use native.Mathlib.Omega.{arith}
 use native.Mathlib.Nat.{le-refl}
@@ -53,7 +54,7 @@ module _ (s : Shape) (m : Memory) (starts : List ℕ) (q : SoundTree s starts (m
   sound = q .sound
 
   children : (w : Visit) → Inner s (w .node) → Children (m .heads) w
-  children w iv = record { low = omega (arith, iv .last, processes-most s (q .tall) (q .few)); both = omega (arith, q .sized .heads, iv .last) }
+  children w iv = record { low = omega (arith, iv .last, processes-most s (q .tall)); both = omega (arith, q .sized .heads, iv .last) }
 
   adds : (k b : ℕ) → k < processes s → b ≤ s .most → LeafOpen s m k b → Adds starts (m .heads) (m .table) (leafOf s k)
   unfolding headOf
@@ -86,6 +87,7 @@ module _ (s : Shape) (m : Memory) (starts : List ℕ) (q : SoundTree s starts (m
         let z = node-small q (w .node) (w .head - 1) node in
         let rise = totals-grow s m sound w iv first last l r lo ro in
         let sums = new-sums s m sound w iv first last l r lo ro in
+        let sized = size-most s m sound (w .node) iv (w .head - 1) (below-head (sound .node (w .node) node) (w .head - 1) (omega arith)) in
         record {
           head = first;
           before = node-place q (w .node) (w .head - 1) node (below-within q (w .node) (w .head - 1) node (omega arith));
@@ -93,7 +95,7 @@ module _ (s : Shape) (m : Memory) (starts : List ℕ) (q : SoundTree s starts (m
           right = node-place q (2 * w .node + 1) r right (below-within q (2 * w .node + 1) r right (ro .below));
           puts = omega arith;
           takes = omega arith;
-          size = rw (node-reads q (w .node) (w .head - 1) node) (omega (arith, size-most s m sound (w .node) iv (w .head - 1) (below-head (sound .node (w .node) node) (w .head - 1) (omega arith)), sound .node (w .node) node .within (w .head - 1), places-most s (q .tall) (q .few) (w .node)));
+          size = rw (node-reads q (w .node) (w .head - 1) node) (omega (arith, sized, sound .node (w .node) node .within (w .head - 1), places-most s (q .tall) (q .few) (w .node)));
           putsRise = rw (node-reads q (w .node) (w .head - 1) node, node-reads q (2 * w .node) l left, node-reads q (2 * w .node + 1) r right) (omega (arith, rise Puts, sums Puts));
           takesRise = rw (node-reads q (w .node) (w .head - 1) node, node-reads q (2 * w .node) l left, node-reads q (2 * w .node + 1) r right) (omega (arith, rise Takes, sums Takes));
         }

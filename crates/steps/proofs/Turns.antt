@@ -1,5 +1,5 @@
--- Every step is one of thirteen turns: what it does to the memory and to the stage. This is where the named steps are read off the rules; the laws above go by turns. Used by
--- proofs; no exported promise names it.
+-- Every step is one of thirteen turns: what it does to the memory and to the stage. This is where the named steps are
+-- read off the rules; the laws above go by turns. Used by proofs; no exported promise names it.
 use Prim.Native.Nat.{ℕ, _-_}
 use mathlib.Core.Path.{_≡_, refl}
 use mathlib.Core.Bool.{Bool, true, false}

@@ -4,5 +4,6 @@ use Rattle.steps.specs.Rules.{above, resume, advance, afterRefresh, help
 use Rattle.steps.specs.Machine.{start, processOf, withProcess, isIdle, isQ, atQ, begin, stepFrom, stepOf}
 
 unfoldable pub stepRules : Unit {0}
-unfolding idle processesAllowed operationsAllowed above resume advance afterRefresh help plusOperation joined built sameTotals blockOf go step start processOf withProcess isIdle isQ atQ begin stepFrom stepOf
+unfolding idle processesAllowed operationsAllowed above resume advance afterRefresh help plusOperation joined built
+    sameTotals blockOf go step start processOf withProcess isIdle isQ atQ begin stepFrom stepOf
 stepRules = tt

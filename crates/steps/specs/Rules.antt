@@ -36,7 +36,8 @@ resume Up w = above (w .node)
 unfoldable pub advance : Visit → After → ℕ → ℕ → Step
 advance w a v h = if eqb v root then V3 a w v h else V1 a w v h
 
--- what follows the advance of a refreshed node: a failed first refresh is done a second time; after a first that succeeded, or a second whatever its outcome, go on up
+-- what follows the advance of a refreshed node: a failed first refresh is done a second time; after a first that
+-- succeeded, or a second whatever its outcome, go on up
 unfoldable pub afterRefresh : Bool → Bool → After
 afterRefresh second success = if success || second then Up else Again
 

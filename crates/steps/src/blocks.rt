@@ -92,7 +92,8 @@ pub fn step_v2(table: &mut [u32], starts: &[usize; 17], q: Process) -> Process
     )
 }
 
-// A child's block at the head that was read is looked at. If it is present it is advanced before the visit goes on, so that no refresh leaves it behind.
+// A child's block at the head that was read is looked at. If it is present it is advanced before the visit goes on, so
+// that no refresh leaves it behind.
 fn help(table: &[u32], starts: &[usize; 17], w: Visit, a: After, child: u32, c: u32) -> Step
     requires { ⌜ HasPart (now starts) (now table) child ⌝ }
     ensures { λ r. ⌜ ((s : Shape) (heads : List ℕ) → Begins s (now (starts .entry)) child →

@@ -7,7 +7,8 @@ ghost use Prim.Native.Nat.{_+_, _≤_, _<_};
 ghost use Rattle.tree.specs.Size.{rootSize};
 ghost use Rattle.steps.specs.Rules.{plusOperation, joined as joinedOf, sameTotals, blockOf};
 
-// A leaf's next block: the totals of the last one plus this operation. A take has no value, and a leaf has no children, so their words are 0.
+// A leaf's next block: the totals of the last one plus this operation. A take has no value, and a leaf has no children,
+// so their words are 0.
 pub fn plus_operation(o: Operation, b: Block) -> Block
     requires { ⌜ (b .puts < 65536) × (b .takes < 65536) ⌝ }
     ensures { λ r. ⌜ r ≡ plusOperation o b ⌝ }
@@ -32,7 +33,8 @@ pub fn plus_operation(o: Operation, b: Block) -> Block
     }
 }
 
-// The size of a root block with these totals. Takes of an empty queue take nothing, so it is never below 0: the test comes before the difference.
+// The size of a root block with these totals. Takes of an empty queue take nothing, so it is never below 0: the test
+// comes before the difference.
 pub fn root_size(old: Block, puts: u32, takes: u32) -> u32
     requires { ⌜ (old .puts ≤ puts) × (old .takes ≤ takes) × (old .size < 65536) × (puts < 65536) ⌝ }
     ensures { λ r. ⌜ r ≡ rootSize old puts takes ⌝ }

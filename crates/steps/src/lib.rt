@@ -17,15 +17,16 @@ pub enum Operation {
     Take,
 }
 
-// Where an operation is on its way from its leaf to the root: the node, whether this is the second refresh of it, and the head h that was read there.
+// Where an operation is on its way from its leaf to the root: the node, whether this is the second refresh of it, and
+// the head h that was read there.
 pub struct Visit {
     pub node: u32,
     pub head: u32,
     pub second: bool,
 }
 
-// What follows an advance: the right half of a refresh's helping (R4), its ends (C1), the second refresh of the node, or the way up: the parent's refresh, or Q after
-// the root.
+// What follows an advance: the right half of a refresh's helping (R4), its ends (C1), the second refresh of the node,
+// or the way up: the parent's refresh, or Q after the root.
 pub enum After {
     Right,
     Ends,
@@ -42,8 +43,9 @@ pub struct Built {
     pub size: u32,
 }
 
-// The named steps, each with its own registers. An advance (node, place) keeps the visit that it is part of; `above` is the head of the parent. `child` is the head of a
-// child, `left` and `right` are the ends. A field of one byte stands first, beside the tag, so that no step reads a word where another step wrote a byte, which is slow.
+// The named steps, each with its own registers. An advance (node, place) keeps the visit that it is part of; `above` is
+// the head of the parent. `child` is the head of a child, `left` and `right` are the ends. A field of one byte stands
+// first, beside the tag, so that no step reads a word where another step wrote a byte, which is slow.
 pub enum Step {
     A,
     V1 {

@@ -5,7 +5,8 @@ use crate::Visit;
 ghost use mathlib.Core.Path.{_≡_};
 ghost use Rattle.steps.specs.Rules.{above as aboveOf, resume as resumeOf, advance as advanceOf, afterRefresh};
 
-// After the last refresh of v its parent is refreshed. Nothing is above the root (node 1), so there the operation is answered.
+// After the last refresh of v its parent is refreshed. Nothing is above the root (node 1), so there the operation is
+// answered.
 pub fn above(v: u32) -> Step
     ensures { λ r. ⌜ r ≡ aboveOf v ⌝ }
 {
@@ -53,7 +54,8 @@ pub fn advance(w: Visit, a: After, v: u32, h: u32) -> Step
     }
 }
 
-// A refresh that failed is done once more. A second failure means that others have carried the operation up, so two are enough.
+// A refresh that failed is done once more. A second failure means that others have carried the operation up, so two are
+// enough.
 pub fn after_refresh(second: bool, success: bool) -> After
     ensures { λ r. ⌜ r ≡ afterRefresh second success ⌝ }
 {

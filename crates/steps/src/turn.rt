@@ -45,7 +45,8 @@ pub fn moved(q: Process, n: Step) -> Process
     }
 }
 
-// A visit as it is, copied field by field: a copy of the whole is one wide read, which has to wait for the narrow writes before it.
+// A visit as it is, copied field by field: a copy of the whole is one wide read, which has to wait for the narrow
+// writes before it.
 pub fn by_fields(w: Visit) -> Visit
     ensures { λ r. ⌜ r ≡ w ⌝ }
 {

@@ -1,5 +1,5 @@
--- What the claim about superblocks says, node by node: where a block of a node below the root is a subblock of a present
--- block q of the node's parent, its super is set, and q is its super or its super + 1.
+-- What the claim about superblocks says, node by node: where a block of a node below the root is a subblock of a
+-- present block q of the node's parent, its super is set, and q is its super or its super + 1.
 use Prim.Native.Nat.{ℕ, _+_, _-_, _≤_, _<_}
 use native.Mathlib.Omega.{arith}
 use native.Mathlib.Decide.{ℕ-discrete, decLt}

@@ -157,7 +157,8 @@ module _ (s : Shape) (m n : Memory) (at at' : ℕ → Status) (facts : MachineFa
           seen r rp (yes e) = rw e (own d u i z here (present-low (sound .node v nv) i here) (p .seen k kp))
           seen r rp (no e) = rw (others r e) (seen-status d u i z (at r) (p .seen r rp))
 
-      -- of one that was just read: the block is at its node's head, since its super is not set, and nothing of u is past u's head
+      -- of one that was just read: the block is at its node's head, since its super is not set, and nothing of u is
+      -- past u's head
       near-new : super s n v i ≡ 0 → Asks v i z (at' k) → Near s n at' d u i z
       near-new unset q =
           record {

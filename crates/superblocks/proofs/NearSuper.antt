@@ -26,7 +26,8 @@ near-within q z set low high = rw (le-leb 1 z set) (on (ℕ-discrete q z))
     on (yes e) = rw (eq-eqb q z e)
     on (no e) = rw (ne-eqb q z e, eq-eqb q (z + 1) (omega arith))
 
--- ---- block q of node u is the first that does not end before place i of the child on side d: it is not before super, and the one before it is not after super
+-- ---- block q of node u is the first that does not end before place i of the child on side d: it is not before super,
+-- and the one before it is not after super
 module _ (s : Shape) (m : Memory) (at : ℕ → Status) (sound : Sound s m) (sup : MarksHold s m at) (d : Side) (u : ℕ) (iu : Inner s u) (i q : ℕ) (here : Present s m u q)
     (before : endOf d (block s m u (q - 1)) < i) (within : i ≤ endOf d (block s m u q))
   where

@@ -17,8 +17,8 @@ use Rattle.calls.specs.All.{rules}
 use Rattle.calls.specs.KnownRuns.{beginPut, steps, lent}
 use Rattle.superblocks.specs.Supers.{nearSuper}
 
--- two processes of at most `most` operations, and what their records leave of block 1 of the root's child on a side: its
--- super, where its superblock stands, the root block that has it as a subblock, and whether that is near
+-- two processes of at most `most` operations, and what their records leave of block 1 of the root's child on a side:
+-- its super, where its superblock stands, the root block that has it as a subblock, and whether that is near
 pub record SuperRow : Type 0 where
   pub most : ℕ
   pub records : List ℕ

@@ -1,4 +1,5 @@
--- A block as code reads it and writes it: word by word, at indices that it counts from the block's first word; and a store of the superblock alone.
+-- A block as code reads it and writes it: word by word, at indices that it counts from the block's first word; and a
+-- store of the superblock alone.
 use Prim.Native.Nat.{ℕ, suc, _+_, _*_}
 use native.Mathlib.Omega.{arith}
 use mathlib.Core.Path.{_≡_, sym, _∙_}

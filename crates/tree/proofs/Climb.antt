@@ -1,4 +1,5 @@
--- Climbing from a leaf to the root: which block of each node above it holds an operation. Used by proofs; no exported promise names it.
+-- Climbing from a leaf to the root: which block of each node above it holds an operation. Used by proofs; no exported
+-- promise names it.
 use Prim.Native.Nat.{ℕ, suc, _+_, _-_, _≤_, _<_}
 use native.Mathlib.Omega.{arith}
 use native.Mathlib.Nat.{le-refl}
@@ -40,7 +41,8 @@ module _ (s : Shape) (m : Memory) (sound : Sound s m) (k : ℕ) (kp : k < proces
           in
           below-head (sound .node (ancestor s k j) (ancestor-node s k kp j (omega arith))) i (omega arith)
 
-      -- if block q of the ancestor of height j holds operation i, and q is after the end in block b and up to the end in block suc b one higher, then block suc b there holds i
+      -- if block q of the ancestor of height j holds operation i, and q is after the end in block b and up to the end
+      -- in block suc b one higher, then block suc b there holds i
       pub climb-step : (i : ℕ) → reach s m k j (q - 1) < i → i ≤ reach s m k j q → (reach s m k (suc j) b < i) × (i ≤ reach s m k (suc j) (suc b))
       climb-step i after till =
           let rises = reach-rises s m sound k kp j (omega arith) in (

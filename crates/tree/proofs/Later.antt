@@ -1,4 +1,5 @@
--- What stays over any number of steps: heads never fall, and what is written stays but for super. Used by proofs; no exported promise names it.
+-- What stays over any number of steps: heads never fall, and what is written stays but for super. Used by proofs; no
+-- exported promise names it.
 use Prim.Native.Nat.{ℕ, _≤_, _<_}
 use native.Mathlib.Omega.{arith}
 use native.Mathlib.Nat.{le-refl}

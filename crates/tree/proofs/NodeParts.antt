@@ -1,4 +1,5 @@
--- The words from one node's start to the next one's are that node's part: what code does there, it does to the node's blocks.
+-- The words from one node's start to the next one's are that node's part: what code does there, it does to the node's
+-- blocks.
 use Prim.Native.Nat.{ℕ, suc, _+_, _*_, _-_, _≤_, _<_}
 use native.Mathlib.Omega.{arith}
 use native.Mathlib.Numerals.{add-one}

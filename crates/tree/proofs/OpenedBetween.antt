@@ -1,4 +1,5 @@
--- What a block of a node above a leaf opens to: of the leaf's process, just the operations past the reach of the block before it, up to its own reach, each once.
+-- What a block of a node above a leaf opens to: of the leaf's process, just the operations past the reach of the block
+-- before it, up to its own reach, each once.
 use Prim.Native.Nat.{ℕ, zero, suc, _+_, _*_, _-_, _^_, _≤_, _<_}
 use native.Mathlib.Omega.{arith}
 use native.Mathlib.Nat.{pow-suc}
@@ -33,7 +34,8 @@ ancestor-level s k kp (suc h) low =
     let e : 2 ^ (s .height - h) ≡ 2 ^ (s .height - suc h) * 2 = ap (λ (n : ℕ). 2 ^ n) (omega arith) ∙ pow-suc 2 (s .height - suc h) in
     record { tall = low; low = omega (arith, l .low, l .high); high = omega (arith, l .low, l .high) }
 
--- how often operation i of process k is in what block b of its leaf's ancestor of height h opens to, puts and takes together
+-- how often operation i of process k is in what block b of its leaf's ancestor of height h opens to, puts and takes
+-- together
 abbrev pub timesOpened : Shape → Memory → ℕ → ℕ → ℕ → ℕ → ℕ
 timesOpened s m k h b i =
     let x : OpId = record { process = k; serial = i } in

@@ -1,4 +1,5 @@
--- An operation is in what a block opens to once at most, whatever the node. Used by proofs; no exported promise names it.
+-- An operation is in what a block opens to once at most, whatever the node. Used by proofs; no exported promise names
+-- it.
 use Prim.Native.Nat.{ℕ, zero, suc, _-_, _≤_}
 use native.Mathlib.Omega.{arith}
 use native.Mathlib.Decide.{ℕ-discrete}

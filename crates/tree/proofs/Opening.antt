@@ -1,4 +1,5 @@
--- Opening a block of a sound memory: where its operations come from, how many they are, and that they stay. Used by proofs; no exported promise names it.
+-- Opening a block of a sound memory: where its operations come from, how many they are, and that they stay. Used by
+-- proofs; no exported promise names it.
 use Prim.Native.Nat.{ℕ, zero, suc, _+_, _-_, _≤_, _<_}
 use native.Mathlib.Omega.{arith}
 use native.Mathlib.Decide.{decLt}
@@ -72,7 +73,8 @@ module _ (μ : List OpId → ℕ) (nil : μ [] ≡ 0) (app : (xs ys : List OpId)
     (inner : (h v : ℕ) → Level s (suc h) v → (i : ℕ) → Written s m v i
     → Γ (suc h) v i ≡ Γ h (childOf onLeft v) (endOf onLeft (block s m v i)) + Γ h (childOf onRight v) (endOf onRight (block s m v i)))
   where
-    -- if Γ grows by the measure at each leaf's block, and Γ of a block is the sum of Γ at its ends, then Γ grows by the measure at each block
+    -- if Γ grows by the measure at each leaf's block, and Γ of a block is the sum of Γ at its ends, then Γ grows by the
+    -- measure at each block
     pub opened-measure : (h v : ℕ) → Level s h v → (i : ℕ) → Present s m v (suc i) → μ (opened s (m .table) κ h v (suc i)) + Γ h v i ≡ Γ h v (suc i)
     opened-measure zero v l i f =
         let k = level-leaf s v l in

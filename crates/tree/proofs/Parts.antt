@@ -1,4 +1,5 @@
--- The nodes' parts of the table do not overlap: a part that was replaced reads as the new part, and each other as before.
+-- The nodes' parts of the table do not overlap: a part that was replaced reads as the new part, and each other as
+-- before.
 use Prim.Native.Nat.{ℕ, zero, suc, _+_, _≤_, _<_}
 use native.Mathlib.Omega.{arith}
 use native.Mathlib.Decide.{decLt, ℕ-discrete}

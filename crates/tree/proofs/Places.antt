@@ -1,4 +1,5 @@
--- Reading a sound tree by the starts of its parts: each node has its head, its part and its places there, the blocks are the memory's, and each total is small.
+-- Reading a sound tree by the starts of its parts: each node has its head, its part and its places there, the blocks
+-- are the memory's, and each total is small.
 use Prim.Native.Nat.{ℕ, _+_, _^_, _≤_, _<_}
 use native.Mathlib.Omega.{arith}
 use native.Mathlib.Nat.{le-refl}
@@ -18,21 +19,21 @@ use Rattle.tree.proofs.NodeParts.{node-within, place-within}
 use Rattle.tree.proofs.Sound.{below-head, place-count}
 use Rattle.tree.proofs.NodeReads.{node-read, begins}
 
-module _ (s : Shape) (tall : s .height ≤ 3) (few : s .most ≤ 500) where
+module _ (s : Shape) (tall : s .height ≤ 3) where
   pub processes-most : processes s ≤ 8
   unfolding processes
   processes-most = pow-mono tall
 
-  pub places-most : (v : ℕ) → lastPlace s v ≤ 4000
+  pub places-most : s .most ≤ 500 → (v : ℕ) → lastPlace s v ≤ 4000
   unfolding lastPlace heightOf
-  places-most v = product-most (s .most) (2 ^ heightOf s v) 500 8 few (pow-mono {j = 3} (omega (arith, height-most (s .height) v)))
+  places-most few v = product-most (s .most) (2 ^ heightOf s v) 500 8 few (pow-mono {j = 3} (omega (arith, height-most (s .height) v)))
 
 module _ {s : Shape} {starts heads table : List ℕ} (q : SoundTree s starts heads table) where
   abbrev m : Memory
   m = memoryOf table heads
 
   pub node-low : (v : ℕ) → Node s v → v < 16
-  node-low v n = omega (arith, n .last, processes-most s (q .tall) (q .few))
+  node-low v n = omega (arith, n .last, processes-most s (q .tall))
 
   pub node-headed : (v : ℕ) → Node s v → v < length heads
   node-headed v n = omega (arith, q .sized .heads, n .last)

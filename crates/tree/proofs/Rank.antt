@@ -1,4 +1,5 @@
--- The number of an operation in a block, from its number in the subblock that holds it. Used by proofs; no exported promise names it.
+-- The number of an operation in a block, from its number in the subblock that holds it. Used by proofs; no exported
+-- promise names it.
 use Prim.Native.Nat.{ℕ, zero, suc, _+_, _-_, _≤_, _<_}
 use native.Mathlib.Omega.{arith}
 use mathlib.Core.Path.{_≡_, ap, _∙_}
@@ -103,7 +104,8 @@ module _ (s : Shape) (m : Memory) (sound : Sound s m) (κ : Kind) (h v : ℕ) (l
         on zero p u i = absurd (omega arith)
         on (suc c) p u i = omega (arith, side-times d c (omega arith) u i, side-within d)
 
-    -- its number: past the left side if it is on the right, past the subblocks before its own, and then its number there
+    -- its number: past the left side if it is on the right, past the subblocks before its own, and then its number
+    -- there
     pub rank-step : rankIn x (opened s (m .table) κ (suc h) v (suc b))
         ≡ addedBefore s m κ v b d + (childTotal s m κ v d (q - 1) - endTotal s m κ v b d) + rankIn x (opened s (m .table) κ h (childOf d v) q)
     rank-step = on q past upto inside

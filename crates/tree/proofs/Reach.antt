@@ -10,7 +10,8 @@ use Rattle.tree.proofs.Sound.{below-head, first-zeros, zero-end, end-be
 use Rattle.tree.proofs.Growth.{Same, same-end}
 use Rattle.tree.proofs.Ancestors.{ancestor, sideAt, child-at, ancestor-node, ancestor-inner}
 
--- of process k, at the node of height j above its leaf: the operations in the first i blocks. In the leaf they are i; above it those at the end on the leaf's side.
+-- of process k, at the node of height j above its leaf: the operations in the first i blocks. In the leaf they are i;
+-- above it those at the end on the leaf's side.
 pub reach : Shape → Memory → ℕ → ℕ → ℕ → ℕ
 reach s m k zero i = i
 reach s m k (suc j) i = reach s m k j (endOf (sideAt s k j) (block s m (ancestor s k (suc j)) i))

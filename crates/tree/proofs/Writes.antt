@@ -86,7 +86,8 @@ module _ (s : Shape) (m : Memory) (v i : ℕ) (b : Block) (sz : Sized s m) (node
 
 -- ---- a head that is raised
 module _ (m : Memory) (v h : ℕ) where
-  -- to show something of a head after v's was to be raised from h, show it of h + 1, if it is v's and was h, and of what it was
+  -- to show something of a head after v's was to be raised from h, show it of h + 1, if it is v's and was h, and of
+  -- what it was
   pub raise-cases : (P : ℕ → Type 0) (u : ℕ) → (u ≡ v → headOf m u ≡ h → P (h + 1)) → P (headOf m u) → P (headOf (raise m v h) u)
   unfolding headOf raise
   raise-cases P u here there =

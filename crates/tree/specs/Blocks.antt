@@ -9,7 +9,8 @@ use Rattle.tree.specs.declared.Block.{Block}
 use Rattle.tree.specs.Shape.{Shape}
 use Rattle.tree.specs.Layout.{blockWords, partOf, withPart}
 
--- word j of the block at place i of a part; past the part's end every word reads as 0, so that place one past the end reads as absent
+-- word j of the block at place i of a part; past the part's end every word reads as 0, so that place one past the end
+-- reads as absent
 unfoldable pub wordIn : List ℕ → ℕ → ℕ → ℕ
 wordIn part i j = getD part (blockWords * i + j) 0
 

@@ -35,7 +35,8 @@ parentOf v = v / 2
 unfoldable pub leafOf : Shape → ℕ → ℕ
 leafOf s k = processes s + k
 
--- the height of node v in a tree of height H, a leaf's being 0: the nodes above the leaves are those of a tree of height H − 1, one higher
+-- the height of node v in a tree of height H, a leaf's being 0: the nodes above the leaves are those of a tree of
+-- height H − 1, one higher
 unfoldable pub heightIn : ℕ → ℕ → ℕ
 heightIn zero v = 0
 heightIn (suc H) v = if ltb v (2 ^ suc H) then suc (heightIn H v) else 0

@@ -33,7 +33,8 @@ pub fn block_at(words: &[u32], starts: &[usize; 17], v: u32, i: u32) -> Block
     blocks::block_in(&words[from..to], as_index(i))
 }
 
-// One word of node v's block at any place. One past the last it is 0: there a child is looked at whose places are all filled.
+// One word of node v's block at any place. One past the last it is 0: there a child is looked at whose places are all
+// filled.
 fn word_at(words: &[u32], starts: &[usize; 17], v: u32, i: u32, word: usize) -> u32
     requires { ⌜ HasPart (now starts) (now words) v × (word < blockWords) ⌝ }
     ensures { λ r. ⌜ r ≡ wordIn (nodePart (now (starts .entry)) (now (words .entry)) v) i word ⌝ }
@@ -72,7 +73,8 @@ pub fn set_super_at(words: &mut [u32], starts: &[usize; 17], v: u32, i: u32, x: 
     table::node_set_super(words, from, to, as_index(i), x);
 }
 
-// Block b at place i of node v, if none is there: the first of several processes to come here writes. Whether this one did.
+// Block b at place i of node v, if none is there: the first of several processes to come here writes. Whether this one
+// did.
 pub fn write_if_absent(words: &mut [u32], starts: &[usize; 17], v: u32, i: u32, b: Block) -> bool
     requires { ⌜ HasPlace (now starts) (now words) v i ⌝ }
     ensures { λ r. ⌜ r ≡ absentOf (nodeBlock (now (starts .entry)) (now (words .entry)) v i) ⌝ }

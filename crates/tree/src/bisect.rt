@@ -1,11 +1,13 @@
-// Search of a node's blocks for the first whose total reaches a number. A binary search: totals do not fall from place to place.
+// Search of a node's blocks for the first whose total reaches a number. A binary search: totals do not fall from place
+// to place.
 use crate::BLOCK_WORDS;
 ghost use Prim.Native.Nat.{ℕ, _+_, _*_, _≤_, _<_};
 ghost use lib.ListN.{length};
 ghost use Rattle.tree.specs.Layout.{blockWords};
 ghost use Rattle.tree.specs.Blocks.{wordIn};
 
-// The first place from 1 to `last` whose word `word` is x or more. That word does not fall with the place, and at `last` it is x or more, so there is such a place.
+// The first place from 1 to `last` whose word `word` is x or more. That word does not fall with the place, and at
+// `last` it is x or more, so there is such a place.
 pub fn first_reaching(part: &[u32], word: usize, last: usize, x: u32) -> usize
     requires reached { ⌜ (word < blockWords) × (1 ≤ last) × (blockWords * last + blockWords ≤ length (now part)) × (x ≤ wordIn (now part) last word) ⌝ }
     requires rising { ⌜ ((i j : ℕ) → 1 ≤ i → i ≤ j → j ≤ last → wordIn (now part) i word ≤ wordIn (now part) j word) ⌝ }

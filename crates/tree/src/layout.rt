@@ -1,4 +1,5 @@
-// Where the nodes' parts stand in the work table, for a tree of height h ≤ 3 (at most 8 processes) with at most l ≤ 500 operations of one process; and the table cleared.
+// Where the nodes' parts stand in the work table, for a tree of height h ≤ 3 (at most 8 processes) with at most l ≤ 500
+// operations of one process; and the table cleared.
 use crate::BLOCK_WORDS;
 ghost use mathlib.Core.Path.{_≡_};
 ghost use mathlib.Core.List.{_++_};
@@ -79,8 +80,8 @@ pub fn words_needed(h: usize, l: usize) -> usize
     BLOCK_WORDS * ((h + 1) * p * l + (2 * p - 1))
 }
 
-// The first word of each node's part: node v's part is from starts[v] to starts[v + 1]. Past the last node each entry is the words needed, so that nothing is left for a
-// node that the tree does not have.
+// The first word of each node's part: node v's part is from starts[v] to starts[v + 1]. Past the last node each entry
+// is the words needed, so that nothing is left for a node that the tree does not have.
 pub fn starts(h: usize, l: usize) -> [usize; 17]
     requires { ⌜ (h ≤ 3) × (l ≤ 500) ⌝ }
     ensures nodes { λ r.

@@ -1,4 +1,5 @@
-// The ordering tree: its shape, where each node's blocks stand in the work table, and what a block opens to. This crate knows nothing of steps.
+// The ordering tree: its shape, where each node's blocks stand in the work table, and what a block opens to. This crate
+// knows nothing of steps.
 
 pub mod access;
 pub mod bisect;
@@ -22,8 +23,8 @@ pub const RIGHT_WORD: usize = 4;
 
 pub const SIZE_WORD: usize = 5;
 
-// A block of a node: six words of the work table. `superblock` is the paper's super. `left` and `right` are the ends in the children; in a leaf, `left` holds the
-// put's value.
+// A block of a node: six words of the work table. `superblock` is the paper's super. `left` and `right` are the ends in
+// the children; in a leaf, `left` holds the put's value.
 pub struct Block {
     pub puts: u32,
     pub takes: u32,

@@ -1,4 +1,5 @@
-// A node's part of the table, from word `from` up to word `to`, handed to the rules about a part alone. All other words of the table stay.
+// A node's part of the table, from word `from` up to word `to`, handed to the rules about a part alone. All other words
+// of the table stay.
 use crate::Block;
 use crate::blocks;
 ghost use mathlib.Core.Path.{_≡_};

@@ -1,4 +1,5 @@
--- A log as it grows: what stands in the answer bytes, and how many records at its beginning are those of another log; what one more answer does to both, and the verdict at the end.
+-- A log as it grows: what stands in the answer bytes, and how many records at its beginning are those of another log;
+-- what one more answer does to both, and the verdict at the end.
 use Prim.Native.Nat.{ℕ, suc, _+_, _*_, _/_}
 use mathlib.Core.Bool.{_&&_}
 use mathlib.Core.List.{List, [], _∷_, _++_, map}
@@ -35,11 +36,13 @@ unfoldable pub withAnswer : List ℕ → ℕ → AnswerRecord → List ℕ
 withAnswer out n a =
     if leb (answerSize * n + answerSize) (length out) then sets out (answerSize * n) (answerBytes a) else out
 
--- of n answers `equal` at the beginning are those of a log; so many are with answer a: one more if all were and the log's next record is a's
+-- of n answers `equal` at the beginning are those of a log; so many are with answer a: one more if all were and the
+-- log's next record is a's
 unfoldable pub countAfter : List ℕ → ℕ → ℕ → AnswerRecord → ℕ
 countAfter log n equal a =
     if eqb equal n && sameBytes (answerBytes a) (recordAt n log) then equal + 1 else equal
 
--- the verdict on a log of so many bytes, when `equal` of the answers are those of the log: the same if these are all of both
+-- the verdict on a log of so many bytes, when `equal` of the answers are those of the log: the same if these are all of
+-- both
 unfoldable pub verdictOf : ℕ → ℕ → ℕ → Verdict
 verdictOf equal answers bytes = if eqb equal answers && eqb (answerSize * answers) bytes then Same else Differs equal

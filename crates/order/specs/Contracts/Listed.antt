@@ -24,7 +24,8 @@ rootRecords t b s = flatMap (λ x. orderBytes (orderRecord x)) (blockOrder s t b
 unfoldable pub gathered : (ℕ → Shape → List ℕ) → ℕ → ℕ → Shape → List ℕ
 gathered f from to s = flatMap (λ b. f b s) (between from to)
 
--- for some shape and heads P holds, and the bytes that the shape gives fit from an index on, where there are `size` in all
+-- for some shape and heads P holds, and the bytes that the shape gives fit from an index on, where there are `size` in
+-- all
 pub record Room (P : Shape → List ℕ → Type 0) (bytes : Shape → List ℕ) (at size : ℕ) : Type 0 where
   pub shape : Shape
   pub heads : List ℕ

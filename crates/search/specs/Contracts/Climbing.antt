@@ -23,7 +23,8 @@ pub record Ascends (starts heads table : List ℕ) (v place : ℕ) : Type 0 wher
 abbrev pub FirstAbove : List ℕ → List ℕ → List ℕ → ℕ → ℕ → ℕ → Type 0
 FirstAbove starts heads table v place r = First (nodePart starts table (v / 2)) (leftWord + v % 2) (getD heads (v / 2) 1 - 1) place r
 
--- v's sibling has the last place whose operations come before v's in block b of the parent: its end in the block before b if v is on the left, and in b if v is on the right
+-- v's sibling has the last place whose operations come before v's in block b of the parent: its end in the block before
+-- b if v is on the left, and in b if v is on the right
 pub record Beside (starts table : List ℕ) (v b : ℕ) : Type 0 where
   pub some : 1 ≤ b
   pub before : HasPlace starts table (v / 2) (b - 1)

@@ -25,8 +25,8 @@ pub record Finds (starts table : List ℕ) (h v b n : ℕ) (s : Shape) (heads : 
 abbrev pub FoundIn : Shape → List ℕ → ℕ → ℕ → ℕ → ℕ → ℕ → Type 0
 FoundIn s t h v b n r = (z : OpId) → HasValue s t (getD (opened s t Puts h v b) (n - 1 - blockAt s t v (b - 1) .puts) z) r
 
--- the children have the places that are read: the left end in v's block b, and the right end in the block before; the puts up to there are few enough to add, and n is
--- past those on the right
+-- the children have the places that are read: the left end in v's block b, and the right end in the block before; the
+-- puts up to there are few enough to add, and n is past those on the right
 pub record Descends (starts table : List ℕ) (v b n : ℕ) : Type 0 where
   pub some : 1 ≤ b
   pub low : v < 65536
@@ -37,8 +37,9 @@ pub record Descends (starts table : List ℕ) (v b n : ℕ) : Type 0 where
   pub small : nodeBlock starts table (2 * v) (nodeBlock starts table v b .left) .puts + nodeBlock starts table (2 * v + 1) (nodeBlock starts table v (b - 1) .right) .puts < 65536
   pub past : nodeBlock starts table (2 * v + 1) (nodeBlock starts table v (b - 1) .right) .puts ≤ n
 
--- Where that put is one level lower. The left child's puts up to its end in b, and the right child's up to its end in the block before, come before the right child's of b.
--- In the left child its number is less by those on the right, in the right child by those on the left.
+-- Where that put is one level lower. The left child's puts up to its end in b, and the right child's up to its end in
+-- the block before, come before the right child's of b. In the left child its number is less by those on the right, in
+-- the right child by those on the left.
 unfoldable pub descentOf : List ℕ → List ℕ → ℕ → ℕ → ℕ → Descent
 descentOf starts table v b n =
     let here = nodeBlock starts table v b in

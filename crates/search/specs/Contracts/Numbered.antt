@@ -8,7 +8,8 @@ use Rattle.tree.specs.Blocks.{blockAt}
 use Rattle.tree.specs.Order.{OpId, lastRoot, rootPuts}
 use Rattle.tree.specs.Contracts.SoundTree.{SoundTree}
 
--- in a tree of shape s and the height given, put number n, from 1 in root order, is in the root blocks up to `last`, which is present
+-- in a tree of shape s and the height given, put number n, from 1 in root order, is in the root blocks up to `last`,
+-- which is present
 pub record Numbered (starts table : List ℕ) (height last n : ℕ) (s : Shape) (heads : List ℕ) : Type 0 where
   pub tree : SoundTree s starts heads table
   pub tall : height ≡ s .height

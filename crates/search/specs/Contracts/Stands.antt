@@ -12,7 +12,8 @@ use Rattle.tree.proofs.Reach.{reach}
 use Rattle.tree.specs.Contracts.SoundTree.{SoundTree}
 use Rattle.search.specs.declared.Standing.{Standing}
 
--- in a tree of shape s, the root blocks below the root's head hold operation `serial` of process k, whose leaf is `leaf`
+-- in a tree of shape s, the root blocks below the root's head hold operation `serial` of process k, whose leaf is
+-- `leaf`
 pub record Stands (starts heads table : List ℕ) (leaf serial : ℕ) (s : Shape) (k : ℕ) : Type 0 where
   pub tree : SoundTree s starts heads table
   pub process : k < processes s
@@ -34,7 +35,8 @@ pub record RootBlockIs (s : Shape) (t : List ℕ) (k i b : ℕ) : Type 0 where
   pub last : b ≤ lastRoot s t
   pub own : b ≡ rootBlockOf s t (record { process = k; serial = i })
 
--- r is where operation i of process k stands, which is of kind κ: its root block, and its number among those of that kind there
+-- r is where operation i of process k stands, which is of kind κ: its root block, and its number among those of that
+-- kind there
 pub record StandsAt (s : Shape) (t : List ℕ) (κ : Kind) (k i : ℕ) (r : Standing) : Type 0 where
   pub block : RootBlockIs s t k i (r .block)
   pub rank : r .rank ≡ rankIn (record { process = k; serial = i }) (inRoot s t κ (r .block))

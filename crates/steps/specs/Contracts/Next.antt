@@ -1,4 +1,5 @@
--- What the code of a named step promises: the memory that it leaves and the step that its process comes to are those of the rules, whatever it does not look at.
+-- What the code of a named step promises: the memory that it leaves and the step that its process comes to are those of
+-- the rules, whatever it does not look at.
 use Prim.Native.Nat.{ℕ, _+_, _*_, _<_}
 use mathlib.Core.Path.{_≡_}
 use mathlib.Core.List.{List}
@@ -14,7 +15,8 @@ use Rattle.steps.specs.Rules.{step, go}
 use Rattle.tree.specs.Contracts.Access.{Begins}
 use Rattle.tree.specs.Memory.{memoryOf}
 
--- the parts of the nodes whose blocks a step looks at begin and end where they do in a tree of shape s; A, which knows its leaf from its process, is told it
+-- the parts of the nodes whose blocks a step looks at begin and end where they do in a tree of shape s; A, which knows
+-- its leaf from its process, is told it
 abbrev pub PartsBegin : Shape → List ℕ → Step → Type 0
 PartsBegin s starts A = Unit {0}
 PartsBegin s starts (V1 a w v h) = Unit {0}
@@ -82,8 +84,8 @@ NextByTable starts table table' q r = Moves q r × ((s : Shape) (k : ℕ) (o : O
     → step s k o (memoryOf table heads) (stepIn (q .status))
     ≡ go s k o (memoryOf table heads) (memoryOf table' heads) (stepIn (r .status)))
 
--- The functions of the named steps. A name is told by what it is to say P of each step of that name: of R2, (w : Visit) → P (R2 w). Where process q is at such a step,
--- Next holds; where it is at a step of another name, nothing changes
+-- The functions of the named steps. A name is told by what it is to say P of each step of that name: of R2, (w : Visit)
+-- → P (R2 w). Where process q is at such a step, Next holds; where it is at a step of another name, nothing changes
 abbrev pub AtName : ((Step → Type 0) → Type 0) → Process → Type 0 → Type 0 → Type 0
 AtName Each q Next Same = Each (λ n. stepIn (q .status) ≡ n → Next) × (Each (λ n. stepIn (q .status) ≡ n → ⊥) → Same)
 

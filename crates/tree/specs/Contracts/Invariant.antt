@@ -1,4 +1,5 @@
--- The memory invariant: what holds of the blocks and heads whatever the order of steps. Contracts of functions cite it; no exported promise does.
+-- The memory invariant: what holds of the blocks and heads whatever the order of steps. Contracts of functions cite it;
+-- no exported promise does.
 use Prim.Native.Nat.{ℕ, suc, _+_, _*_, _≤_, _<_}
 use mathlib.Core.Path.{_≡_}
 use mathlib.Core.Logic.{_⊎_}
@@ -52,14 +53,16 @@ pub record Follows (b c : Block) : Type 0 where
 pub record AddsOne (b c : Block) : Type 0 where
   pub one : count c ≡ count b + 1
 
--- c may follow b in inner node v: ends never fall and are below the children's heads, totals are the sums at the ends, and the root's size follows its rule
+-- c may follow b in inner node v: ends never fall and are below the children's heads, totals are the sums at the ends,
+-- and the root's size follows its rule
 pub record Joins (s : Shape) (m : Memory) (v : ℕ) (b c : Block) : Type 0 where
   pub rises : (d : Side) → endOf d b ≤ endOf d c
   pub below : (d : Side) → endOf d c < headOf m (childOf d v)
   pub sums : (κ : Kind) → total κ c ≡ total κ (block s m (childOf onLeft v) (c .left)) + total κ (block s m (childOf onRight v) (c .right))
   pub sized : c .size ≡ (if eqb v 1 then rootSize b (c .puts) (c .takes) else 0)
 
--- any node: heads from 1; places below the head are present and those above it absent; absent places are zero; totals rise and stay within the node's places
+-- any node: heads from 1; places below the head are present and those above it absent; absent places are zero; totals
+-- rise and stay within the node's places
 pub record NodeSound (s : Shape) (m : Memory) (v : ℕ) : Type 0 where
   pub head : 1 ≤ headOf m v
   pub filled : (i : ℕ) → 1 ≤ i → i < headOf m v → Present s m v i

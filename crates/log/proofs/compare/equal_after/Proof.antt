@@ -1,4 +1,5 @@
--- `compare::equal_after` meets its contract. An answer stored in sixteen bytes is its bytes, and the record of the log at its place decides. Assumes nothing.
+-- `compare::equal_after` meets its contract. An answer stored in sixteen bytes is its bytes, and the record of the log
+-- at its place decides. Assumes nothing.
 use Prim.Native.Nat.{ℕ, _+_, _*_}
 use native.Mathlib.Omega.{arith}
 use mathlib.Core.Path.{_≡_, sym, _∙_}

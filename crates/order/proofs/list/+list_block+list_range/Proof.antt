@@ -1,5 +1,6 @@
--- `list::list_block` and `list::list_range` meet their contracts. Both measures are the node's height, which list_block lowers by one; a range counts for more than a block of
--- its node. The invariant of the loop: the blocks after `from`, up to b, are stored. Assumes nothing.
+-- `list::list_block` and `list::list_range` meet their contracts. Both measures are the node's height, which list_block
+-- lowers by one; a range counts for more than a block of its node. The invariant of the loop: the blocks after `from`,
+-- up to b, are stored. Assumes nothing.
 use Prim.Native.Nat.{ℕ, _+_, _*_, _-_, _≤_, _<_}
 use native.Mathlib.Omega.{arith}
 use mathlib.Core.Path.{_≡_, refl, ap}

@@ -12,19 +12,27 @@ slice-aggregate-put-text : tie.Need-slice-aggregate-put-text
 slice-aggregate-put-text c = search needs
 
 put-text-requires : tie.Need-put-text-requires
-put-text-requires c κs = let a = c .before .before .before .args in omega (arith, last-length (a .refusal) (a .taken))
+put-text-requires c κs =
+    let a = c .before .before .before .args in
+    omega (arith, last-length (a .refusal) (a .taken))
 
 put-number-requires : tie.Need-put-number-requires
-put-number-requires c κs = let a = c .before .before .before .before .before .before .before .args in omega (arith, last-length (a .refusal) (a .taken))
+put-number-requires c κs =
+    let a = c .before .before .before .before .before .before .before .args in
+    omega (arith, last-length (a .refusal) (a .taken))
 
 put-number-requires-2 : tie.Need-put-number-requires-2
-put-number-requires-2 c κs = let a = c .before .before .before .before .before .before .before .before .before .before .before .args in omega (arith, last-length (a .refusal) (a .taken))
+put-number-requires-2 c κs =
+    let a = c .before .before .before .before .before .before .before .before .before .before .before .args in
+    omega (arith, last-length (a .refusal) (a .taken))
 
 slice-aggregate-put-text-2 : tie.Need-slice-aggregate-put-text-2
 slice-aggregate-put-text-2 c = search needs
 
 put-text-requires-2 : tie.Need-put-text-requires-2
-put-text-requires-2 c κs = let a = c .before .before .before .before .before .before .before .before .before .before .before .before .before .before .before .before .args in omega (arith, last-length (a .refusal) (a .taken))
+put-text-requires-2 c κs =
+    let a = c .before .before .before .before .before .before .before .before .before .before .before .before .before .before .before .before .args in
+    omega (arith, last-length (a .refusal) (a .taken))
 
 same-length : tie.Need-same-length
 same-length c = search needs

@@ -11,25 +11,33 @@ cast-put-number : tie.Need-cast-put-number
 cast-put-number c = search needs
 
 put-number-requires : tie.Need-put-number-requires
-put-number-requires c κs = let a = c .before .before .before .args in omega (arith, numbers-length (a .a))
+put-number-requires c κs =
+    let a = c .before .before .before .args in
+    omega (arith, numbers-length (a .a))
 
 cast-put-number-2 : tie.Need-cast-put-number-2
 cast-put-number-2 c = search needs
 
 put-number-requires-2 : tie.Need-put-number-requires-2
-put-number-requires-2 c κs = let a = c .before .before .before .before .before .before .before .before .args in omega (arith, numbers-length (a .a))
+put-number-requires-2 c κs =
+    let a = c .before .before .before .before .before .before .before .before .args in
+    omega (arith, numbers-length (a .a))
 
 cast-put-number-3 : tie.Need-cast-put-number-3
 cast-put-number-3 c = search needs
 
 put-number-requires-3 : tie.Need-put-number-requires-3
-put-number-requires-3 c κs = let a = c .before .before .before .before .before .before .before .before .before .before .before .before .before .args in omega (arith, numbers-length (a .a))
+put-number-requires-3 c κs =
+    let a = c .before .before .before .before .before .before .before .before .before .before .before .before .before .args in
+    omega (arith, numbers-length (a .a))
 
 cast-put-number-4 : tie.Need-cast-put-number-4
 cast-put-number-4 c = search needs
 
 put-number-requires-4 : tie.Need-put-number-requires-4
-put-number-requires-4 c κs = let a = c .before .before .before .before .before .before .before .before .before .before .before .before .before .before .before .before .before .before .args in omega (arith, numbers-length (a .a))
+put-number-requires-4 c κs =
+    let a = c .before .before .before .before .before .before .before .before .before .before .before .before .before .before .before .before .before .before .args in
+    omega (arith, numbers-length (a .a))
 
 same-length : tie.Need-same-length
 same-length c = search needs

@@ -1,4 +1,5 @@
--- `answer_records::answer_record` meets its contract. Each field is read where it stands in the whole slice, which is a part of the part that the definition reads. Assumes nothing.
+-- `answer_records::answer_record` meets its contract. Each field is read where it stands in the whole slice, which is a
+-- part of the part that the definition reads. Assumes nothing.
 use native.Mathlib.Omega.{arith}
 use lib.ListN.{drop}
 use lib.Seq.{take-take}

@@ -1,4 +1,5 @@
--- `record::bytes::byte_at` meets its contract. A byte of a slice is below 256, and one byte is the number that it holds.
+-- `record::bytes::byte_at` meets its contract. A byte of a slice is below 256, and one byte is the number that it
+-- holds.
 use native.Mathlib.Omega.{arith}
 use borrow.Author.Needs.{needs}
 use Rattle.record.proofs.Numbers.{byte-number}

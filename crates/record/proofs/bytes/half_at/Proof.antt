@@ -1,4 +1,5 @@
--- `record::bytes::half_at` meets its contract. The number in two bytes is that of the first and 256 times that of the second.
+-- `record::bytes::half_at` meets its contract. The number in two bytes is that of the first and 256 times that of the
+-- second.
 use native.Mathlib.Omega.{arith}
 use borrow.Author.Needs.{needs}
 use Rattle.record.proofs.Numbers.{number-parts}

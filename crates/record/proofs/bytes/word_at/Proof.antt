@@ -1,4 +1,5 @@
--- `record::bytes::word_at` meets its contract. The number in four bytes is that of the first two and 65536 times that of the others.
+-- `record::bytes::word_at` meets its contract. The number in four bytes is that of the first two and 65536 times that
+-- of the others.
 use native.Mathlib.Omega.{arith}
 use borrow.Author.Needs.{needs}
 use Rattle.record.proofs.Numbers.{number-parts}

@@ -1,4 +1,5 @@
--- `step_records::step_record` meets its contract. Each field is read where it stands in the whole slice, which is a part of the part that the definition reads.
+-- `step_records::step_record` meets its contract. Each field is read where it stands in the whole slice, which is a
+-- part of the part that the definition reads.
 use native.Mathlib.Omega.{arith}
 use lib.ListN.{drop}
 use lib.Seq.{take-take}

@@ -1,5 +1,5 @@
--- `bisect::first_reaching` meets its contract. The loop's invariant: places up to low are below x, and high reaches it. The measure is the distance between the
--- two. Assumes nothing.
+-- `bisect::first_reaching` meets its contract. The loop's invariant: places up to low are below x, and high reaches it.
+-- The measure is the distance between the two. Assumes nothing.
 use Prim.Native.Nat.{ℕ, _-_, _≤_, _<_}
 use native.Mathlib.Omega.{arith}
 use native.Mathlib.Nat.{lt-of-le-of-lt}

@@ -1,4 +1,5 @@
--- `blocks::set_super` meets its contract. A store of one word is the block written with that word changed, and no store is the block written back. Assumes nothing.
+-- `blocks::set_super` meets its contract. A store of one word is the block written with that word changed, and no store
+-- is the block written back. Assumes nothing.
 use borrow.Author.Needs.{needs}
 use Rattle.tree.proofs.BlockStores.{super-stored, super-kept}
 use Rattle.tree.proofs.blocks.set_super.Statement.{statement}

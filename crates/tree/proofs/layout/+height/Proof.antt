@@ -1,4 +1,5 @@
--- `layout::height` meets its contract. The measure is the height of the tree, which each call lowers by one. Assumes nothing.
+-- `layout::height` meets its contract. The measure is the height of the tree, which each call lowers by one. Assumes
+-- nothing.
 use Prim.Native.Nat.{ℕ, _<_}
 use native.Mathlib.Omega.{arith}
 use mathlib.Core.Path.{sym}

@@ -1,4 +1,5 @@
--- `layout::clear` meets its contract. The loop's invariant: the first i words are 0, the others as they were. The measure is what is left of the n. Assumes nothing.
+-- `layout::clear` meets its contract. The loop's invariant: the first i words are 0, the others as they were. The
+-- measure is what is left of the n. Assumes nothing.
 use Prim.Native.Nat.{_≤_, _-_}
 use native.Mathlib.Omega.{arith}
 use mathlib.Core.Path.{_≡_, refl}

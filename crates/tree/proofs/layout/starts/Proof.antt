@@ -1,5 +1,5 @@
--- `layout::starts` meets its contract. The loop's invariant: the starts up to v are right, the others are the words needed. The measure is what is left of the
--- nodes. Assumes nothing.
+-- `layout::starts` meets its contract. The loop's invariant: the starts up to v are right, the others are the words
+-- needed. The measure is what is left of the nodes. Assumes nothing.
 use Prim.Native.Nat.{ℕ, _+_, _*_, _-_, _≤_, _<_}
 use native.Mathlib.Omega.{arith}
 use mathlib.Core.Path.{_≡_, refl, _∙_}

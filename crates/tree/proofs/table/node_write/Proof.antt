@@ -1,4 +1,5 @@
--- `table::node_write` meets its contract. The part that was written is put back between what stands before it and behind it. Assumes nothing.
+-- `table::node_write` meets its contract. The part that was written is put back between what stands before it and
+-- behind it. Assumes nothing.
 use borrow.Author.Needs.{needs}
 use Rattle.tree.proofs.NodeParts.{put-back}
 use Rattle.tree.proofs.table.node_write.Statement.{statement}
