@@ -58,7 +58,8 @@ module _ {s : Shape} {ps : List Process} {starts heads table : List ℕ} {k : �
   tree : SoundTree s starts heads table
   tree = plays-tree s ps starts heads table k q plays
 
-  module _ {o : Operation} (status : q .status ≡ Busy o Q) where
+  -- i is the operation's serial
+  module _ {o : Operation} (status : q .status ≡ Busy o Q) {i : ℕ} (serial : i ≡ q .begun) where
     -- what the invariant says at Q: the root's blocks below its head hold the operation
     rooted : Rooted s m k (q .begun)
     rooted =
@@ -66,17 +67,17 @@ module _ {s : Shape} {ps : List Process} {starts heads table : List ℕ} {k : �
         (subst (λ (x : Process). Carried s m (holding (machineOf table heads ps)) k (x .begun) (stageOf (x .status))) (plays .here) (plays .keeps .process k (plays .low) .carried))
 
     -- so it can be found there
-    pub stands-as : Stands starts heads table (p + k) (q .begun) s k
+    pub stands-as : Stands starts heads table (p + k) i s k
     unfolding leafOf
-    stands-as = record { tree = tree; process = plays .low; own = rw width; first = plays .some o Q status; rooted = rooted }
+    stands-as = rw serial (record { tree = tree; process = plays .low; own = rw width; first = plays .some o Q status; rooted = rooted })
 
     -- the record that is made is its answer
-    answer-is : {b : ℕ} {r : Reply} → RootBlockIs s table k (q .begun) b → r ≡ replyOf s table (record { process = k; serial = q .begun }) o
+    answer-is : {b : ℕ} {r : Reply} → RootBlockIs s table k i b → r ≡ replyOf s table (record { process = k; serial = i }) o
         → recordOf k q r b ≡ answerOf s (machineOf table heads ps) k o
     unfolding answerOf
-    answer-is stands f = rw (plays .here, f, stands .own)
+    answer-is stands f = rw (plays .here, f, stands .own, serial)
 
-    pub put-answer : {x b : ℕ} → o ≡ Put x → RootBlockIs s table k (q .begun) b → recordOf k q Done b ≡ answerOf s (machineOf table heads ps) k o
+    pub put-answer : {x b : ℕ} → o ≡ Put x → RootBlockIs s table k i b → recordOf k q Done b ≡ answerOf s (machineOf table heads ps) k o
     unfolding replyOf
     put-answer e stands = answer-is stands (rw e)
 
@@ -89,10 +90,10 @@ module _ {s : Shape} {ps : List Process} {starts heads table : List ℕ} {k : �
           let held = reached-present s m (tree .sound) (plays .inner) k (plays .low) (headOf m root - 1) (below-head n _ (omega (arith, n .head))) (q .begun) (plays .some o Q status) rooted in
           omega (arith, plays .own Take Q (rw e at status) held .1)
 
-      pub take-stands : StandsOf Takes starts heads table (p + k) (q .begun) s k
-      take-stands = (stands-as, of-takes)
+      pub take-stands : StandsOf Takes starts heads table (p + k) i s k
+      take-stands = (stands-as, rw serial of-takes)
 
-      module _ {at : Standing} (stands : StandsAt s table Takes k (q .begun) at) where
+      module _ {at : Standing} (stands : StandsAt s table Takes k i at) where
         pub taken-as : {height : ℕ} → height ≡ heightFor p → TakeAt starts table height (at .block) (at .rank) s heads
         taken-as tall =
             record {

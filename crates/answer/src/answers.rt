@@ -20,14 +20,14 @@ ghost use Rattle.answer.specs.Contracts.Answering.{recordOf};
 
 // The answer record of process k, which is q, with a reply and a root block. Q is one more own step.
 fn answer(k: u32, q: Process, reply: Reply, block: u32) -> AnswerRecord
-    requires { ⌜ q .steps < 65535 ⌝ }
+    requires { ⌜ (q .steps < 65535) × (q .begun < 65536) ⌝ }
     ensures { λ r. ⌜ r ≡ recordOf k q reply block ⌝ }
 {
     AnswerRecord {
         process: k,
         reply: reply,
         steps: q.steps + 1,
-        serial: q.begun,
+        serial: q.serial(),
         block: block,
     }
 }
@@ -49,13 +49,14 @@ pub fn answer_of(
     ensures bounds { λ r. ⌜ (r .process < 256) × (r .steps < 65536) ⌝ }
 {
     let leaf = p + k;
+    let serial = q.serial();
     match o {
         Operation::Put(_) => {
-            let block = root_block(heads, table, starts, leaf, q.begun);
+            let block = root_block(heads, table, starts, leaf, serial);
             answer(k, q, Reply::Done, block)
         }
         Operation::Take => {
-            let at = standing(heads, table, starts, leaf, q.begun);
+            let at = standing(heads, table, starts, leaf, serial);
             let reply = take_reply(table, starts, height_for(p), at.block, at.rank);
             answer(k, q, reply, at.block)
         }

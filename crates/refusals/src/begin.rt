@@ -11,7 +11,7 @@ pub fn begin_refusal(l: u32, q: Process) -> Refusal
     if !q.is_idle() {
         return Refusal::BeginWhileBusy;
     }
-    if l <= q.begun {
+    if l as u64 <= q.begun {
         return Refusal::BegunAll;
     }
     Refusal::None

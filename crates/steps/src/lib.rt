@@ -110,10 +110,11 @@ pub enum Status {
     Busy(Operation, Step),
 }
 
-// A process, the operations that it has begun, and the own steps of the one that it is inside of.
+// A process, the operations that it has begun, and the own steps of the one that it is inside of. With `begun` of eight
+// bytes it takes 64, so that its place among the processes is found by a shift.
 pub struct Process {
     pub status: Status,
-    pub begun: u32,
+    pub begun: u64,
     pub steps: u32,
 }
 
@@ -142,6 +143,14 @@ impl Process {
             Status::Idle => true,
             Status::Busy(_, _) => false,
         }
+    }
+
+    // The serial of the operation that it is inside of, or was inside of last.
+    pub fn serial(self) -> u32
+        requires { ⌜ self .begun < 65536 ⌝ }
+        ensures { λ r. ⌜ r ≡ self .begun ⌝ }
+    {
+        self.begun as u32
     }
 
     // The process after a begin: it is inside of operation o and comes to A.

@@ -3,6 +3,7 @@ use crate::After;
 use crate::Step;
 use crate::Visit;
 ghost use mathlib.Core.Path.{_≡_};
+ghost use Rattle.steps.specs.Contracts.Sequence.{afterHelp};
 ghost use Rattle.steps.specs.Rules.{above as aboveOf, resume as resumeOf, advance as advanceOf, afterRefresh};
 
 // After the last refresh of v its parent is refreshed. Nothing is above the root (node 1), so there the operation is
@@ -19,13 +20,25 @@ pub fn above(v: u32) -> Step
     }
 }
 
-// What was put off while a node was advanced.
-pub fn resume(a: After, w: Visit) -> Step
-    ensures { λ r. ⌜ r ≡ resumeOf a w ⌝ }
+// What follows an advance on the left that is a help, R4; C1 otherwise.
+fn after_help(a: After, w: Visit) -> Step
+    ensures { λ r. ⌜ r ≡ afterHelp a w ⌝ }
 {
     match a {
         After::Right => Step::R4 { visit: w },
         After::Ends => Step::C1 { visit: w },
+        After::Again => Step::C1 { visit: w },
+        After::Up => Step::C1 { visit: w },
+    }
+}
+
+// What was put off while a node was advanced. The two steps that follow a help have one arm: four arms would be a second
+// jump by table in V3.
+pub fn resume(a: After, w: Visit) -> Step
+    ensures { λ r. ⌜ r ≡ resumeOf a w ⌝ }
+{
+    match a {
+        After::Right | After::Ends => after_help(a, w),
         After::Again => Step::R1 {
             second: true,
             node: w.node,

@@ -84,8 +84,8 @@ NextByTable starts table table' q r = Moves q r × ((s : Shape) (k : ℕ) (o : O
     → step s k o (memoryOf table heads) (stepIn (q .status))
     ≡ go s k o (memoryOf table heads) (memoryOf table' heads) (stepIn (r .status)))
 
--- The functions of the named steps. A name is told by what it is to say P of each step of that name: of R2, (w : Visit)
--- → P (R2 w). Where process q is at such a step, Next holds; where it is at a step of another name, nothing changes
+-- The functions of the named steps. A name is given by what it is to say P of each step of that name: of R2,
+-- (w : Visit) → P (R2 w). Where process q is at such a step, Next holds; at a step of another name, Same does.
 abbrev pub AtName : ((Step → Type 0) → Type 0) → Process → Type 0 → Type 0 → Type 0
 AtName Each q Next Same = Each (λ n. stepIn (q .status) ≡ n → Next) × (Each (λ n. stepIn (q .status) ≡ n → ⊥) → Same)
 
