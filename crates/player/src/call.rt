@@ -29,7 +29,7 @@ pub fn play_call(
     log: &[u8],
 ) -> Outcome
     requires { ⌜ Callable p l (now heads) (length (now table)) room (length (now out)) ⌝ }
-    ensures leaves { λ r. ⌜ PlayResult (played (shapeFor p l) room (stepRecords (now (records .entry)))) (now (log .entry)) (now (out .entry)) r
+    ensures result { λ r. ⌜ PlayResult (played (shapeFor p l) room (stepRecords (now (records .entry)))) (now (log .entry)) (now (out .entry)) r
         (take (wordsNeeded (shapeFor p l)) (now (table .exit))) (now (heads .exit)) (now (out .exit)) ⌝ }
     ensures rest { λ _. ⌜ drop (wordsNeeded (shapeFor p l)) (now (table .exit)) ≡ drop (wordsNeeded (shapeFor p l)) (now (table .entry)) ⌝ }
 {
@@ -61,7 +61,7 @@ pub fn play_unanswered(
     log: &[u8],
 ) -> Outcome
     requires { ⌜ Callable p l (now heads) (length (now table)) 0 0 ⌝ }
-    ensures leaves { λ r. ⌜ PlayResult (played (shapeFor p l) (2 * length (now (records .entry))) (stepRecords (now (records .entry)))) (now (log .entry)) [] r
+    ensures result { λ r. ⌜ PlayResult (played (shapeFor p l) (2 * length (now (records .entry))) (stepRecords (now (records .entry)))) (now (log .entry)) [] r
         (take (wordsNeeded (shapeFor p l)) (now (table .exit))) (now (heads .exit)) [] ⌝ }
     ensures rest { λ _. ⌜ drop (wordsNeeded (shapeFor p l)) (now (table .exit)) ≡ drop (wordsNeeded (shapeFor p l)) (now (table .entry)) ⌝ }
 {

@@ -57,14 +57,14 @@ module _ {p l : ℕ} {records log table : List ℕ} {o : Outcome} {heads' table'
     pub check-few : length records * 1 < 9223372036854775808 → 16 * o .answers < 18446744073709551616
     unfolding playAll answerSize
     check-few h =
-        omega (arith, k .leaves .answered, records-length records, played-room (shapeFor p l) (answerSize * length (stepRecords records)) (stepRecords records))
+        omega (arith, k .result .answered, records-length records, played-room (shapeFor p l) (answerSize * length (stepRecords records)) (stepRecords records))
 
     pub check-refused : accepted (o .refusal) ≡ false → checkLeft (Refused (o .refusal)) table' ≡ checkLog p l records log table
     unfolding verdictOn
-    check-refused e = left (Refused (o .refusal)) (rw (← k .leaves .refusal, e))
+    check-refused e = left (Refused (o .refusal)) (rw (← k .result .refusal, e))
 
     pub check-compared : accepted (o .refusal) ≡ true → checkLeft (verdictOf (o .equal) (o .answers) (length log)) table' ≡ checkLog p l records log table
     unfolding verdictOn
     check-compared e =
         left (verdictOf (o .equal) (o .answers) (length log))
-        (rw (k .leaves .equal, k .leaves .answered, ← k .leaves .refusal, e) (verdict-compared (g .answers) log (check-whole p l (length table) (length records) (length log) ok)))
+        (rw (k .result .equal, k .result .answered, ← k .result .refusal, e) (verdict-compared (g .answers) log (check-whole p l (length table) (length records) (length log) ok)))

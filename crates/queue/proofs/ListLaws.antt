@@ -100,8 +100,8 @@ module _ {p l : ℕ} {records log table : List ℕ} {o : Outcome} {heads' table'
         → listLeft (record { refusal = o .refusal; length = 0 }) table' output ≡ listOrder p l records table output
     unfolding listLeft listPlayed listRefusal listed
     list-refused output e =
-        let z : accepted (g .refusal) ≡ false = ap accepted (sym (k .leaves .refusal)) ∙ e in
-        (λ i. record { refusal = refusalNumber (k .leaves .refusal i); length = 0; table = all-left k i; output = output })
+        let z : accepted (g .refusal) ≡ false = ap accepted (sym (k .result .refusal)) ∙ e in
+        (λ i. record { refusal = refusalNumber (k .result .refusal i); length = 0; table = all-left k i; output = output })
         ∙ (rw (z, z))
         ∙ is-listed output
 
@@ -111,7 +111,7 @@ module _ {p l : ℕ} {records log table : List ℕ} {o : Outcome} {heads' table'
     list-listing =
         let keeps : Invariant s (g .machine) = played-agrees s (tall-for p l) (answerSize * length (stepRecords records)) (stepRecords records) .invariant in
         let same : _≡_ {A = Memory} (g .machine .memory) (memoryOf (take (wordsNeeded s) table') heads') =
-        λ i. record { table = sym (k .leaves .words) i; heads = sym (k .leaves .nodes) i }
+        λ i. record { table = sym (k .result .words) i; heads = sym (k .result .nodes) i }
         in
         record {
           processes = accepted-processes p l (length table) (length records) ok;
@@ -125,7 +125,7 @@ module _ {p l : ℕ} {records log table : List ℕ} {o : Outcome} {heads' table'
     unfolding listPlayed listRefusal listFrom accepted refusalNumber
     list-left r output output' e f =
         f
-        ∙ ap (λ (x : List ℕ). listFrom s x table' output) (k .leaves .words)
+        ∙ ap (λ (x : List ℕ). listFrom s x table' output) (k .result .words)
         ∙ ap (λ (x : List ℕ). listFrom s (g .machine .memory .table) x output) (all-left k)
-        ∙ (rw (ap accepted (sym (k .leaves .refusal)) ∙ e))
+        ∙ (rw (ap accepted (sym (k .result .refusal)) ∙ e))
         ∙ is-listed output

@@ -54,7 +54,7 @@ module _ (p l : ℕ) (records table answers : List ℕ) where
 
   -- played
   module _ (ok : accepted n ≡ true) (o : Outcome) (log table' heads' answers' : List ℕ)
-      (leaves : PlayResult g log answers o (take (wordsNeeded s) table') heads' answers')
+      (result : PlayResult g log answers o (take (wordsNeeded s) table') heads' answers')
       (rest : drop (wordsNeeded s) table' ≡ drop (wordsNeeded s) table)
     where
       pub run-left : runLeft (record { refusal = o .refusal; taken = o .taken; answers = o .answers }) table' answers' ≡ run p l records table answers
@@ -63,9 +63,9 @@ module _ (p l : ℕ) (records table answers : List ℕ) where
           rw ok
           (λ i.
           record {
-            refusal = refusalNumber (leaves .refusal i);
-            taken = leaves .taken i;
-            answered = leaves .answered i;
-            table = table-left g log answers o (wordsNeeded s) table table' heads' answers' leaves rest i;
-            answers = (leaves .bytes ∙ written-fits answers (g .answers) (played-room s (length answers) (stepRecords records))) i;
+            refusal = refusalNumber (result .refusal i);
+            taken = result .taken i;
+            answered = result .answered i;
+            table = table-left g log answers o (wordsNeeded s) table table' heads' answers' result rest i;
+            answers = (result .bytes ∙ written-fits answers (g .answers) (played-room s (length answers) (stepRecords records))) i;
           })

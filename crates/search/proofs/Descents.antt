@@ -32,6 +32,7 @@ use Rattle.tree.proofs.Places.{processes-most, node-reads, node-small, written-
 use Rattle.search.proofs.ChildReads.{end-written, end-place, end-total}
 use Rattle.search.proofs.NumbersUp.{besideTotal, child-rises, ends-total, sum-before, sum-here}
 use Rattle.search.proofs.PutSearch.{search-ready, search-finds}
+use Rattle.tree.specs.Blocks.{putsWord}
 
 -- put number n of v's block suc a is on a side d of it: its number in the child there, and the list that it is in
 pub record OnSide (s : Shape) (m : Memory) (h v a n : ℕ) (d : Side) (number : ℕ) : Type 0 where
@@ -158,18 +159,18 @@ module _ (s : Shape) (heads starts table : List ℕ) (h v a n : ℕ) (f : Finds 
     level : Level s h u
     level = rw (l .child) (level-child s h v (f .level) d)
 
-    pub lower-ready : HasPart starts table u × Reaches (nodePart starts table u) 0 last number
+    pub lower-ready : HasPart starts table u × Reaches (nodePart starts table u) putsWord last number
     lower-ready =
         search-ready s heads starts table sets h u level last number
         (rw (l .child, l .end) (end-written s starts heads table sets v inner d (suc a) (inr has)))
         (omega (arith, l .on .past))
         (rw (l .child, l .end) (l .on .upto))
 
-    pub lower-finds : (c : ℕ) → First (nodePart starts table u) 0 last number c → Finds starts table h u c number s heads
+    pub lower-finds : (c : ℕ) → First (nodePart starts table u) putsWord last number c → Finds starts table h u c number s heads
     lower-finds c = search-finds s heads starts table sets h u level last number c
 
     -- the subblock found has the put
-    module _ (c : ℕ) (g : First (nodePart starts table u) 0 last number (suc c)) where
+    module _ (c : ℕ) (g : First (nodePart starts table u) putsWord last number (suc c)) where
       past-before : childTotal s m Puts v d c < number
       unfolding total block
       past-before = let e : suc c - 1 ≡ c = omega arith in rw (l .child, e) at (lower-finds (suc c) g .past)
@@ -212,6 +213,6 @@ module _ (s : Shape) (heads starts table : List ℕ) (h v a n : ℕ) (f : Finds 
           let g : suc c - 1 ≡ c = omega arith in
           rw (e, same-put z) (rw (g, l .child) at (found z))
 
-    pub lower-found : (c : ℕ) → First (nodePart starts table u) 0 last number c → (r : ℕ) → FoundIn s table h u c number r → FoundIn s table (suc h) v (suc a) n r
+    pub lower-found : (c : ℕ) → First (nodePart starts table u) putsWord last number c → (r : ℕ) → FoundIn s table h u c number r → FoundIn s table (suc h) v (suc a) n r
     lower-found zero g = absurd (omega (arith, g .some))
     lower-found (suc c) g = suc-found c g

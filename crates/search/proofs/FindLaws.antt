@@ -8,7 +8,7 @@ use mathlib.Core.List.{List}
 use Rattle.tree.specs.declared.Block.{Block}
 use Rattle.tree.specs.declared.Kind.the-variants.{Puts}
 use Rattle.tree.specs.Shape.{Shape, processes, root, leafOf}
-use Rattle.tree.specs.Blocks.{blockAt}
+use Rattle.tree.specs.Blocks.{blockAt, putsWord}
 use Rattle.tree.specs.Memory.{Memory, block, memoryOf}
 use Rattle.tree.specs.Order.{total, inRoot}
 use Rattle.tree.specs.Contracts.Invariant.{Node, Present}
@@ -30,9 +30,9 @@ use Rattle.search.proofs.Descents.{descends, lower, lower-ready, lower-
 
 -- the put is found by a search of the child
 pub record Down (s : Shape) (heads starts table : List ℕ) (h v b n : ℕ) (r : Descent) : Type 0 where
-  pub ready : HasPart starts table (r .node) × Reaches (nodePart starts table (r .node)) 0 (r .last) (r .number)
-  pub finds : (c : ℕ) → First (nodePart starts table (r .node)) 0 (r .last) (r .number) c → Finds starts table (h - 1) (r .node) c (r .number) s heads
-  pub found : (c : ℕ) → First (nodePart starts table (r .node)) 0 (r .last) (r .number) c → (x : ℕ) → FoundIn s table (h - 1) (r .node) c (r .number) x
+  pub ready : HasPart starts table (r .node) × Reaches (nodePart starts table (r .node)) putsWord (r .last) (r .number)
+  pub finds : (c : ℕ) → First (nodePart starts table (r .node)) putsWord (r .last) (r .number) c → Finds starts table (h - 1) (r .node) c (r .number) s heads
+  pub found : (c : ℕ) → First (nodePart starts table (r .node)) putsWord (r .last) (r .number) c → (x : ℕ) → FoundIn s table (h - 1) (r .node) c (r .number) x
       → FoundIn s table h v b n x
 
 down : (s : Shape) (heads starts table : List ℕ) (h v b n : ℕ) → Finds starts table h v b n s heads → (h ≡ 0 → ⊥)
@@ -99,16 +99,16 @@ module _ (s : Shape) (heads starts table : List ℕ) (height last n : ℕ) (q : 
   abbrev m : Memory
   m = memoryOf table heads
 
-  pub root-ready : HasPart starts table 1 × Reaches (nodePart starts table 1) 0 last n
+  pub root-ready : HasPart starts table 1 × Reaches (nodePart starts table 1) putsWord last n
   unfolding root total block
   root-ready =
       search-ready s heads starts table (q .tree) (s .height) root (level-root s) last n (root-written s m (q .tree .sound) last (q .most)) (q .first) (q .within)
 
-  pub root-finds : (b : ℕ) → First (nodePart starts table 1) 0 last n b → Finds starts table height 1 b n s heads
+  pub root-finds : (b : ℕ) → First (nodePart starts table 1) putsWord last n b → Finds starts table height 1 b n s heads
   unfolding root
   root-finds b g = rw (q .tall) (search-finds s heads starts table (q .tree) (s .height) root (level-root s) last n b g)
 
-  suc-value : (b : ℕ) → First (nodePart starts table 1) 0 last n (suc b) → (r : ℕ) → FoundIn s table (s .height) 1 (suc b) n r → ValueAt s table n r
+  suc-value : (b : ℕ) → First (nodePart starts table 1) putsWord last n (suc b) → (r : ℕ) → FoundIn s table (s .height) 1 (suc b) n r → ValueAt s table n r
   unfolding root total block inRoot
   suc-value b g r found = λ z.
       let e : suc b - 1 ≡ b = omega arith in
@@ -116,6 +116,6 @@ module _ (s : Shape) (heads starts table : List ℕ) (height last n : ℕ) (q : 
       rw (find-root s m (q .tree .sound) b (n - 1) z (omega (arith, g .most, q .most)) (omega arith) (omega (arith, root-finds (suc b) g .upto)))
       (rw e at (found z))
 
-  pub root-value : (b : ℕ) → First (nodePart starts table 1) 0 last n b → (r : ℕ) → FoundIn s table height 1 b n r → ValueAt s table n r
+  pub root-value : (b : ℕ) → First (nodePart starts table 1) putsWord last n b → (r : ℕ) → FoundIn s table height 1 b n r → ValueAt s table n r
   root-value zero g r found = absurd (omega (arith, g .some))
   root-value (suc b) g r found = suc-value b g r (rw (q .tall) at found)

@@ -19,6 +19,7 @@ use Rattle.search.specs.Contracts.Searched.{Reaches, First}
 use Rattle.search.specs.Contracts.Descending.{Finds}
 use Rattle.search.proofs.Words.{part-fits, puts-word}
 use Rattle.tree.proofs.Places.{node-part, written-place}
+use Rattle.tree.specs.Blocks.{putsWord}
 
 pub level-node : (s : Shape) (h v : ℕ) → Level s h v → Node s v
 level-node s zero v l = let k = level-leaf s v l in rw (k .2) (leaf-node s (k .0) (k .1))
@@ -41,7 +42,7 @@ module _ (s : Shape) (heads starts table : List ℕ) (sets : SoundTree s starts 
 
   -- a put that is in the blocks up to a written one is found there
   pub search-ready : (last n : ℕ) → Written s (memoryOf table heads) v last → 1 ≤ n
-      → n ≤ total Puts (block s (memoryOf table heads) v last) → HasPart starts table v × Reaches (nodePart starts table v) 0 last n
+      → n ≤ total Puts (block s (memoryOf table heads) v last) → HasPart starts table v × Reaches (nodePart starts table v) putsWord last n
   search-ready last n w some upto = (
     node-part sets v node,
     record {
@@ -56,7 +57,7 @@ module _ (s : Shape) (heads starts table : List ℕ) (sets : SoundTree s starts 
   )
 
   -- and the place found has it
-  pub search-finds : (last n b : ℕ) → First (nodePart starts table v) 0 last n b → Finds starts table h v b n s heads
+  pub search-finds : (last n b : ℕ) → First (nodePart starts table v) putsWord last n b → Finds starts table h v b n s heads
   unfolding total block
   search-finds last n b f =
       record {

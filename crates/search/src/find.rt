@@ -1,5 +1,6 @@
 // From a put's number in the root order down to its leaf, where its value is.
 use crate::places::first_place;
+use tree::PUTS_WORD;
 use tree::access::block_at;
 ghost use mathlib.Core.Path.{_≡_};
 ghost use mathlib.Core.List.{List};
@@ -52,7 +53,7 @@ fn find_put(table: &[u32], starts: &[usize; 17], height: usize, v: u32, b: u32, 
         return block_at(table, starts, v, b).left;
     }
     let d = descend(table, starts, v, b, n);
-    let c = first_place(table, starts, d.node, 0, d.last, d.number, d.last);
+    let c = first_place(table, starts, d.node, PUTS_WORD, d.last, d.number, d.last);
     find_put(table, starts, height - 1, d.node, c, d.number)
 }
 
@@ -63,6 +64,6 @@ pub fn put_value(table: &[u32], starts: &[usize; 17], height: usize, last: u32, 
         Numbered (now (starts .entry)) (now (table .entry)) height last n s heads →
         ValueAt s (now (table .entry)) n r) ⌝ }
 {
-    let b = first_place(table, starts, 1, 0, last, n, last);
+    let b = first_place(table, starts, 1, PUTS_WORD, last, n, last);
     find_put(table, starts, height, 1, b, n)
 }

@@ -13,5 +13,5 @@ use Rattle.player.specs.Contracts.PlayCalls.{PlayResult}
 -- the outcome, the heads and the needed words of table' are those of all records played, the answers compared with a
 -- log; words past those needed are those of `table`
 pub record PlayedAll (p l : ℕ) (records log table : List ℕ) (o : Outcome) (heads table' : List ℕ) : Type 0 where
-  pub leaves : PlayResult (playAll (shapeFor p l) (stepRecords records)) log [] o (take (wordsNeeded (shapeFor p l)) table') heads []
+  pub result : PlayResult (playAll (shapeFor p l) (stepRecords records)) log [] o (take (wordsNeeded (shapeFor p l)) table') heads []
   pub rest : drop (wordsNeeded (shapeFor p l)) table' ≡ drop (wordsNeeded (shapeFor p l)) table

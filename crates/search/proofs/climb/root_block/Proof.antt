@@ -19,7 +19,7 @@ abbrev μ-loop : tie.MeasureT-loop
 μ-loop heads table starts leaf serial v₀ place₀ v place = v
 
 loop-holds : tie.Need-loop-holds Inv-loop μ-loop
-loop-holds c = record { some = c .before .before .pre; each = λ s k h. leaf-reached s k _ _ _ _ _ h }
+loop-holds c = record { given = c .before .before .pre; each = λ s k h. leaf-reached s k _ _ _ _ _ h }
 
 holder-requires : tie.Need-holder-requires Inv-loop μ-loop
 holder-requires c κs = node-ascends (of-one (c .before .loop .inv)) (c .loop-test .taken)

@@ -27,7 +27,7 @@ loop-holds : tie.Need-loop-holds Inv-loop μ-loop
 unfolding total
 loop-holds c =
     rw (c .block-at .ensures)
-    (record { some = c .before .before .before .pre; each = λ s k h. leaf-counted s k _ _ _ _ _ (h .0) _ })
+    (record { given = c .before .before .before .pre; each = λ s k h. leaf-counted s k _ _ _ _ _ (h .0) _ })
 
 holder-requires : tie.Need-holder-requires Inv-loop μ-loop
 holder-requires c κs = node-ascends (of-one (c .before .loop .inv) .at) (c .loop-test .taken)
