@@ -1,19 +1,28 @@
 -- Demand 3: what holds of the answer bytes and of the table words that a run leaves, whatever the order of its steps.
 --
 -- Document 01, "Terms of demand 3", and what says it:
---   a single claim about a whole list .. on the answers that Run writes and the blocks in the table that it leaves
--- Demand3, RunKeeps   before the first record the needed words are zero, each head is 1 and every process is idle
--- start (steps, Machine)   each record meets what the one before left; a refused record and those after it play no part
--- machineAfter, over the records taken (History)   an operation is opened by a begin record, has its kind and value;
--- its serial is its number among its begins        event, operation, begins, does, isOpened (History)   it finishes
--- with the record that does its Q                                                                        doesQ,
--- isFinished (History)   it finished before another began
--- finishedBefore (History)   its own steps; a finished operation's answer gives their number
--- ownSteps (History); queueRecord   it stands in root block b once for each time that opening b's puts or takes gives
--- its place                        standsIn (tree, Standing), opened (tree, Order)   nothing else stands there
--- QueuePromises.nothingElse   the last root block
--- lastRoot (tree, Order)   the plain queue, fed the operations in root order, each with the kind and value of its begin
--- record                fed, answers (PlainQueue); queueAfter, queueAnswer
+--   a single claim about a whole list .. on the answers that Run writes and the blocks in the table that it leaves:
+--       Demand3, RunKeeps
+--   before the first record the needed words are zero, each head is 1 and every process is idle:
+--       start (steps, Machine)
+--   each record meets what the one before left; a refused record and those after it play no part:
+--       machineAfter, over the records taken (History)
+--   an operation is opened by a begin record, has its kind and value; its serial is its number among its begins:
+--       event, operation, begins, does, isOpened (History)
+--   it finishes with the record that does its Q:
+--       doesQ, isFinished (History)
+--   it finished before another began:
+--       finishedBefore (History)
+--   its own steps; a finished operation's answer gives their number:
+--       ownSteps (History); queueRecord
+--   it stands in root block b once for each time that opening b's puts or takes gives its place:
+--       standsIn (tree, Standing), opened (tree, Order)
+--   nothing else stands there:
+--       QueuePromises.nothingElse
+--   the last root block:
+--       lastRoot (tree, Order)
+--   the plain queue, fed the operations in root order, each with the kind and value of its begin record:
+--       fed, answers (PlainQueue); queueAfter, queueAnswer
 use Prim.Native.Nat.{ℕ, _+_, _*_, _≤_, _<_}
 use mathlib.Core.Path.{_≡_}
 use mathlib.Core.Bool.{true}

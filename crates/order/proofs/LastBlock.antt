@@ -1,4 +1,4 @@
--- The last root block of a settled memory: it is at the root's head, if a block is there, and just before the head if
+-- The last root block of a sound tree: it is at the root's head, if a block is there, and just before the head if
 -- none is; its place is the root's, and it counts the list's records.
 use Prim.Native.Nat.{ℕ, _*_, _-_, _≤_, _<_}
 use native.Mathlib.Omega.{arith}

@@ -41,11 +41,11 @@ module _ (s : Shape) (k i j : ℕ) (starts heads table : List ℕ) (place : ℕ)
   abbrev m : Memory
   m = memoryOf table heads
 
-  abbrev sets : SoundTree s starts heads table
-  sets = h .stands .tree
+  abbrev tree : SoundTree s starts heads table
+  tree = h .stands .tree
 
   abbrev sound : Sound s m
-  sound = sets .sound
+  sound = tree .sound
 
   abbrev kp : k < processes s
   kp = h .stands .process
@@ -75,12 +75,12 @@ module _ (s : Shape) (k i j : ℕ) (starts heads table : List ℕ) (place : ℕ)
       let last : Written s m up (headOf m up - 1) = below-head n _ (omega (arith, n .head)) in
       record {
         known = small side;
-        fits = part-fits starts table up (headOf m up - 1) (written-place sets up _ up-node last);
-        start = rw (end-word sets side up 0 up-node, first-zeros n, zero-end side) (h .some);
+        fits = part-fits starts table up (headOf m up - 1) (written-place tree up _ up-node last);
+        start = rw (end-word tree side up 0 up-node, first-zeros n, zero-end side) (h .some);
         rises = λ a b l u.
-            rw (end-word sets side up a up-node, end-word sets side up b up-node)
+            rw (end-word tree side up a up-node, end-word tree side up b up-node)
             (ends-rise sound side up inner a b l (below-head n b (omega (arith, n .head))));
-        reached = rw (end-word sets side up (headOf m up - 1) up-node)
+        reached = rw (end-word tree side up (headOf m up - 1) up-node)
             (end-reaches s m sound k kp i (h .stands .rooted) j low place (h .some) (h .below) (h .past));
       }
     where
@@ -93,9 +93,9 @@ module _ (s : Shape) (k i j : ℕ) (starts heads table : List ℕ) (place : ℕ)
   ascends e =
       rw e
       (record {
-        here = written-place sets here place here-node (inr (sound .node here here-node .filled place (h .some) (h .below)));
-        above = node-part sets up up-node;
-        headed = node-headed sets up up-node;
+        here = written-place tree here place here-node (inr (sound .node here here-node .filled place (h .some) (h .below)));
+        above = node-part tree up up-node;
+        headed = node-headed tree up up-node;
         head = sound .node up up-node .head;
         ends = rw (side-word here) ends;
       })
@@ -106,10 +106,10 @@ module _ (s : Shape) (k i j : ℕ) (starts heads table : List ℕ) (place : ℕ)
       (suc b))
     where
       past : endTowards s m k j b < place
-      past = let e : suc b - 1 ≡ b = omega arith in rw (e, end-word sets side up b up-node) at (found .past)
+      past = let e : suc b - 1 ≡ b = omega arith in rw (e, end-word tree side up b up-node) at (found .past)
 
       upto : place ≤ endTowards s m k j (suc b)
-      upto = rw (end-word sets side up (suc b) up-node) at (found .upto)
+      upto = rw (end-word tree side up (suc b) up-node) at (found .upto)
 
       below : suc b < headOf m up
       below = omega (arith, found .most)
@@ -121,7 +121,7 @@ module _ (s : Shape) (k i j : ℕ) (starts heads table : List ℕ) (place : ℕ)
       up-written a l = below-head (sound .node up up-node) a (omega (arith, below))
 
       up-place : (a : ℕ) → a ≤ suc b → HasPlace starts table up a
-      up-place a l = written-place sets up a up-node (up-written a l)
+      up-place a l = written-place tree up a up-node (up-written a l)
 
       besides : Beside starts table here (suc b)
       unfolding parentOf leftOf rightOf
@@ -130,8 +130,8 @@ module _ (s : Shape) (k i j : ℕ) (starts heads table : List ℕ) (place : ℕ)
             some = omega arith;
             before = up-place (suc b - 1) (omega arith);
             here = up-place (suc b) (omega arith);
-            right = λ e. let f : here + 1 ≡ rightOf up = omega arith in rw f (end-place s starts heads table sets up inner onRight (suc b - 1) (up-written (suc b - 1) (omega arith)));
-            left = λ e. let f : here - 1 ≡ leftOf up = omega arith in rw f (end-place s starts heads table sets up inner onLeft (suc b) (up-written (suc b) (omega arith)));
+            right = λ e. let f : here + 1 ≡ rightOf up = omega arith in rw f (end-place s starts heads table tree up inner onRight (suc b - 1) (up-written (suc b - 1) (omega arith)));
+            left = λ e. let f : here - 1 ≡ leftOf up = omega arith in rw f (end-place s starts heads table tree up inner onLeft (suc b) (up-written (suc b) (omega arith)));
           }
 
       up-holds : HoldsAs s k i (suc j) starts heads table (suc b)
@@ -155,8 +155,8 @@ module _ (s : Shape) (k i j : ℕ) (starts heads table : List ℕ) (place : ℕ)
             (λ e.
             let f : here + 1 ≡ rightOf up = omega arith in
             let g : suc b - 1 ≡ b = omega arith in
-            rw (eq-eqb (here % 2) 0 e, f, g) (end-total s starts heads table sets up inner onRight b κ))
-            (λ e. let f : here - 1 ≡ leftOf up = omega arith in rw (ne-eqb (here % 2) 0 e, f) (end-total s starts heads table sets up inner onLeft (suc b) κ))
+            rw (eq-eqb (here % 2) 0 e, f, g) (end-total s starts heads table tree up inner onRight b κ))
+            (λ e. let f : here - 1 ≡ leftOf up = omega arith in rw (ne-eqb (here % 2) 0 e, f) (end-total s starts heads table tree up inner onLeft (suc b) κ))
 
         -- the operation's number in it is larger by what is beside it
         up-counts : CountsAs s k i (suc j) table κ (suc b) (number + besideOf starts table κ here (suc b))

@@ -16,21 +16,21 @@ use Rattle.tree.specs.Contracts.Access.{HasPlace, nodeBlock}
 use Rattle.tree.specs.Contracts.SoundTree.{SoundTree}
 use Rattle.tree.proofs.Places.{node-reads, written-place}
 
-module _ (s : Shape) (starts heads table : List ℕ) (sets : SoundTree s starts heads table) (v : ℕ) (inner : Inner s v) (d : Side) (a : ℕ) where
+module _ (s : Shape) (starts heads table : List ℕ) (tree : SoundTree s starts heads table) (v : ℕ) (inner : Inner s v) (d : Side) (a : ℕ) where
   abbrev m : Memory
   m = memoryOf table heads
 
   pub end-read : endOf d (nodeBlock starts table v a) ≡ endOf d (block s (memoryOf table heads) v a)
-  end-read = ap (endOf d) (node-reads sets v a (inner-node s v inner))
+  end-read = ap (endOf d) (node-reads tree v a (inner-node s v inner))
 
   -- an end is below the child's head
   pub end-written : Written s (memoryOf table heads) v a
       → Written s (memoryOf table heads) (childOf d v) (endOf d (block s (memoryOf table heads) v a))
-  end-written w = below-head (sets .sound .node (childOf d v) (child-node s d v inner)) _ (end-below (sets .sound) d v inner a w)
+  end-written w = below-head (tree .sound .node (childOf d v) (child-node s d v inner)) _ (end-below (tree .sound) d v inner a w)
 
   pub end-place : Written s (memoryOf table heads) v a → HasPlace starts table (childOf d v) (endOf d (nodeBlock starts table v a))
-  end-place w = rw end-read (written-place sets (childOf d v) _ (child-node s d v inner) (end-written w))
+  end-place w = rw end-read (written-place tree (childOf d v) _ (child-node s d v inner) (end-written w))
 
   pub end-total : (κ : Kind)
       → total κ (nodeBlock starts table (childOf d v) (endOf d (nodeBlock starts table v a))) ≡ endTotal s (memoryOf table heads) κ v a d
-  end-total κ = rw end-read (ap (total κ) (node-reads sets (childOf d v) _ (child-node s d v inner)))
+  end-total κ = rw end-read (ap (total κ) (node-reads tree (childOf d v) _ (child-node s d v inner)))

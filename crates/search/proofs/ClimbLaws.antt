@@ -68,14 +68,14 @@ module _ {s : Shape} {k i : ℕ} {starts heads table : List ℕ} {κ : Kind} {v 
   unfolding block
   number-small =
       let h = c .at .holds in
-      let sets = h .stands .tree in
+      let tree = h .stands .tree in
       let node = ancestor s k (c .at .level) in
       omega (
         arith,
         c .counts .high,
         total-most κ (block s (memoryOf table heads) node place),
-        sets .sound .node node (ancestor-node s k (h .stands .process) (c .at .level) (h .tall)) .within place,
-        places-most s (sets .tall) (sets .few) node,
+        tree .sound .node node (ancestor-node s k (h .stands .process) (c .at .level) (h .tall)) .within place,
+        places-most s (tree .tall) (tree .few) node,
       )
 
   module _ (top : v ≡ 1) where

@@ -60,11 +60,11 @@ module _ (s : Shape) (heads starts table : List ℕ) (h v a n : ℕ) (f : Finds 
   abbrev m : Memory
   m = memoryOf table heads
 
-  abbrev sets : SoundTree s starts heads table
-  sets = f .tree
+  abbrev tree : SoundTree s starts heads table
+  tree = f .tree
 
   abbrev sound : Sound s m
-  sound = sets .sound
+  sound = tree .sound
 
   inner : Inner s v
   inner = level-inner s h v (f .level)
@@ -111,10 +111,10 @@ module _ (s : Shape) (heads starts table : List ℕ) (h v a n : ℕ) (f : Finds 
       }
 
   abbrev read-total : (d : Side) (x : ℕ) → total Puts (nodeBlock starts table (childOf d v) (endOf d (nodeBlock starts table v x))) ≡ endTotal s m Puts v x d
-  read-total d x = end-total s starts heads table sets v inner d x Puts
+  read-total d x = end-total s starts heads table tree v inner d x Puts
 
   small-puts : (u i : ℕ) → Node s u → nodeBlock starts table u i .puts ≤ 4000
-  small-puts u i nu = omega (arith, node-small sets u i nu)
+  small-puts u i nu = omega (arith, node-small tree u i nu)
 
   pub descends : Descends starts table v (suc a) n
   unfolding leftOf rightOf total
@@ -122,11 +122,11 @@ module _ (s : Shape) (heads starts table : List ℕ) (h v a n : ℕ) (f : Finds 
       let e : suc a - 1 ≡ a = omega arith in
       record {
         some = omega arith;
-        low = omega (arith, node .last, processes-most s (sets .tall));
-        here = written-place sets v (suc a) node (inr has);
-        before = rw e (written-place sets v a node before);
-        left = end-place s starts heads table sets v inner onLeft (suc a) (inr has);
-        right = rw e (end-place s starts heads table sets v inner onRight a before);
+        low = omega (arith, node .last, processes-most s (tree .tall));
+        here = written-place tree v (suc a) node (inr has);
+        before = rw e (written-place tree v a node before);
+        left = end-place s starts heads table tree v inner onLeft (suc a) (inr has);
+        right = rw e (end-place s starts heads table tree v inner onRight a before);
         small = omega (
           arith,
           small-puts (childOf onLeft v) (nodeBlock starts table v (suc a) .left) (child-node s onLeft v inner),
@@ -143,7 +143,7 @@ module _ (s : Shape) (heads starts table : List ℕ) (h v a n : ℕ) (f : Finds 
   unfolding descentOf leftOf rightOf total
   descent-is =
       let e : suc a - 1 ≡ a = omega arith in
-      rw (e, read-total onLeft (suc a), read-total onRight a, node-reads sets v (suc a) node)
+      rw (e, read-total onLeft (suc a), read-total onRight a, node-reads tree v (suc a) node)
 
   pub lower : Lower s m h v a n (descentOf starts table v (suc a) n .node) (descentOf starts table v (suc a) n .last) (descentOf starts table v (suc a) n .number)
   lower =
@@ -161,13 +161,13 @@ module _ (s : Shape) (heads starts table : List ℕ) (h v a n : ℕ) (f : Finds 
 
     pub lower-ready : HasPart starts table u × Reaches (nodePart starts table u) putsWord last number
     lower-ready =
-        search-ready s heads starts table sets h u level last number
-        (rw (l .child, l .end) (end-written s starts heads table sets v inner d (suc a) (inr has)))
+        search-ready s heads starts table tree h u level last number
+        (rw (l .child, l .end) (end-written s starts heads table tree v inner d (suc a) (inr has)))
         (omega (arith, l .on .past))
         (rw (l .child, l .end) (l .on .upto))
 
     pub lower-finds : (c : ℕ) → First (nodePart starts table u) putsWord last number c → Finds starts table h u c number s heads
-    lower-finds c = search-finds s heads starts table sets h u level last number c
+    lower-finds c = search-finds s heads starts table tree h u level last number c
 
     -- the subblock found has the put
     module _ (c : ℕ) (g : First (nodePart starts table u) putsWord last number (suc c)) where

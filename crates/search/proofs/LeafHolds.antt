@@ -27,8 +27,8 @@ module _ (s : Shape) (k : ℕ) (starts heads table : List ℕ) (leaf i : ℕ) (h
   abbrev m : Memory
   m = memoryOf table heads
 
-  abbrev sets : SoundTree s starts heads table
-  sets = h .tree
+  abbrev tree : SoundTree s starts heads table
+  tree = h .tree
 
   abbrev kp : k < processes s
   kp = h .process
@@ -38,34 +38,34 @@ module _ (s : Shape) (k : ℕ) (starts heads table : List ℕ) (leaf i : ℕ) (h
 
   below : i < headOf m (leafOf s k)
   below =
-      let n = root-sound s m (sets .sound) in
-      omega (arith, h .rooted, reached-low s m (sets .sound) (sets .inner) k kp (headOf m root - 1) (below-head n _ (omega (arith, n .head))))
+      let n = root-sound s m (tree .sound) in
+      omega (arith, h .rooted, reached-low s m (tree .sound) (tree .inner) k kp (headOf m root - 1) (below-head n _ (omega (arith, n .head))))
 
   present : Present s m (leafOf s k) i
-  present = sets .sound .node (leafOf s k) node .filled i (h .first) below
+  present = tree .sound .node (leafOf s k) node .filled i (h .first) below
 
   pub leaf-place : HasPlace starts table leaf i
-  leaf-place = rw (h .own) (written-place sets (leafOf s k) i node (inr present))
+  leaf-place = rw (h .own) (written-place tree (leafOf s k) i node (inr present))
 
   follows : Follows (block s m (leafOf s k) (i - 1)) (block s m (leafOf s k) i)
   follows =
       let e : suc (i - 1) ≡ i = omega (arith, h .first) in
-      rw e at (sets .sound .node (leafOf s k) node .follows (i - 1) (rw e present))
+      rw e at (tree .sound .node (leafOf s k) node .follows (i - 1) (rw e present))
 
   adds : AddsOne (block s m (leafOf s k) (i - 1)) (block s m (leafOf s k) i)
   adds =
       let e : suc (i - 1) ≡ i = omega (arith, h .first) in
-      rw e at (sets .sound .adds k kp (i - 1) (rw e present))
+      rw e at (tree .sound .adds k kp (i - 1) (rw e present))
 
   -- its block there holds it
   pub leaf-reached : Reached s k i starts heads table leaf i
   leaf-reached =
-      let c = climb-leaf s m (sets .sound) k kp i (h .first) in
+      let c = climb-leaf s m (tree .sound) k kp i (h .first) in
       record {
         level = 0;
         node = h .own;
         holds = record {
-          stands = record { tree = sets; process = kp; own = refl; first = h .first; rooted = h .rooted };
+          stands = record { tree = tree; process = kp; own = refl; first = h .first; rooted = h .rooted };
           tall = omega arith;
           some = h .first;
           below = below;
@@ -88,5 +88,5 @@ module _ (s : Shape) (k : ℕ) (starts heads table : List ℕ) (leaf i : ℕ) (h
   pub leaf-counted : (κ : Kind) → Counted s k i starts heads table κ leaf i (total κ (nodeBlock starts table leaf i))
   unfolding leaf-reached
   leaf-counted κ =
-      let e : nodeBlock starts table leaf i ≡ block s m (leafOf s k) i = rw (h .own) (node-reads sets (leafOf s k) i node) in
+      let e : nodeBlock starts table leaf i ≡ block s m (leafOf s k) i = rw (h .own) (node-reads tree (leafOf s k) i node) in
       record { at = leaf-reached; counts = rw e (leaf-counts κ) }

@@ -25,7 +25,7 @@ pub level-node : (s : Shape) (h v : ℕ) → Level s h v → Node s v
 level-node s zero v l = let k = level-leaf s v l in rw (k .2) (leaf-node s (k .0) (k .1))
 level-node s (suc h) v l = inner-node s v (level-inner s h v l)
 
-module _ (s : Shape) (heads starts table : List ℕ) (sets : SoundTree s starts heads table) (h v : ℕ) (level : Level s h v) where
+module _ (s : Shape) (heads starts table : List ℕ) (tree : SoundTree s starts heads table) (h v : ℕ) (level : Level s h v) where
   abbrev m : Memory
   m = memoryOf table heads
 
@@ -38,21 +38,21 @@ module _ (s : Shape) (heads starts table : List ℕ) (sets : SoundTree s starts 
     where
       on : Dec (b ≡ last) → Written s m v b
       on (yes e) = rw e w
-      on (no e) = below-head (sets .sound .node v node) b (omega (arith, written-low (sets .sound .node v node) last w))
+      on (no e) = below-head (tree .sound .node v node) b (omega (arith, written-low (tree .sound .node v node) last w))
 
   -- a put that is in the blocks up to a written one is found there
   pub search-ready : (last n : ℕ) → Written s (memoryOf table heads) v last → 1 ≤ n
       → n ≤ total Puts (block s (memoryOf table heads) v last) → HasPart starts table v × Reaches (nodePart starts table v) putsWord last n
   search-ready last n w some upto = (
-    node-part sets v node,
+    node-part tree v node,
     record {
       known = omega arith;
-      fits = part-fits starts table v last (written-place sets v last node w);
-      start = omega (arith, puts-word sets v 0 node, ap (total Puts) (first-zeros (sets .sound .node v node)) ∙ zero-total Puts);
+      fits = part-fits starts table v last (written-place tree v last node w);
+      start = omega (arith, puts-word tree v 0 node, ap (total Puts) (first-zeros (tree .sound .node v node)) ∙ zero-total Puts);
       rises = λ a b l u.
-          rw (puts-word sets v a node, puts-word sets v b node)
-          (totals-rise (sets .sound .node v node) Puts a b l (earlier b last u w));
-      reached = rw (puts-word sets v last node) upto;
+          rw (puts-word tree v a node, puts-word tree v b node)
+          (totals-rise (tree .sound .node v node) Puts a b l (earlier b last u w));
+      reached = rw (puts-word tree v last node) upto;
     },
   )
 
@@ -61,8 +61,8 @@ module _ (s : Shape) (heads starts table : List ℕ) (sets : SoundTree s starts 
   unfolding total block
   search-finds last n b f =
       record {
-        tree = sets;
+        tree = tree;
         level = level;
-        past = rw (puts-word sets v (b - 1) node) at (f .past);
-        upto = rw (puts-word sets v b node) at (f .upto);
+        past = rw (puts-word tree v (b - 1) node) at (f .past);
+        upto = rw (puts-word tree v b node) at (f .upto);
       }

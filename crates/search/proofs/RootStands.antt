@@ -26,22 +26,22 @@ module _ (s : Shape) (k i : ℕ) (starts heads table : List ℕ) (place : ℕ) (
   abbrev m : Memory
   m = memoryOf table heads
 
-  abbrev sets : SoundTree s starts heads table
-  sets = h .stands .tree
+  abbrev tree : SoundTree s starts heads table
+  tree = h .stands .tree
 
   top : ancestor s k (s .height) ≡ root
   top = ancestor-top s k (h .stands .process)
 
   present : Present s m root place
-  present = root-sound s m (sets .sound) .filled place (h .some) (rw top at (h .below))
+  present = root-sound s m (tree .sound) .filled place (h .some) (rw top at (h .below))
 
   last : place ≤ lastRoot s table
-  last = last-most s m (sets .sound) place present
+  last = last-most s m (tree .sound) place present
 
   pub root-place : HasPlace starts table root (place - 1)
   root-place =
-      written-place sets root (place - 1) (node-root s)
-      (below-head (root-sound s m (sets .sound)) (place - 1) (omega (arith, rw top at (h .below))))
+      written-place tree root (place - 1) (node-root s)
+      (below-head (root-sound s m (tree .sound)) (place - 1) (omega (arith, rw top at (h .below))))
 
   pub root-block : RootBlockIs s table k i place
   root-block =
@@ -49,14 +49,14 @@ module _ (s : Shape) (k i : ℕ) (starts heads table : List ℕ) (place : ℕ) (
       record {
         first = h .some;
         last = last;
-        own = sym (rw e at (climb-root s m (sets .sound) k (h .stands .process) (place - 1) i (rw e last) (h .past) (rw e (h .upto))));
+        own = sym (rw e at (climb-root s m (tree .sound) k (h .stands .process) (place - 1) i (rw e last) (h .past) (rw e (h .upto))));
       }
 
   -- with the number there
   module _ (κ : Kind) (number : ℕ) (counts : CountsAs s k i (s .height) table κ place number) where
     root-reads : total κ (nodeBlock starts table root (place - 1)) ≡ total κ (blockAt s table root (place - 1))
     unfolding block
-    root-reads = ap (total κ) (node-reads sets root (place - 1) (node-root s))
+    root-reads = ap (total κ) (node-reads tree root (place - 1) (node-root s))
 
     pub root-low : total κ (nodeBlock starts table root (place - 1)) ≤ number
     root-low = omega (arith, root-reads, rw top at (counts .low))
