@@ -24,7 +24,7 @@ fn commands_that_call_the_library() {
         assert_eq!((said.status, said.out.as_str()), (2, ""), "{words:?}");
         let line =
             "otq: the proved library is not built: run `rt staticlib queue` in the repository \
-                    (about 5 minutes, it proves it), then build this program again\n";
+                    (about 3 minutes, it proves it), then build this program again\n";
         assert_eq!(said.err, line, "{words:?}");
     }
 }

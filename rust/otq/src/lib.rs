@@ -44,7 +44,7 @@ pub const BUILT: bool = cfg!(archive);
 
 /// What to do where the archive was not there, and how long it takes.
 pub const NOT_BUILT: &str = "the proved library is not built: run `rt staticlib queue` in the \
-    repository (about 5 minutes, it proves it), then build this program again";
+    repository (about 3 minutes, it proves it), then build this program again";
 
 /// What a run leaves besides its buffers.
 #[derive(Clone, Copy, PartialEq, Eq, Debug)]

@@ -1,4 +1,5 @@
 -- `find::descend` meets its contract. Assumes nothing.
+use Prim.Native.Nat.{_+_}
 use native.Mathlib.Omega.{arith}
 use borrow.Author.Tests.{le-leb, lt-leb}
 use Rattle.search.specs.Contracts.Descending.{descentOf}
@@ -46,12 +47,15 @@ sub-t15 c =
 returns : tie.Need-returns
 unfolding descentOf
 returns c =
+    let n = c .before .before .before .before .before .before .args .n in
+    let left = c .before .before .block-at3 .result .puts in
+    let right = c .before .block-at4 .result .puts in
     rw (
       ← c .before .before .before .before .block-at .ensures,
       ← c .before .before .before .block-at2 .ensures,
       ← c .before .before .block-at3 .ensures,
       ← c .before .block-at4 .ensures,
-      le-leb _ _ (c .if1 .taken),
+      le-leb n (left + right) (omega (arith, c .if1 .taken)),
     )
 
 mul-t12 : tie.Need-mul-t12
@@ -66,12 +70,15 @@ sub-t16 c = search needs
 returns-2 : tie.Need-returns-2
 unfolding descentOf
 returns-2 c =
+    let n = c .before .before .before .before .before .before .args .n in
+    let left = c .before .before .block-at3 .result .puts in
+    let right = c .before .block-at4 .result .puts in
     rw (
       ← c .before .before .before .before .block-at .ensures,
       ← c .before .before .before .block-at2 .ensures,
       ← c .before .before .block-at3 .ensures,
       ← c .before .block-at4 .ensures,
-      lt-leb _ _ (c .if1 .left),
+      lt-leb n (left + right) (omega (arith, c .if1 .left)),
     )
 
 pub descend-spec : {M : Type 1} → statement M
