@@ -1,11 +1,10 @@
 -- The theorem: history only grows. For general H of every legal list and of every two runs; and of what Run and list
 -- the order leave, for every p, L, list of bytes, continuation, table and buffer.
 use Prim.Native.Nat.{ℕ, _*_, _≤_}
-use mathlib.Core.Path.{_≡_, ap, _∙_, subst}
+use mathlib.Core.Path.{_≡_}
 use mathlib.Core.Bool.{true, false}
 use mathlib.Core.List.{List, _++_}
-use lib.ListN.{length, take}
-use lib.Seq.{take-length}
+use lib.ListN.{length}
 use Rattle.base.specs.Beginning.{IsBeginning}
 use Rattle.base.proofs.Beginnings.{beginning-append, beginning-gathered}
 use Rattle.record.specs.declared.StepRecord.{StepRecord}
@@ -25,7 +24,7 @@ use Rattle.calls.specs.History.{machineAfter}
 use Rattle.calls.specs.Continuation.{RunGrows, ListGrows, HistoryGrows}
 use Rattle.calls.proofs.Legal.{Legal}
 use Rattle.calls.proofs.Prefixes.{legal-prefix}
-use Rattle.calls.proofs.Played.{played-machine, played-legal, played-all}
+use Rattle.calls.proofs.Played.{whole-machine, whole-legal}
 use Rattle.calls.proofs.Runs.{runs, later-run}
 use Rattle.calls.proofs.CallAccepted.{whole-records, accepted-whole}
 use Rattle.calls.proofs.Theorem.{tall-for}
@@ -43,22 +42,11 @@ module _ (s : Shape) (tall : 1 ≤ s .height) where
       (runs s tall l .invariant .sound) (later-run s tall rs ts l))
       (beginning-append (rootOrder s (machineAfter s rs .memory .table)) _)
 
-  -- a run without refusal leaves what its whole list does, which is legal
-  module _ (room : ℕ) (rs : List StepRecord) (ok : accepted (play s room rs .refusal) ≡ true) where
-    took-all : take (play s room rs .taken) rs ≡ rs
-    took-all = ap (λ (i : ℕ). take i rs) (played-all s room rs ok) ∙ take-length rs
-
-    pub whole-machine : play s room rs .machine ≡ machineAfter s rs
-    whole-machine = played-machine s room rs ∙ ap (machineAfter s) took-all
-
-    pub whole-legal : Legal s rs
-    whole-legal = subst (Legal s) took-all (played-legal s room rs)
-
   -- over runs without refusal, each with a room of its own
   pub played-grows : (room room' : ℕ) (rs ts : List StepRecord) → accepted (play s room rs .refusal) ≡ true → accepted (play s room' (rs ++ ts) .refusal) ≡ true
       → Grown (play s room rs .machine) (play s room' (rs ++ ts) .machine)
   played-grows room room' rs ts ok ok' =
-      rw (whole-machine room rs ok, whole-machine room' (rs ++ ts) ok') (legal-grows rs ts (whole-legal room' (rs ++ ts) ok'))
+      rw (whole-machine s room rs ok, whole-machine s room' (rs ++ ts) ok') (legal-grows rs ts (whole-legal s room' (rs ++ ts) ok'))
 
 -- ---- a list of bytes and its continuation
 module _ (p l : ℕ) (records more : List ℕ) where

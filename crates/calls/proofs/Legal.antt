@@ -3,11 +3,11 @@
 use Prim.Native.Nat.{ℕ, _*_, _≤_, _<_}
 use native.Mathlib.Omega.{arith}
 use mathlib.Core.Path.{_≡_, refl}
-use mathlib.Core.Bool.{Bool, true, false, not, _&&_, _||_, true≢false}
+use mathlib.Core.Bool.{Bool, true, false, not, _&&_, _||_, true≢false, false≢true}
 use mathlib.Core.List.{List, [], _∷_, _++_}
 use lib.ListN.{length}
 use lib.Dec.{ltb, leb, eqb}
-use borrow.Author.Tests.{leb-false, ltb-false, not-true, not-false}
+use borrow.Author.Tests.{leb-false, ltb-false, not-true}
 use Rattle.base.specs.Choice.{if_then_else_}
 use Rattle.base.proofs.Cases.{cases, or-false}
 use Rattle.record.specs.declared.StepRecord.{StepRecord}
@@ -20,7 +20,7 @@ use Rattle.steps.specs.declared.Status.{Status}
 use Rattle.steps.specs.declared.Status.the-variants.{Idle, Busy}
 use Rattle.steps.specs.Machine.{Machine, processOf, isIdle, isQ, atQ}
 use Rattle.calls.specs.declared.Refusal.{Refusal}
-use Rattle.calls.specs.declared.Refusal.the-variants.{IllFormed, BeginWhileBusy, StepWhileIdle, BegunAll, AnswersFull}
+use Rattle.calls.specs.declared.Refusal.the-variants.{IllFormed, StepWhileIdle, AnswersFull}
 use Rattle.calls.specs.Answer.{answersFrom, answersOf}
 use Rattle.calls.specs.Refusals.{refusalNumber, accepted, beginRefusal, stepRefusal, recordRefusal}
 use Rattle.calls.specs.Run.{recordAnswers}
@@ -53,7 +53,7 @@ pub not-step : (r : StepRecord) → isStep r ≡ false → isBegin r ≡ true
 unfolding isBegin
 not-step r e = rw e
 
-no-step : (r : StepRecord) → isBegin r ≡ true → isStep r ≡ false
+pub no-step : (r : StepRecord) → isBegin r ≡ true → isStep r ≡ false
 unfolding isBegin
 no-step r e = not-true (isStep r) e
 
@@ -69,10 +69,13 @@ passed false n rest z h = (refl, h)
 -- the tests of a begin, of a step and of a record, all failed
 begin-passed : (l : ℕ) (q : Process) → accepted (beginRefusal l q) ≡ true → (isIdle (q .status) ≡ true) × (q .begun < l)
 unfolding beginRefusal accepted refusalNumber
-begin-passed l q h =
-    let a = passed (not (isIdle (q .status))) BeginWhileBusy _ refl h in
-    let b = passed (leb l (q .begun)) BegunAll _ refl (a .1) in
-    (not-false (isIdle (q .status)) (a .0), leb-false l (q .begun) (b .0))
+begin-passed l q h = on (isIdle (q .status)) refl (leb l (q .begun)) refl
+  where
+    on : (i : Bool) → isIdle (q .status) ≡ i → (b : Bool) → leb l (q .begun) ≡ b → (isIdle (q .status) ≡ true) × (q .begun < l)
+    on true z false w = (z, leb-false l (q .begun) w)
+    on true z true w = absurd (false≢true (simp (z, w) at h))
+    on false z true w = absurd (false≢true (simp (z, w) at h))
+    on false z false w = absurd (false≢true (simp (z, w) at h))
 
 step-passed : (room : ℕ) (q : Process) → accepted (stepRefusal room q) ≡ true → (isIdle (q .status) ≡ false) × (atQ (q .status) && ltb room answerSize ≡ false)
 unfolding stepRefusal accepted refusalNumber
@@ -86,7 +89,7 @@ record-passed : (s : Shape) (room : ℕ) (q : Process) (r : StepRecord) → acce
 unfolding recordRefusal accepted refusalNumber
 record-passed s room q r h = passed (illFormed (processes s) r) IllFormed _ refl h
 
-formed-low : (p : ℕ) (r : StepRecord) → illFormed p r ≡ false → r .process < p
+pub formed-low : (p : ℕ) (r : StepRecord) → illFormed p r ≡ false → r .process < p
 unfolding illFormed
 formed-low p r h =
     leb-false p (r .process)

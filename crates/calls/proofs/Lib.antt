@@ -1,5 +1,6 @@
 pub mod Legal
 pub mod Histories
+pub mod RunsBy
 pub mod Played
 pub mod Prefixes
 pub mod Feeding
@@ -18,6 +19,9 @@ pub mod Holds
 pub mod Theorem
 pub mod CallAccepted
 pub mod Unrefused
+pub mod FormerOrder
+pub mod FormerRuns
+pub mod EightBeforeSix
 pub mod HistoryGrows
 pub mod StableReads
 pub mod Linearized

@@ -4,9 +4,9 @@ use Prim.Native.Nat.{ℕ, _+_, _*_, _-_, _≤_}
 use native.Mathlib.Omega.{arith}
 use mathlib.Core.Path.{_≡_, refl, ap, sym, _∙_, subst}
 use mathlib.Core.Bool.{true, false, not}
-use mathlib.Core.List.{List, [], _∷_, _++_, foldl, foldl-append, append-nil, append-assoc}
+use mathlib.Core.List.{List, [], _∷_, _++_, foldl, append-nil, append-assoc}
 use lib.ListN.{length, take, length-append}
-use lib.Seq.{append-snoc, take-append-seam}
+use lib.Seq.{append-snoc, take-append-seam, take-length}
 use borrow.Author.Tests.{not-true, not-false}
 use Rattle.base.proofs.Cases.{cases, contradiction}
 use Rattle.record.specs.declared.StepRecord.{StepRecord}
@@ -19,6 +19,7 @@ use Rattle.calls.specs.Run.{takeRecord, Played, atStart, taking, refusin
 use Rattle.calls.specs.History.{machineAfter}
 use Rattle.calls.proofs.Legal.{Accepted, Legal, none, more, answersAfter, answersAlong, accept, answers-room}
 use Rattle.calls.proofs.Histories.{machine-snoc, answers-snoc}
+use Rattle.calls.proofs.RunsBy.{playRecordBy, playBy, by-append, by-over}
 
 -- a run over records rs, so far: it took the first of them, and all while nothing was refused
 record Tracks (s : Shape) (room : ℕ) (rs : List StepRecord) (g : Played) : Type 0 where
@@ -125,12 +126,22 @@ module _ (s : Shape) (room : ℕ) where
       let z : length (t .rest) ≡ 0 = ap length (t .all e) in
       omega (arith, t .count, simp length-append at (ap length (t .cut)))
 
+  -- so it leaves what its whole list does, which is legal
+  module _ (rs : List StepRecord) (ok : accepted (play s room rs .refusal) ≡ true) where
+    took-all : take (play s room rs .taken) rs ≡ rs
+    took-all = ap (λ (i : ℕ). take i rs) (played-all rs ok) ∙ take-length rs
+
+    pub whole-machine : play s room rs .machine ≡ machineAfter s rs
+    whole-machine = played-machine rs ∙ ap (machineAfter s) took-all
+
+    pub whole-legal : Legal s rs
+    whole-legal = subst (Legal s) took-all (played-legal rs)
+
   -- a run that is over stays as it is
   pub over-stays : (g : Played) → accepted (g .refusal) ≡ false → (rs : List StepRecord) → foldl (playRecord s room) g rs ≡ g
-  unfolding playRecord
-  over-stays g e [] = refl
-  over-stays g e (r ∷ rs) = rw e (over-stays g e rs)
+  unfolding playRecord playRecordBy
+  over-stays = by-over recordRefusal s room
 
   pub play-append : (rs ts : List StepRecord) → play s room (rs ++ ts) ≡ foldl (playRecord s room) (play s room rs) ts
-  unfolding play
-  play-append rs ts = foldl-append (playRecord s room) (atStart s) rs ts
+  unfolding play playBy playRecord playRecordBy
+  play-append = by-append recordRefusal s room

@@ -47,7 +47,7 @@ use Rattle.calls.proofs.RecordsStay.{opened-yes, answer-kept}
 use Rattle.calls.proofs.RootAnswers.{reply-is}
 use Rattle.calls.proofs.AfterStep.{StepTaken, mine, rooted}
 use Rattle.calls.proofs.Runs.{Run, runs, later-run}
-use Rattle.calls.proofs.HistoryGrows.{whole-legal, whole-machine}
+use Rattle.calls.proofs.Played.{whole-legal, whole-machine}
 
 equal-save-super : {x y : Block} → Same x y → EqualSaveSuper x y
 equal-save-super e = record { puts = e .puts; takes = e .takes; left = e .left; right = e .right; size = e .size }
@@ -185,4 +185,4 @@ pub stable-reads : (s : Shape) → 1 ≤ s .height → (room room' : ℕ) (rs ts
     → accepted (play s room' (rs ++ ts) .refusal) ≡ true
     → (k : ℕ) → k < processes s → StableReads s (play s room rs .machine) (play s room' (rs ++ ts) .machine) k
 stable-reads s tall room room' rs ts ok ok' k kp =
-    rw (whole-machine s tall room rs ok, whole-machine s tall room' (rs ++ ts) ok') (legal-stable s tall rs ts (whole-legal s tall room' (rs ++ ts) ok') k kp)
+    rw (whole-machine s room rs ok, whole-machine s room' (rs ++ ts) ok') (legal-stable s tall rs ts (whole-legal s room' (rs ++ ts) ok') k kp)

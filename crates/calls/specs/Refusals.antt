@@ -58,11 +58,11 @@ bufferRefusal s words bytes =
 unfoldable pub callRefusal : ℕ → ℕ → ℕ → ℕ → Refusal
 callRefusal p l words bytes = firstRefusal (settingsRefusal p l) (bufferRefusal (shapeFor p l) words bytes)
 
--- a begin by process q, where a process has at most l operations: 6, 8
+-- a begin by process q, where a process has at most l operations: 8, 6
 unfoldable pub beginRefusal : ℕ → Process → Refusal
 beginRefusal l q =
-    if not (isIdle (q .status)) then BeginWhileBusy
-    else if leb l (q .begun) then BegunAll
+    if leb l (q .begun) then BegunAll
+    else if not (isIdle (q .status)) then BeginWhileBusy
     else None
 
 -- a step of process q, where there are `room` answer bytes left: 7, 9

@@ -4,15 +4,17 @@ use steps::Process;
 ghost use mathlib.Core.Path.{_≡_};
 ghost use Rattle.calls.specs.Refusals.{beginRefusal};
 
-// A begin by process q, where a process has at most l operations: 6, 8.
+// A begin by process q, where a process has at most l operations: 8, 6.
 pub fn begin_refusal(l: u32, q: Process) -> Refusal
     ensures { λ r. ⌜ r ≡ beginRefusal l q ⌝ }
 {
-    if !q.is_idle() {
-        return Refusal::BeginWhileBusy;
-    }
-    if l as u64 <= q.begun {
+    let idle = q.is_idle();
+    let begun_all = l as u64 <= q.begun;
+    if begun_all {
         return Refusal::BegunAll;
+    }
+    if !idle {
+        return Refusal::BeginWhileBusy;
     }
     Refusal::None
 }

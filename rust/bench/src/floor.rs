@@ -384,12 +384,12 @@ unsafe fn play(
                 break;
             }
             let q = &mut *processes.add(k as usize);
-            if q.next != IDLE {
-                refusal = 6;
-                break;
-            }
             if q.begun == l {
                 refusal = 8;
+                break;
+            }
+            if q.next != IDLE {
+                refusal = 6;
                 break;
             }
             q.begun += 1;

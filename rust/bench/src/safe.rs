@@ -378,6 +378,10 @@ pub fn run(p: u32, l: u32, records: &[u8], table: &mut [u32], answers: &mut [u8]
         let process = &mut processes[k];
         let leaf = p + k as u32;
         match (act, &mut process.activity) {
+            (Act::Begin(_), _) if process.begun == l => {
+                ran.refusal = 8;
+                break;
+            }
             (Act::Begin(_), Activity::Busy { .. }) => {
                 ran.refusal = 6;
                 break;
@@ -387,10 +391,6 @@ pub fn run(p: u32, l: u32, records: &[u8], table: &mut [u32], answers: &mut [u8]
                 break;
             }
             (Act::Begin(operation), Activity::Idle) => {
-                if process.begun == l {
-                    ran.refusal = 8;
-                    break;
-                }
                 process.begun += 1;
                 process.steps = 0;
                 process.activity = Activity::Busy {

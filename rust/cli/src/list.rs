@@ -115,6 +115,15 @@ impl List {
         }
     }
 
+    /// Whether a process is inside an operation after the first records, all of which are taken: it
+    /// is if it can step.
+    pub fn is_inside(&self, process: u8, records: usize) -> bool {
+        let step = [process, 0, 0, 0, 0, 0, 0, 0];
+        let then_step = [&self.bytes()[..Step::BYTES * records], &step].concat();
+        let refusal = otq::play(self.p(), self.l(), &then_step).run.refusal;
+        refusal != Some(Refusal::StepWhileIdle)
+    }
+
     /// Whether the library takes the whole list with this p and this L.
     pub fn is_taken_with(&self, p: u32, l: u32) -> bool {
         !self.exercise.longer && otq::play(p, l, self.bytes()).run.refusal.is_none()

@@ -24,14 +24,17 @@ pub fn advice(refusal: Refusal) -> &'static str {
         Refusal::BeginWhileBusy => {
             "A process ends an operation before it begins another. The list was made for fewer \
              processes, where an operation has fewer steps, or lacks steps; `otq trace --to N` shows \
-             the steps up to record N."
+             the steps up to record N. A process that has begun L is refused with 8 instead."
         }
         Refusal::StepWhileIdle => {
             "A process begins an operation before it steps. The list was made for more processes, \
              where an operation has more steps, or has steps too many; `otq trace` shows where the \
              operation ended."
         }
-        Refusal::BegunAll => "Give a larger L, with -L or `operations`, up to 500.",
+        Refusal::BegunAll => {
+            "Give a larger L, with -L or `operations`, up to 500. 8 is tested before 6: if the process \
+             is also still inside its last operation, the list then stops with 6 at the same record."
+        }
         Refusal::AnswersFull => "Take the line `answers` out of the heading, or lend more bytes.",
         Refusal::OutputShort => "Lend an output of 8 bytes for each operation.",
         Refusal::LogTorn => {
@@ -179,10 +182,15 @@ fn standing(list: &List, refusal: Refusal, record: usize) -> Option<String> {
         }),
         Refusal::BegunAll => {
             let begun = count(list.l() as usize, "operation");
-            Some(format!(
-                "process {process} has begun {begun}, and L is {}",
-                list.l()
-            ))
+            let all = format!("process {process} has begun {begun}, and L is {}", list.l());
+            let inside = last(true).filter(|_| list.is_inside(process, record));
+            Some(match inside {
+                None => all,
+                Some(begin) => {
+                    let number = begin + 1;
+                    format!("{all}; it is still inside the one that record {number} began")
+                }
+            })
         }
         _ => None,
     }

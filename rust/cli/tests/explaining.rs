@@ -15,6 +15,17 @@ fn every_refusal() {
 }
 
 #[test]
+fn the_order_of_the_tests() {
+    let all = written(&["explain"]);
+    for order in ["Of a begin: 5, 8, 6.", "Of a step: 5, 7, 9."] {
+        assert!(all.contains(order), "{all}");
+    }
+    let instead = "A process that has begun L is refused with 8 instead.\n";
+    assert!(written(&["explain", "6"]).ends_with(instead));
+    assert!(written(&["explain", "8"]).contains("8 is tested before 6"));
+}
+
+#[test]
 fn records() {
     let records = written(&["explain", "records"]);
     for line in [

@@ -52,7 +52,7 @@ fn a_torn_list() {
 }
 
 /// Lists that are refused: a name, the text, what is printed, and how what is told begins.
-const REFUSED: [[&str; 4]; 9] = [
+const REFUSED: [[&str; 4]; 10] = [
     [
         "processes",
         "processes 3\nput 1 by 0\nstep 0 x15\n",
@@ -115,6 +115,15 @@ const REFUSED: [[&str; 4]; 9] = [
          record 17, byte 128: put 2 by 0 (00 01 00 00 02 00 00 00), FILE:5\n  \
          process 0 has begun 1 operation, and L is 1\n  \
          likely cause: with `operations 2` the whole list is taken\n",
+    ],
+    [
+        "begun-all-and-busy",
+        "processes 2\noperations 1\nput 1 by 0\nstep 0 x14\nput 2 by 0\n",
+        "end 8 15\n",
+        "otq: refused with 8: a process begins more operations than it may\n  \
+         record 16, byte 120: put 2 by 0 (00 01 00 00 02 00 00 00), FILE:5\n  \
+         process 0 has begun 1 operation, and L is 1; it is still inside the one that record 1 began\n  \
+         `otq explain 8`",
     ],
     [
         "answers-full",

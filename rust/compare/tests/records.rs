@@ -1,6 +1,8 @@
 //! Every record that can be wrong, at every place of a list.
 
-use crate::support::{compare_amply, mixed_list};
+use crate::support::{compare_amply, mixed_list, needed};
+use otq::{Refusal, Verdict};
+use reference::lists::List;
 
 /// Ill-formed records of each sort, and a step, a begin of a put and a begin of a take by each process:
 /// at most places these are of an idle process, of a busy one, or past L.
@@ -50,6 +52,46 @@ fn four_processes() {
 #[test]
 fn eight_processes() {
     compare_each(8, 1);
+}
+
+/// A begin inside the last of L operations is refused with 8 by each call; inside one before it, with
+/// 6.
+#[test]
+fn begins_inside_the_last_operation() {
+    for (l, begun, number) in [
+        (1, 1, 8),
+        (2, 1, 6),
+        (2, 2, 8),
+        (500, 499, 6),
+        (500, 500, 8),
+    ] {
+        let ended = List::new().whole_puts(0, begun - 1, 15);
+        for steps in [0, 14] {
+            let inside = ended.clone().put(0, 7).steps(0, steps);
+            for list in [inside.clone().put(0, 8), inside.take(0)] {
+                let list = list.bytes();
+                compare_amply(2, l, &list);
+                assert_eq!(
+                    refused_by_each(2, l, &list),
+                    [number; 3],
+                    "L {l}, begun {begun}"
+                );
+            }
+        }
+    }
+}
+
+/// The numbers of the library's calls: Run, list the order and check a log.
+fn refused_by_each(p: u32, l: u32, records: &[u8]) -> [u32; 3] {
+    let number = |refusal: Option<Refusal>| refusal.map_or(0, Refusal::number);
+    let mut table = vec![0; needed(p, l)];
+    let checked = otq::check_log(p, l, records, &[], &mut table);
+    let Verdict::Refused(by_check) = checked else {
+        panic!("not refused: {checked:?}");
+    };
+    let listed = otq::list_order(p, l, records, &mut table, &mut []);
+    let ran = otq::play(p, l, records).run;
+    [ran.refusal, listed.err(), Some(by_check)].map(number)
 }
 
 /// Where all have begun L and are idle, each begin is past L.

@@ -2,7 +2,7 @@
 
 use crate::call::{kept_bytes, kept_words, Call};
 use crate::row::Row;
-use crate::{fixed_bytes, fixed_logs, fixed_records};
+use crate::{fixed_bytes, fixed_logs, fixed_records, late_begins};
 use reference::lists::List;
 use reference::tree::Shape;
 
@@ -16,6 +16,7 @@ pub fn rows() -> Vec<Row> {
         short_tables(),
         torn_records(),
         fixed_records::rows(),
+        late_begins::rows(),
         fixed_logs::rows(),
         fixed_bytes::rows(),
     ]

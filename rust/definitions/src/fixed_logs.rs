@@ -88,14 +88,16 @@ fn lengths() -> Vec<Row> {
 /// A refusal whatever the log says: that of the answers before it, none, and a longer one.
 fn refused() -> Vec<Row> {
     let whole = Call::ample(2, 1, put_and_take().bytes()).log;
+    let busy = one_put().put(1, 2).put(1, 3);
     let lists = [
-        ("a step while idle", one_put().steps(1, 1)),
-        ("a begin while busy", one_put().put(1, 2).put(1, 3)),
-        ("a begin too many", one_put().put(0, 2)),
+        ("a step while idle", 1, one_put().steps(1, 1)),
+        ("a begin while busy", 2, busy.clone()),
+        ("a begin inside the last operation", 1, busy),
+        ("a begin too many", 1, one_put().put(0, 2)),
     ];
     let mut rows = Vec::new();
-    for (about, list) in lists {
-        let call = Call::ample(2, 1, list.bytes());
+    for (about, l, list) in lists {
+        let call = Call::ample(2, l, list.bytes());
         for log in [&call.log[..], &[], &whole] {
             let other = call.with(|call| call.log = log.to_vec());
             rows.push(other.row(format!("{about}, a log of {}", log.len() / 16)));

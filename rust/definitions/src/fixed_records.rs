@@ -12,6 +12,7 @@ pub fn rows() -> Vec<Row> {
         begins_while_busy(),
         steps_while_idle(),
         begun_all(),
+        begun_all_first(),
         no_room(),
         short_output(),
         output_last(),
@@ -70,14 +71,15 @@ fn ill_formed_first() -> Vec<Row> {
     let no_room = Call::ample(2, 1, then(List::new().put(0, 1).steps(0, 14), bad_step));
     let no_room = no_room.with(|call| call.answers.truncate(15));
     vec![
-        Call::ample(2, 1, then(List::new().put(0, 7), bad_put)).row("5 before 6"),
+        Call::ample(2, 2, then(List::new().put(0, 7), bad_put)).row("5 before 6"),
+        Call::ample(2, 1, then(List::new().put(0, 7), bad_put)).row("5 before 8 and 6"),
         Call::ample(2, 1, then(List::new(), bad_step)).row("5 before 7"),
         Call::ample(2, 1, then(one_put(), bad_put)).row("5 before 8"),
         no_room.row("5 before 9"),
     ]
 }
 
-/// Number 6: by a put and by a take, at each stage, and before 8.
+/// Number 6: by a put and by a take, at each stage.
 fn begins_while_busy() -> Vec<Row> {
     let mut rows = Vec::new();
     for steps in [0, 1, 14] {
@@ -87,11 +89,9 @@ fn begins_while_busy() -> Vec<Row> {
         let take = Call::ample(2, 2, busy.take(0).bytes());
         rows.push(take.row(format!("a take after {steps} steps")));
     }
-    let last = List::new().put(0, 7).put(0, 8);
-    rows.push(Call::ample(2, 1, last.bytes()).row("6 before 8"));
     for p in [4, 8] {
         let list = List::new().put(p - 1, 7).take(p - 1);
-        rows.push(Call::ample(p, 1, list.bytes()).row(format!("p = {p}, a take while busy")));
+        rows.push(Call::ample(p, 2, list.bytes()).row(format!("p = {p}, a take while busy")));
     }
     rows
 }
@@ -126,6 +126,32 @@ fn begun_all() -> Vec<Row> {
     ]
 }
 
+/// 8 before 6: a begin inside the last operation of L, by a put and by a take, at each stage.
+fn begun_all_first() -> Vec<Row> {
+    let mut rows = Vec::new();
+    for steps in [0, 1, 14] {
+        let busy = List::new().put(0, 7).steps(0, steps);
+        let lists = [("put", busy.clone().put(0, 8)), ("take", busy.take(0))];
+        for (kind, list) in lists {
+            let call = Call::ample(2, 1, list.bytes());
+            rows.push(call.row(format!("8 before 6: L = 1, a {kind} after {steps} steps")));
+        }
+    }
+    let second = one_put().take(0).steps(0, 3).put(0, 8);
+    rows.push(Call::ample(2, 2, second.bytes()).row("8 before 6: L = 2"));
+    for p in [4, 8] {
+        let list = List::new().put(p - 1, 7).take(p - 1);
+        rows.push(Call::ample(p, 1, list.bytes()).row(format!("8 before 6: p = {p}, L = 1")));
+    }
+    rows
+}
+
+/// The same after many operations, which takes the prover long.
+pub fn many_begun_first() -> Row {
+    let list = List::new().whole_puts(0, 23, 15).put(0, 7).put(0, 8);
+    Call::ample(2, 24, list.bytes()).row("8 before 6: L = 24")
+}
+
 /// Number 9, on either side of its edge; what the other calls meet in the later records.
 fn no_room() -> Vec<Row> {
     let mut rows = Vec::new();
@@ -134,14 +160,16 @@ fn no_room() -> Vec<Row> {
         let short = call.with(|call| call.answers.truncate(bytes));
         rows.push(short.row(format!("{bytes} answer bytes for two answers")));
     }
+    let busy = one_put().put(1, 2).put(1, 3).bytes();
     let later = [
-        ("an ill-formed record", then(one_put(), [9; 8])),
-        ("a begin too many", one_put().put(0, 2).bytes()),
-        ("a step while idle", one_put().steps(1, 1).bytes()),
-        ("a begin while busy", one_put().put(1, 2).put(1, 3).bytes()),
+        ("an ill-formed record", 1, then(one_put(), [9; 8])),
+        ("a begin too many", 1, one_put().put(0, 2).bytes()),
+        ("a step while idle", 1, one_put().steps(1, 1).bytes()),
+        ("a begin while busy", 2, busy.clone()),
+        ("a begin inside the last operation", 1, busy),
     ];
-    for (fault, list) in later {
-        let call = Call::ample(2, 1, list).with(|call| call.answers.clear());
+    for (fault, l, list) in later {
+        let call = Call::ample(2, l, list).with(|call| call.answers.clear());
         rows.push(call.row(format!("no answer bytes, then {fault}")));
     }
     rows
@@ -167,7 +195,8 @@ fn short_output() -> Vec<Row> {
 
 /// 10 after 1 to 8.
 fn output_last() -> Vec<Row> {
-    let none = |list: Vec<u8>| Call::ample(2, 1, list).with(|call| call.output.clear());
+    let none_of = |l, list: Vec<u8>| Call::ample(2, l, list).with(|call| call.output.clear());
+    let none = |list| none_of(1, list);
     let whole = none(one_put().bytes());
     vec![
         whole.with(|call| call.p = 3).row("1 before 10"),
@@ -179,7 +208,7 @@ fn output_last() -> Vec<Row> {
             .with(|call| call.records.truncate(127))
             .row("4 before 10"),
         none(then(one_put(), [9; 8])).row("5 before 10"),
-        none(one_put().put(1, 1).put(1, 2).bytes()).row("6 before 10"),
+        none_of(2, one_put().put(1, 1).put(1, 2).bytes()).row("6 before 10"),
         none(one_put().steps(1, 1).bytes()).row("7 before 10"),
         none(one_put().put(0, 2).bytes()).row("8 before 10"),
     ]

@@ -11,6 +11,7 @@ mod fixed_bytes;
 mod fixed_calls;
 mod fixed_logs;
 mod fixed_records;
+mod late_begins;
 mod met;
 mod random_calls;
 mod row;
@@ -39,6 +40,7 @@ fn main() {
 
 fn long() -> Vec<Row> {
     let mut rows = fixed_calls::largest();
+    rows.push(fixed_records::many_begun_first());
     rows.extend(demand3::planned());
     rows
 }

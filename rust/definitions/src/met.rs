@@ -4,13 +4,26 @@ use std::fmt;
 
 /// Everything that the rows must meet, by what can meet it. The numbers and verdicts of the calls
 /// are those of document 01, "What each call turns down".
-const REQUIRED: [(&str, &[&str]); 6] = [
+const REQUIRED: [(&str, &[&str]); 7] = [
     ("run", &["0", "1", "2", "3", "4", "5", "6", "7", "8", "9"]),
     ("list", &["0", "1", "2", "3", "4", "5", "6", "7", "8", "10"]),
     (
         "check",
         &[
             "same", "unequal", "shorter", "longer", "1", "2", "3", "4", "5", "6", "7", "8", "11",
+        ],
+    ),
+    (
+        "begin",
+        &[
+            "inside the last of 1: 8",
+            "after the last of 1: 8",
+            "inside the last of 2: 8",
+            "after the last of 2: 8",
+            "inside another of 2: 6",
+            "inside the last of 500: 8",
+            "after the last of 500: 8",
+            "inside another of 500: 6",
         ],
     ),
     ("limit", &["p=2", "p=4", "p=8"]),

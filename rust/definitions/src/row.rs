@@ -3,8 +3,8 @@
 use crate::met::{Met, LINE};
 
 /// The definitions of the rows' own file that the prover computes with.
-const UNFOLDED: &str = "rules wordsOf leaves call left op answer moved bits saidOf said pairsOf \
-     pair queueOf queue";
+const UNFOLDED: &str = "rules wordsOf leaves call left process numbers lateBegin op answer moved \
+     bits saidOf said pairsOf pair queueOf queue";
 
 pub struct Row {
     /// In plain words.

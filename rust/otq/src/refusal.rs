@@ -5,6 +5,22 @@ use std::fmt;
 
 /// Why a call or a record is turned down; the discriminants are the paper's numbers. Shown, it is a
 /// line of text, the same as `otq_text.h` has for C.
+///
+/// It is the first test that fails, in this order: of a call 1, 2, 3, 4, of [`check_log`] then 11;
+/// record by record of a begin 5, 8, 6 and of a step 5, 7, 9; of [`list_order`] at the end 10. So a
+/// begin inside the last of l operations is [`BegunAll`](Refusal::BegunAll).
+///
+/// ```
+/// use otq::Refusal;
+/// let put = [0, 1, 0, 0, 5, 0, 0, 0];
+/// let two_begins = [put, put].concat();
+/// let refusal = |l| otq::play(2, l, &two_begins).run.refusal;
+/// assert_eq!(refusal(1), Some(Refusal::BegunAll));
+/// assert_eq!(refusal(2), Some(Refusal::BeginWhileBusy));
+/// ```
+///
+/// [`check_log`]: crate::check_log
+/// [`list_order`]: crate::list_order
 #[derive(Clone, Copy, PartialEq, Eq, Hash, Debug)]
 #[repr(u32)]
 pub enum Refusal {

@@ -32,6 +32,13 @@ impl List {
         self
     }
 
+    /// Puts of 1, 2 and so on by a process alone, each with all its steps.
+    pub fn whole_puts(self, process: u32, count: u32, steps: usize) -> List {
+        (1..=count).fold(self, |list, value| {
+            list.put(process, value).steps(process, steps)
+        })
+    }
+
     pub fn bytes(self) -> Vec<u8> {
         self.bytes
     }

@@ -45,7 +45,7 @@ pub fn accept(p: u32, l: u32, records: &[u8], table: &[u32]) -> Result<Shape, Re
     Ok(shape)
 }
 
-/// Tests 5 to 9 of one record, in that order.
+/// The tests of one record: 5; then of a begin 8, 6, of a step 7, 9.
 pub fn test_record(
     machine: &Machine,
     bytes: &[u8],
@@ -56,11 +56,11 @@ pub fn test_record(
     let record = StepRecord::read(bytes, shape.p()).ok_or(Refusal::IllFormed)?;
     let idle = machine.idle(record.process);
     match record.act {
-        Act::Begin(_) if !idle => Err(Refusal::BeginWhileBusy),
-        Act::Step if idle => Err(Refusal::StepWhileIdle),
         Act::Begin(_) if machine.process(record.process).begun == shape.l() => {
             Err(Refusal::BegunAll)
         }
+        Act::Begin(_) if !idle => Err(Refusal::BeginWhileBusy),
+        Act::Step if idle => Err(Refusal::StepWhileIdle),
         Act::Step if machine.next_step(record.process) == Some(Step::Q) && full(answers, room) => {
             Err(Refusal::AnswersFull)
         }

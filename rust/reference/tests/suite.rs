@@ -6,6 +6,7 @@ mod call_refusals;
 mod check_log;
 mod demand3_mutations;
 mod demand3_runs;
+mod former_order;
 mod growth_mutations;
 mod growth_runs;
 mod interleavings;
