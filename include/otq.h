@@ -30,8 +30,8 @@ extern "C" {
 #endif
 
 /* Why a call or a record is turned down: the first test that fails, in this order. A call 1, 2, 3, 4, of
-   otq_check_log then 11; record by record a begin 5, 8, 6 and a step 5, 7, 9; otq_list_order at the end
-   10. So a begin inside the last of l operations is 8. */
+   otq_check_log then 11; record by record a begin 5, 8, 6 and a step 5, 7, of otq_run then 9; of
+   otq_list_order at the end 10. So a begin inside the last of l operations is 8. */
 enum OtqRefusal {
     OTQ_NONE = 0,             /* nothing is turned down */
     OTQ_PROCESSES = 1,        /* p is not 2, 4 or 8 */

@@ -3,7 +3,7 @@ use Prim.Native.Nat.{ℕ, _%_, _≤_}
 use mathlib.Core.Path.{_≡_, refl, sym, _∙_}
 use mathlib.Core.Bool.{Bool, true, false, not, false≢true}
 use lib.Dec.{ltb, eqb}
-use borrow.Author.Tests.{eqb-true, eq-eqb, ltb-false, not-false}
+use borrow.Author.Tests.{eqb-true, ltb-false, not-false}
 use Rattle.base.specs.Choice.{if_then_else_}
 use Rattle.record.specs.StepRecords.{stepSize}
 use Rattle.record.specs.AnswerRecords.{answerSize}
@@ -14,15 +14,7 @@ use Rattle.calls.specs.declared.Refusal.the-variants.{None, Processes, O
 use Rattle.calls.specs.Refusals.{refusalNumber, accepted, torn, firstRefusal, settingsRefusal, bufferRefusal, callRefusal}
 use Rattle.tree.specs.Shape.{shapeFor}
 use Rattle.calls.specs.CheckLog.{checkRefusal}
-
--- accepted is number 0
-pub accepted-zero : (n : Refusal) → refusalNumber n ≡ 0 → accepted n ≡ true
-unfolding accepted
-accepted-zero n e = eq-eqb (refusalNumber n) 0 e
-
-pub zero-accepted : (n : Refusal) → accepted n ≡ true → refusalNumber n ≡ 0
-unfolding accepted
-zero-accepted n e = eqb-true (refusalNumber n) 0 e
+use Rattle.calls.proofs.Acceptance.{passed}
 
 -- bytes that are not torn are whole records
 pub whole-records : (bytes : ℕ) → torn stepSize bytes ≡ false → bytes % 8 ≡ 0
@@ -37,11 +29,6 @@ both-accepted a b e = on (accepted a) refl e
     on : (x : Bool) → accepted a ≡ x → accepted (if x then b else a) ≡ true → (accepted a ≡ true) × (accepted b ≡ true)
     on true z h = (z, h)
     on false z h = absurd (false≢true (sym z ∙ h))
-
--- a test that would refuse did not fail
-passed : (b : Bool) (n m : Refusal) → accepted n ≡ false → accepted (if b then n else m) ≡ true → (b ≡ false) × (accepted m ≡ true)
-passed true n m z e = absurd (false≢true (sym z ∙ e))
-passed false n m z e = (refl, e)
 
 module _ (p l : ℕ) (ok : accepted (settingsRefusal p l) ≡ true) where
   pub settings-processes : processesAllowed p ≡ true

@@ -26,7 +26,7 @@ use Rattle.calls.specs.CheckLog.{checkRefusal, verdictNumber, verdictInd
 use Rattle.calls.proofs.Legal.{not-step, no-step, formed-low}
 use Rattle.calls.proofs.Played.{played-all, whole-machine, whole-legal}
 use Rattle.calls.proofs.Runs.{runs}
-use Rattle.calls.proofs.CallAccepted.{zero-accepted}
+use Rattle.calls.proofs.Acceptance.{zero-accepted}
 use Rattle.calls.proofs.Theorem.{tall-for}
 use Rattle.calls.proofs.RunsBy.{playBy, playAllBy, runBy, listOrderBy, checkLogBy}
 use Rattle.calls.proofs.FormerRuns.{InLast, now-eight, then-six, alike, six-formed, left, Ends, taken, refused, ends}
@@ -182,9 +182,9 @@ module _ (p l : ℕ) (records table : List ℕ) where
 
 -- ---- what the claim says, by cases
 module _ {stopped R : Type 0} {numbered : ℕ → R → R} {former now : R} where
-  pub where-stopped : Compared stopped numbered former now → stopped → now ≡ numbered 8 former
+  pub where-stopped : Compared stopped numbered former now → stopped → (former ≡ numbered 6 former) × (now ≡ numbered 8 former)
   where-stopped (equal never e) st = absurd (never st)
-  where-stopped (moved st six eight) st' = eight
+  where-stopped (moved st six eight) st' = (six, eight)
 
   pub elsewhere : Compared stopped numbered former now → (stopped → ⊥) → now ≡ former
   elsewhere (equal never e) never' = e

@@ -1,5 +1,5 @@
--- The tests of a record in their former order, 6 before 8, and what is claimed: which answers of the calls the new order
--- changes, and to what. Only that theorem names the former order.
+-- The tests of a record in their former order, 6 before 8, and what is claimed: which answers of the calls the new
+-- order changes, and to what. Only that theorem names the former order.
 use Prim.Native.Nat.{ℕ}
 use mathlib.Core.Path.{_≡_}
 use mathlib.Core.Bool.{true, false, not, _&&_}

@@ -8,6 +8,7 @@ use mathlib.Core.List.{List, [], _∷_, _++_, append-nil}
 use lib.ListN.{length}
 use lib.Seq.{append-snoc}
 use lib.Dec.{leb}
+use Rattle.base.proofs.Cases.{contradiction}
 use Rattle.record.specs.declared.StepRecord.{StepRecord}
 use Rattle.record.specs.StepRecords.{isStep, isBegin, illFormed}
 use Rattle.record.specs.AnswerRecords.{answerSize}
@@ -18,7 +19,8 @@ use Rattle.calls.specs.declared.Refusal.{Refusal}
 use Rattle.calls.specs.declared.Refusal.the-variants.{BeginWhileBusy, BegunAll}
 use Rattle.calls.specs.Refusals.{refusalNumber, accepted, beginRefusal, stepRefusal, recordRefusal}
 use Rattle.calls.specs.Run.{Played, atStart, taking, refusing, play}
-use Rattle.calls.proofs.RunsBy.{playBy, play-by, by-taken, by-refused}
+use Rattle.calls.proofs.Played.{play-taken, play-refused}
+use Rattle.calls.proofs.RunsBy.{playBy, by-taken, by-refused}
 use Rattle.calls.proofs.FormerOrder.{formerRecord}
 
 -- ---- one record, whose process is q
@@ -38,26 +40,27 @@ module _ (s : Shape) (room : ℕ) (q : Process) (r : StepRecord) where
   unfolding formerRecord isBegin
   then-six i = rw (i .formed, i .begins, i .busy)
 
-  -- elsewhere the order is of no account
-  pub alike : (recordRefusal s room q r ≡ formerRecord s room q r) ⊎ InLast
+  -- elsewhere the order makes no difference
+  abbrev Alike : Type 0
+  Alike = (recordRefusal s room q r ≡ formerRecord s room q r) ⊎ InLast
+
+  pub alike : Alike
   unfolding recordRefusal beginRefusal stepRefusal formerRecord isBegin
   alike = formed (illFormed (processes s) r) refl
     where
-      busy : (b : Bool) → isIdle (q .status) ≡ b → illFormed (processes s) r ≡ false → isStep r ≡ false → leb (s .most) (q .begun) ≡ true
-          → (recordRefusal s room q r ≡ formerRecord s room q r) ⊎ InLast
+      busy : (b : Bool) → isIdle (q .status) ≡ b → illFormed (processes s) r ≡ false → isStep r ≡ false → leb (s .most) (q .begun) ≡ true → Alike
       busy true d a b c = inl (rw (a, b, c, d))
       busy false d a b c = inr (record { formed = a; begins = b; busy = d; begunAll = c })
 
-      begun : (b : Bool) → leb (s .most) (q .begun) ≡ b → illFormed (processes s) r ≡ false → isStep r ≡ false
-          → (recordRefusal s room q r ≡ formerRecord s room q r) ⊎ InLast
+      begun : (b : Bool) → leb (s .most) (q .begun) ≡ b → illFormed (processes s) r ≡ false → isStep r ≡ false → Alike
       begun true c a b = busy (isIdle (q .status)) refl a b c
       begun false c a b = inl (rw (a, b, c))
 
-      begins : (b : Bool) → isStep r ≡ b → illFormed (processes s) r ≡ false → (recordRefusal s room q r ≡ formerRecord s room q r) ⊎ InLast
+      begins : (b : Bool) → isStep r ≡ b → illFormed (processes s) r ≡ false → Alike
       begins true b a = inl (rw (a, b))
       begins false b a = begun (leb (s .most) (q .begun)) refl a b
 
-      formed : (b : Bool) → illFormed (processes s) r ≡ b → (recordRefusal s room q r ≡ formerRecord s room q r) ⊎ InLast
+      formed : (b : Bool) → illFormed (processes s) r ≡ b → Alike
       formed true a = inl (rw a)
       formed false a = begins (isStep r) refl a
 
@@ -109,13 +112,11 @@ module _ (s : Shape) (room : ℕ) where
     unfolding taking accepted refusalNumber
     go b a =
         let f = by-taken formerRecord s room before r g same on b in
-        let h = play-by s room (before ++ (r ∷ [])) ∙ by-taken recordRefusal s room before r g (sym (play-by s room before)) on a in
+        let h = play-taken s room before r on a in
         (f ∙ sym h, ap (λ (x : Played). accepted (x .refusal)) h)
 
     stop : accepted m ≡ false → accepted n ≡ false → Ends (before ++ (r ∷ ts))
-    stop b a =
-        refused before r ts refl on (by-refused formerRecord s room before r g same on b ts)
-        (play-by s room (before ++ (r ∷ ts)) ∙ by-refused recordRefusal s room before r g (sym (play-by s room before)) on a ts)
+    stop b a = refused before r ts refl on (by-refused formerRecord s room before r g same on b ts) (play-refused s room before r on a ts)
 
     ends-one : Go ⊎ Ends (before ++ (r ∷ ts))
     unfolding accepted refusalNumber
@@ -134,3 +135,25 @@ module _ (s : Shape) (room : ℕ) where
   pub ends : (rs : List StepRecord) → Ends rs
   unfolding play playBy atStart accepted refusalNumber
   ends rs = ends-from [] rs refl refl
+
+  -- a run without refusal meets a begin of a process that is not idle and has begun L: formerly 6, now 8
+  module _ (before : List StepRecord) (r : StepRecord) (ts : List StepRecord) (on : accepted (now before .refusal) ≡ true)
+      (i : InLast s (left (now before)) (processOf (now before .machine) (r .process)) r)
+    where
+      same-before : Ends before → former before ≡ now before
+      unfolding refusing accepted refusalNumber
+      same-before (taken ok e) = e
+      same-before (refused b x a list ok f h) =
+          let q = processOf (now b .machine) (x .process) in
+          ⊎-elim (λ e. f ∙ ap (refusing (now b)) (sym e) ∙ sym h)
+          (λ j. contradiction (accepted (now before .refusal)) on (ap (λ (g : Played). accepted (g .refusal)) h ∙ ap accepted (now-eight s (left (now b)) q x j)))
+          (alike s (left (now b)) q x)
+
+      pub overlap : (former (before ++ (r ∷ ts)) ≡ refusing (now before) BeginWhileBusy) × (now (before ++ (r ∷ ts)) ≡ refusing (now before) BegunAll)
+      unfolding accepted refusalNumber
+      overlap =
+          let six = then-six s (left (now before)) (processOf (now before .machine) (r .process)) r i in
+          let eight = now-eight s (left (now before)) (processOf (now before .machine) (r .process)) r i in (
+            by-refused formerRecord s room before r (now before) (same-before (ends before)) on (ap accepted six) ts ∙ ap (refusing (now before)) six,
+            play-refused s room before r on (ap accepted eight) ts ∙ ap (refusing (now before)) eight,
+          )

@@ -19,12 +19,12 @@ use Rattle.steps.specs.declared.Process.{Process}
 use Rattle.steps.specs.declared.Status.{Status}
 use Rattle.steps.specs.declared.Status.the-variants.{Idle, Busy}
 use Rattle.steps.specs.Machine.{Machine, processOf, isIdle, isQ, atQ}
-use Rattle.calls.specs.declared.Refusal.{Refusal}
 use Rattle.calls.specs.declared.Refusal.the-variants.{IllFormed, StepWhileIdle, AnswersFull}
 use Rattle.calls.specs.Answer.{answersFrom, answersOf}
 use Rattle.calls.specs.Refusals.{refusalNumber, accepted, beginRefusal, stepRefusal, recordRefusal}
 use Rattle.calls.specs.Run.{recordAnswers}
 use Rattle.calls.specs.History.{machineAfter}
+use Rattle.calls.proofs.Acceptance.{passed}
 
 -- what is known of a record that is not refused on machine m, whatever the room for answers
 pub record Accepted (s : Shape) (m : Machine) (r : StepRecord) : Type 0 where
@@ -60,11 +60,6 @@ no-step r e = not-true (isStep r) e
 pub not-begin : (r : StepRecord) → isStep r ≡ true → isBegin r ≡ false
 unfolding isBegin
 not-begin r e = rw e
-
--- a test that would refuse failed, and the next ones refuse nothing
-passed : (b : Bool) (n rest : Refusal) → accepted n ≡ false → accepted (if b then n else rest) ≡ true → (b ≡ false) × (accepted rest ≡ true)
-passed true n rest z h = absurd (true≢false (cc))
-passed false n rest z h = (refl, h)
 
 -- the tests of a begin, of a step and of a record, all failed
 begin-passed : (l : ℕ) (q : Process) → accepted (beginRefusal l q) ≡ true → (isIdle (q .status) ≡ true) × (q .begun < l)

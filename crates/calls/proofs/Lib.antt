@@ -1,3 +1,4 @@
+pub mod Acceptance
 pub mod Legal
 pub mod Histories
 pub mod RunsBy

@@ -28,7 +28,8 @@ use Rattle.calls.specs.ListOrder.{playAll}
 use Rattle.calls.specs.CheckLog.{CheckResult, sameBytes, compared, verdictNumber, verdictIndex, checkRefusal, checked, verdictOn, checkPlayed, checkLog}
 use Rattle.calls.specs.LogVerdict.{logOfRules, NoRefusal, recordAt, DifferFirst, Judges}
 use Rattle.calls.proofs.SameBytes.{same-equal, itself-same}
-use Rattle.calls.proofs.CallAccepted.{accepted-zero, zero-accepted, check-whole}
+use Rattle.calls.proofs.Acceptance.{accepted-zero, zero-accepted}
+use Rattle.calls.proofs.CallAccepted.{check-whole}
 
 -- ---- where two logs differ first
 

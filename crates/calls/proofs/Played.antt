@@ -19,7 +19,7 @@ use Rattle.calls.specs.Run.{takeRecord, Played, atStart, taking, refusin
 use Rattle.calls.specs.History.{machineAfter}
 use Rattle.calls.proofs.Legal.{Accepted, Legal, none, more, answersAfter, answersAlong, accept, answers-room}
 use Rattle.calls.proofs.Histories.{machine-snoc, answers-snoc}
-use Rattle.calls.proofs.RunsBy.{playRecordBy, playBy, by-append, by-over}
+use Rattle.calls.proofs.RunsBy.{playRecordBy, playBy, by-append, by-over, by-taken, by-refused}
 
 -- a run over records rs, so far: it took the first of them, and all while nothing was refused
 record Tracks (s : Shape) (room : ℕ) (rs : List StepRecord) (g : Played) : Type 0 where
@@ -141,6 +141,22 @@ module _ (s : Shape) (room : ℕ) where
   pub over-stays : (g : Played) → accepted (g .refusal) ≡ false → (rs : List StepRecord) → foldl (playRecord s room) g rs ≡ g
   unfolding playRecord playRecordBy
   over-stays = by-over recordRefusal s room
+
+  -- a run that is not over meets a record
+  module _ (rs : List StepRecord) (r : StepRecord) (on : accepted (play s room rs .refusal) ≡ true) where
+    abbrev g : Played
+    g = play s room rs
+
+    abbrev met : Refusal
+    met = recordRefusal s (room - answerSize * length (g .answers)) (processOf (g .machine) (r .process)) r
+
+    pub play-taken : accepted met ≡ true → play s room (rs ++ (r ∷ [])) ≡ taking s g r
+    unfolding play playBy playRecord playRecordBy
+    play-taken = by-taken recordRefusal s room rs r g refl on
+
+    pub play-refused : accepted met ≡ false → (ts : List StepRecord) → play s room (rs ++ (r ∷ ts)) ≡ refusing g met
+    unfolding play playBy playRecord playRecordBy
+    play-refused = by-refused recordRefusal s room rs r g refl on
 
   pub play-append : (rs ts : List StepRecord) → play s room (rs ++ ts) ≡ foldl (playRecord s room) (play s room rs) ts
   unfolding play playBy playRecord playRecordBy

@@ -53,10 +53,6 @@ checkLogBy tests p l records log table =
     if accepted n then checkPlayed s (playAllBy tests s (stepRecords records)) log table else checked (Refused n) table
 
 -- ---- with the tests of the rules they are the calls
-pub play-by : (s : Shape) (room : ℕ) (rs : List StepRecord) → play s room rs ≡ playBy recordRefusal s room rs
-unfolding play playBy playRecord playRecordBy
-play-by s room rs = refl
-
 pub run-by : (p l : ℕ) (records table answers : List ℕ) → run p l records table answers ≡ runBy recordRefusal p l records table answers
 unfolding run runBy play playBy playRecord playRecordBy
 run-by p l records table answers = refl

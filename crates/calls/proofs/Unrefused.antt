@@ -15,7 +15,7 @@ use Rattle.calls.specs.Run.{RunResult, Played, play, runPlayed, runTurne
 use Rattle.calls.specs.ListOrder.{ListResult, playAll, listRefusal, listed, listPlayed, listOrder}
 use Rattle.order.specs.OrderList.{orderList}
 use Rattle.calls.specs.Continuation.{orderLeft, listWritten}
-use Rattle.calls.proofs.CallAccepted.{accepted-zero}
+use Rattle.calls.proofs.Acceptance.{accepted-zero}
 use Rattle.calls.proofs.Theorem.{run-is, table-is}
 
 -- a test that would have been the call's refusal did not fail

@@ -12,7 +12,8 @@ use Rattle.steps.specs.declared.Process.{Process}
 use Rattle.steps.specs.Process.{processesAllowed, operationsAllowed}
 use Rattle.steps.specs.Machine.{isIdle, atQ}
 use Rattle.calls.specs.declared.Refusal.{Refusal}
-use Rattle.calls.specs.declared.Refusal.the-variants.{None, Processes, Operations, TableShort, RecordsTorn, IllFormed, BeginWhileBusy, StepWhileIdle, BegunAll, AnswersFull, OutputShort, LogTorn}
+use Rattle.calls.specs.declared.Refusal.the-variants.{None, Processes, Operations, TableShort, RecordsTorn}
+use Rattle.calls.specs.declared.Refusal.the-variants.{IllFormed, BeginWhileBusy, StepWhileIdle, BegunAll, AnswersFull, OutputShort, LogTorn}
 
 -- the paper's number of a refusal, 0 for none
 unfoldable pub refusalNumber : Refusal → ℕ

@@ -17,11 +17,11 @@ use Rattle.calls.specs.declared.Refusal.{Refusal}
 use Rattle.calls.specs.declared.Refusal.the-variants.{None}
 use Rattle.calls.specs.Answer.{answerOf}
 use Rattle.calls.specs.Refusals.{refusalNumber, accepted, recordRefusal}
-use Rattle.calls.specs.Run.{Played, takeRecord, recordAnswers, taking, refusing, playRecord, play}
+use Rattle.calls.specs.Run.{Played, takeRecord, recordAnswers, taking, refusing, play}
 use Rattle.calls.specs.History.{begins, history}
 use Rattle.calls.proofs.Agrees.{Agrees}
 use Rattle.calls.proofs.Legal.{answersAlong}
-use Rattle.calls.proofs.Played.{played-machine, played-legal, over-stays, play-append}
+use Rattle.calls.proofs.Played.{played-machine, played-legal, over-stays, play-append, play-taken, play-refused}
 use Rattle.calls.proofs.Runs.{runs}
 use Rattle.player.proofs.RecordResults.{Refused, Moved, Finished, ResultOf}
 
@@ -41,31 +41,28 @@ module _ (s : Shape) (room : ℕ) (rs : List StepRecord) (going : play s room rs
   abbrev pub leftOf : ℕ
   leftOf = room - 16 * length (g .answers)
 
-  one-more : play s room (rs ++ (r ∷ [])) ≡ playRecord s room g r
-  one-more = play-append s room rs (r ∷ [])
+  on : accepted (g .refusal) ≡ true
+  unfolding accepted refusalNumber
+  on = ap accepted going
 
-  pub play-refused : (n : Memory) (x : Refusal) → ResultOf s leftOf (g .machine) r n (Refused x) → play s room (rs ++ (r ∷ [])) ≡ refusing g x
-  unfolding playRecord answerSize accepted refusalNumber
-  play-refused n x t = one-more ∙ rw (going, t .0) (rw (t .1))
+  pub result-refused : (n : Memory) (x : Refusal) → ResultOf s leftOf (g .machine) r n (Refused x) → play s room (rs ++ (r ∷ [])) ≡ refusing g x
+  unfolding answerSize
+  result-refused n x t = play-refused s room rs r on (ap accepted (t .0) ∙ t .1) [] ∙ ap (refusing g) (t .0)
 
   -- a record that is accepted: the machine and the answers are those that it leaves
   taken-as : accepted (recordRefusal s leftOf (processOf (g .machine) (r .process)) r) ≡ true → (m : Machine) → takeRecord s (g .machine) r ≡ m
       → (xs : List AnswerRecord) → recordAnswers s (g .machine) r ≡ xs
       → play s room (rs ++ (r ∷ [])) ≡ record { machine = m; answers = g .answers ++ xs; taken = g .taken + 1; refusal = None }
-  unfolding playRecord answerSize accepted refusalNumber taking
-  taken-as ok m em xs ea =
-      one-more
-      ∙ rw (going, ok)
-      (ap (λ (x : Machine). record { machine = x; answers = g .answers ++ recordAnswers s (g .machine) r; taken = g .taken + 1; refusal = None }) em
-      ∙ ap (λ (x : List AnswerRecord). record { machine = m; answers = g .answers ++ x; taken = g .taken + 1; refusal = None }) ea)
+  unfolding answerSize taking
+  taken-as ok m em xs ea = play-taken s room rs r on ok ∙ rw (em, ea)
 
-  pub play-moved : (n : Memory) (q : Process) → ResultOf s leftOf (g .machine) r n (Moved q)
+  pub result-moved : (n : Memory) (q : Process) → ResultOf s leftOf (g .machine) r n (Moved q)
       → play s room (rs ++ (r ∷ [])) ≡ record { machine = withProcess (g .machine) (r .process) q n; answers = g .answers; taken = g .taken + 1; refusal = None }
-  play-moved n q t =
+  result-moved n q t =
       taken-as (t .0) _ (t .2) [] (t .1)
       ∙ ap (λ (x : List AnswerRecord). record { machine = withProcess (g .machine) (r .process) q n; answers = x; taken = g .taken + 1; refusal = None }) (append-nil (g .answers))
 
-  pub play-finished : (n : Memory) (o : Operation) → ResultOf s leftOf (g .machine) r n (Finished o)
+  pub result-finished : (n : Memory) (o : Operation) → ResultOf s leftOf (g .machine) r n (Finished o)
       → play s room (rs ++ (r ∷ []))
       ≡ record {
         machine = withProcess (g .machine) (r .process) (rested (processOf (g .machine) (r .process))) n;
@@ -73,7 +70,7 @@ module _ (s : Shape) (room : ℕ) (rs : List StepRecord) (going : play s room rs
         taken = g .taken + 1;
         refusal = None;
       }
-  play-finished n o t = taken-as (t .0) _ (t .2) _ (t .1)
+  result-finished n o t = taken-as (t .0) _ (t .2) _ (t .1)
 
 -- records of which one was refused: those after it change nothing
 pub play-over : (s : Shape) (room : ℕ) (rs : List StepRecord) (i : ℕ) → accepted (play s room (take i rs) .refusal) ≡ false → play s room rs ≡ play s room (take i rs)

@@ -32,7 +32,7 @@ use Rattle.log.specs.Contracts.Leading.{leadingOf, written}
 use Rattle.answer.specs.Contracts.Playing.{machineOf, Plays}
 use Rattle.player.specs.Contracts.PlayCalls.{PlayResult}
 use Rattle.player.proofs.RecordResults.{RecordResult, Refused, Moved, Finished, ResultOf}
-use Rattle.player.proofs.PlayLaws.{PlayedAs, played-agrees, play-refused, play-moved, play-finished, play-over}
+use Rattle.player.proofs.PlayLaws.{PlayedAs, played-agrees, result-refused, result-moved, result-finished, play-over}
 use Rattle.player.proofs.LoopStates.{Call, State, shapeOf, listOf, playedTo, CallAtStart, memoryAt, machineAt, afterMove, afterAnswer, PlaysAs, Gives, EndsWith}
 
 -- after the first i records none is refused, and the state is what the run so far left
@@ -140,7 +140,7 @@ module _ {c : Call} {t : State} {i : ℕ} (k : PlayedSoFar c t i) where
     unfolding refusing
     so-far-refused x h =
         let e : playedTo c (i + 1) ≡ refusing g x =
-        ap (play s (c .room)) next ∙ play-refused s (c .room) (take i (listOf c)) (k .going) r (memoryAt t) x (as-played (memoryAt t) (Refused x) h)
+        ap (play s (c .room)) next ∙ result-refused s (c .room) (take i (listOf c)) (k .going) r (memoryAt t) x (as-played (memoryAt t) (Refused x) h)
         in
         over x (play-over s (c .room) (listOf c) (i + 1) (ap (λ (y : Played). accepted (y .refusal)) e ∙ h .1) ∙ e)
 
@@ -154,7 +154,7 @@ module _ {c : Call} {t : State} {i : ℕ} (k : PlayedSoFar c t i) where
     -- moved
     pub so-far-moves : (q : Process) (n : Memory) → r .process < processes s → Gives c t r n (Moved q) → PlayedSoFar c (afterMove t (r .process) q n) (i + 1)
     so-far-moves q n low h =
-        let e = ap (play s (c .room)) next ∙ play-moved s (c .room) (take i (listOf c)) (k .going) r n q (as-played n (Moved q) h) in
+        let e = ap (play s (c .room)) next ∙ result-moved s (c .room) (take i (listOf c)) (k .going) r n q (as-played n (Moved q) h) in
         let a = ap (λ (y : Played). y .answers) e in
         record {
           within = omega arith;
@@ -175,7 +175,7 @@ module _ {c : Call} {t : State} {i : ℕ} (k : PlayedSoFar c t i) where
     unfolding processOf
     so-far-finishes o a out equal low h is-a enough same bytes =
         let n = memoryAt t in
-        let e = ap (play s (c .room)) next ∙ play-finished s (c .room) (take i (listOf c)) (k .going) r n o (as-played n (Finished o) h) in
+        let e = ap (play s (c .room)) next ∙ result-finished s (c .room) (take i (listOf c)) (k .going) r n o (as-played n (Finished o) h) in
         let x =
         ap (λ (y : Played). y .answers) e
         ∙ ap (λ (m : Machine). g .answers ++ (answerOf s m (r .process) o ∷ [])) (k .machine)

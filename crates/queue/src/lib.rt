@@ -1,5 +1,5 @@
-// The public library: Run, list the order and check a log. Each call turns down what document 01 says, plays the
-// records and leaves what its definition says (crate rules).
+// The public library: Run, list the order and check a log. Each call turns down, plays and leaves what its definition
+// says (crate calls).
 pub mod check_log;
 pub mod exports;
 pub mod list_order;

@@ -32,8 +32,8 @@ fn after_help(a: After, w: Visit) -> Step
     }
 }
 
-// What was put off while a node was advanced. The two steps that follow a help have one arm: four arms would be a second
-// jump by table in V3.
+// What was put off while a node was advanced. The two steps that follow a help have one arm: four arms would be a
+// second jump by table in V3.
 pub fn resume(a: After, w: Visit) -> Step
     ensures { λ r. ⌜ r ≡ resumeOf a w ⌝ }
 {

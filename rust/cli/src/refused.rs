@@ -159,7 +159,8 @@ fn given(list: &List, refusal: Refusal) -> Option<String> {
     })
 }
 
-/// How the refused record meets its process, read off the records before it.
+/// How the refused record meets its process, read off the records before it; of 8, whether the process
+/// is also inside an operation is asked of the library.
 fn standing(list: &List, refusal: Refusal, record: usize) -> Option<String> {
     let bytes = list.records()[record];
     let process = bytes[0];

@@ -17,12 +17,14 @@ fn every_refusal() {
 #[test]
 fn the_order_of_the_tests() {
     let all = written(&["explain"]);
-    for order in ["Of a begin: 5, 8, 6.", "Of a step: 5, 7, 9."] {
+    for order in ["Of a begin: 5, 8, 6.", "Of a step: 5, 7, of a run then 9."] {
         assert!(all.contains(order), "{all}");
     }
     let instead = "A process that has begun L is refused with 8 instead.\n";
     assert!(written(&["explain", "6"]).ends_with(instead));
-    assert!(written(&["explain", "8"]).contains("8 is tested before 6"));
+    let then = "the list then stops with 6 at the same record.\n";
+    let eight = written(&["explain", "8"]);
+    assert!(eight.contains("8 is tested before 6") && eight.ends_with(then));
 }
 
 #[test]

@@ -30,16 +30,18 @@ fn torn() -> Vec<Row> {
 /// 11 before 5 to 8, with nothing changed; and on p = 4 and 8.
 fn torn_first() -> Vec<Row> {
     let ill_formed = vec![1, 1, 0, 1, 0, 0, 0, 0];
+    let busy = List::new().put(0, 7).take(0).bytes();
     let lists = [
-        ("11 before 5", 2, ill_formed),
-        ("11 before 6", 2, List::new().put(0, 7).take(0).bytes()),
-        ("11 before 7", 2, List::new().steps(0, 1).bytes()),
-        ("11 before 8", 2, one_put().take(0).bytes()),
-        ("p = 4, a torn log", 4, List::new().put(0, 7).bytes()),
-        ("p = 8, a torn log", 8, List::new().put(0, 7).bytes()),
+        ("11 before 5", 2, 1, ill_formed),
+        ("11 before 6", 2, 2, busy.clone()),
+        ("11 before 7", 2, 1, List::new().steps(0, 1).bytes()),
+        ("11 before 8", 2, 1, one_put().take(0).bytes()),
+        ("11 before 8 and 6", 2, 1, busy),
+        ("p = 4, a torn log", 4, 1, List::new().put(0, 7).bytes()),
+        ("p = 8, a torn log", 8, 1, List::new().put(0, 7).bytes()),
     ];
-    let row = |(about, p, list)| {
-        let call = Call::ample(p, 1, list);
+    let row = |(about, p, l, list)| {
+        let call = Call::ample(p, l, list);
         call.with(|call| call.log = kept_bytes(17)).row(about)
     };
     lists.map(row).into()

@@ -67,6 +67,8 @@ fn ill_formed() -> Vec<Row> {
 /// 5 before 6, 7, 8 and 9.
 fn ill_formed_first() -> Vec<Row> {
     let bad_put = [0, 1, 1, 0, 0, 0, 0, 0];
+    let bad_take = [0, 2, 0, 0, 1, 0, 0, 0];
+    let kind_3 = [0, 3, 0, 0, 0, 0, 0, 0];
     let bad_step = [0, 0, 0, 0, 0, 0, 0, 1];
     let no_room = Call::ample(2, 1, then(List::new().put(0, 1).steps(0, 14), bad_step));
     let no_room = no_room.with(|call| call.answers.truncate(15));
@@ -75,6 +77,8 @@ fn ill_formed_first() -> Vec<Row> {
         Call::ample(2, 1, then(List::new().put(0, 7), bad_put)).row("5 before 8 and 6"),
         Call::ample(2, 1, then(List::new(), bad_step)).row("5 before 7"),
         Call::ample(2, 1, then(one_put(), bad_put)).row("5 before 8"),
+        Call::ample(2, 1, then(one_put(), bad_take)).row("5 before 8, a take with a value"),
+        Call::ample(2, 1, then(one_put(), kind_3)).row("5 before 8, kind 3"),
         no_room.row("5 before 9"),
     ]
 }

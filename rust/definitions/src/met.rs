@@ -3,7 +3,7 @@
 use std::fmt;
 
 /// Everything that the rows must meet, by what can meet it. The numbers and verdicts of the calls
-/// are those of document 01, "What each call turns down".
+/// are those of document 01, "What each call turns down", and of request a.
 const REQUIRED: [(&str, &[&str]); 7] = [
     ("run", &["0", "1", "2", "3", "4", "5", "6", "7", "8", "9"]),
     ("list", &["0", "1", "2", "3", "4", "5", "6", "7", "8", "10"]),
@@ -85,6 +85,6 @@ pub fn tally(files: &[&str]) -> Result<(), String> {
     }
     match counted == met.len() {
         true => Ok(()),
-        false => Err("a row meets what document 01 does not have".to_string()),
+        false => Err("a row meets what the rules do not have".to_string()),
     }
 }

@@ -7,8 +7,8 @@ use std::fmt;
 /// line of text, the same as `otq_text.h` has for C.
 ///
 /// It is the first test that fails, in this order: of a call 1, 2, 3, 4, of [`check_log`] then 11;
-/// record by record of a begin 5, 8, 6 and of a step 5, 7, 9; of [`list_order`] at the end 10. So a
-/// begin inside the last of l operations is [`BegunAll`](Refusal::BegunAll).
+/// record by record of a begin 5, 8, 6 and of a step 5, 7, of [`run`] then 9; of [`list_order`] at
+/// the end 10. So a begin inside the last of l operations is [`BegunAll`](Refusal::BegunAll).
 ///
 /// ```
 /// use otq::Refusal;
@@ -20,6 +20,7 @@ use std::fmt;
 /// ```
 ///
 /// [`check_log`]: crate::check_log
+/// [`run`]: crate::run
 /// [`list_order`]: crate::list_order
 #[derive(Clone, Copy, PartialEq, Eq, Hash, Debug)]
 #[repr(u32)]
