@@ -31,20 +31,22 @@ extern "C" {
 
 /* Why a call or a record is turned down: the first test that fails, in this order. A call 1, 2, 3, 4, of
    otq_check_log then 11; record by record a begin 5, 8, 6 and a step 5, 7, of otq_run then 9; of
-   otq_list_order at the end 10. So a begin inside the last of l operations is 8. */
+   otq_list_order at the end 10. So a begin inside the last of l operations is 8. otq_forecast 1, 2, 4,
+   then record by record 5, 12, 8. */
 enum OtqRefusal {
-    OTQ_NONE = 0,             /* nothing is turned down */
-    OTQ_PROCESSES = 1,        /* p is not 2, 4 or 8 */
-    OTQ_OPERATIONS = 2,       /* l is not 1 to 500 */
-    OTQ_TABLE_SHORT = 3,      /* the table has fewer than OTQ_TABLE_WORDS(p, l) words */
-    OTQ_RECORDS_TORN = 4,     /* the record bytes are not a multiple of 8 */
-    OTQ_ILL_FORMED = 5,       /* a process not below p, a kind above 2, or a byte that must be zero */
-    OTQ_BEGIN_WHILE_BUSY = 6, /* a begin while the process is not idle */
-    OTQ_STEP_WHILE_IDLE = 7,  /* a step while the process is idle */
-    OTQ_BEGUN_ALL = 8,        /* a begin by a process that has begun l operations */
-    OTQ_ANSWERS_FULL = 9,     /* an operation ends with fewer than 16 answer bytes left */
-    OTQ_OUTPUT_SHORT = 10,    /* the order list is longer than the output */
-    OTQ_LOG_TORN = 11         /* the log bytes are not a multiple of 16 */
+    OTQ_NONE = 0,              /* nothing is turned down */
+    OTQ_PROCESSES = 1,         /* p is not 2, 4 or 8 */
+    OTQ_OPERATIONS = 2,        /* l is not 1 to 500 */
+    OTQ_TABLE_SHORT = 3,       /* the table has fewer than OTQ_TABLE_WORDS(p, l) words */
+    OTQ_RECORDS_TORN = 4,      /* the record bytes are not a multiple of 8 */
+    OTQ_ILL_FORMED = 5,        /* a process not below p, a kind above 2, or a byte that must be zero */
+    OTQ_BEGIN_WHILE_BUSY = 6,  /* a begin while the process is not idle */
+    OTQ_STEP_WHILE_IDLE = 7,   /* a step while the process is idle */
+    OTQ_BEGUN_ALL = 8,         /* a begin by a process that has begun l operations */
+    OTQ_ANSWERS_FULL = 9,      /* an operation ends with fewer than 16 answer bytes left */
+    OTQ_OUTPUT_SHORT = 10,     /* the order list is longer than the output */
+    OTQ_LOG_TORN = 11,         /* the log bytes are not a multiple of 16 */
+    OTQ_STEP_AMONG_BEGINS = 12 /* a step record among begins: kind 0 in otq_forecast */
 };
 
 /* What the check of a log says. */
@@ -90,6 +92,13 @@ typedef struct OtqCheck {
                          unequal or lacking in one log; else 0 */
 } OtqCheck;
 
+typedef struct OtqForecast {
+    uint32_t refusal;      /* enum OtqRefusal; with a refusal the others are 0 */
+    uint64_t words;        /* words of the table */
+    uint64_t answer_bytes; /* bytes of the answers, 16 a begin */
+    uint64_t records;      /* the most records that a run takes */
+} OtqForecast;
+
 /* Run: plays the records and writes the answers.
 
    Turned down with 1 to 4, it changes nothing and returns zero counts. Otherwise it clears the words
@@ -123,6 +132,20 @@ OtqCheck otq_check_log(uint32_t p, uint32_t l,
                        const uint8_t *records, size_t records_bytes,
                        const uint8_t *log, size_t log_bytes,
                        uint32_t *table, size_t table_words);
+
+/* Forecast: tells from begin records alone, one for each operation, what a run will need. It plays
+   nothing and writes nothing.
+
+   What it tells without a refusal holds of every list whose begins are these in this order, given to
+   otq_run with the same p and l, any table and any answer buffer, whether or not a record is turned
+   down: at most `records` records are taken, and at most `answer_bytes` bytes of answers written,
+   exactly so many if nothing is turned down and all operations finish; and with at least `words`
+   table words and `answer_bytes` answer bytes otq_run returns neither 3 nor 9.
+
+   Turned down with 1, 2 or 4, or at a record with 5, 12 or 8, it returns zeros. A step record is 12,
+   or 5 if it is ill-formed; 8 is a begin by a process of which l begins stand before it. */
+OtqForecast otq_forecast(uint32_t p, uint32_t l,
+                         const uint8_t *begins, size_t begins_bytes);
 
 #ifdef __cplusplus
 }

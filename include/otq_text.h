@@ -32,6 +32,8 @@ static inline const char *otq_refusal_text(uint32_t refusal)
         return "the order list is longer than the output";
     case OTQ_LOG_TORN:
         return "the log bytes are not a multiple of 16";
+    case OTQ_STEP_AMONG_BEGINS:
+        return "a step record stands among begins";
     default:
         return "no refusal has this number";
     }

@@ -1,6 +1,6 @@
-/* The worked example through otq.h: its answers as the printing program prints them, then the root
-   order (kind, process, serial, root block), then the check of the log that it just got. From the
-   repository's root, after `rt staticlib queue`:
+/* The worked example through otq.h: what its two begins foretell, then its answers as the printing
+   program prints them, then the root order (kind, process, serial, root block), then the check of the
+   log that it just got. From the repository's root, after `rt staticlib queue`:
 
        gcc -std=c99 -Iinclude examples/c/worked.c target/staticlib/libqueue.a -o target/worked
        target/worked */
@@ -12,6 +12,7 @@
 
 enum { P = 4, L = 24, STEPS = 27, RECORDS = 2 * (1 + STEPS) };
 
+static uint8_t begins[2 * OTQ_STEP_BYTES];
 static uint8_t records[RECORDS * OTQ_STEP_BYTES];
 static uint32_t table[OTQ_TABLE_WORDS(P, L)];
 static uint8_t answers[OTQ_MOST_ANSWER_BYTES(P, L)];
@@ -27,13 +28,20 @@ static uint32_t number(const uint8_t *bytes, int count)
     return all;
 }
 
-/* A begin and the steps of a whole operation. The other bytes of the records are zero from the start;
-   the value is below 256. */
-static uint8_t *operation(uint8_t *record, uint8_t process, uint8_t kind, uint8_t value)
+/* A begin. The other bytes of the records are zero from the start; the value is below 256. */
+static uint8_t *begin(uint8_t *record, uint8_t process, uint8_t kind, uint8_t value)
 {
+    record[0] = process;
     record[1] = kind;
     record[4] = value;
-    for (int i = 0; i < 1 + STEPS; i++) {
+    return record + OTQ_STEP_BYTES;
+}
+
+/* A begin and the steps of a whole operation. */
+static uint8_t *operation(uint8_t *record, uint8_t process, uint8_t kind, uint8_t value)
+{
+    record = begin(record, process, kind, value);
+    for (int i = 0; i < STEPS; i++) {
         *record = process;
         record += OTQ_STEP_BYTES;
     }
@@ -60,7 +68,12 @@ static void print_order(const uint8_t *order)
 
 int main(void)
 {
+    begin(begin(begins, 0, 1, 7), 1, 2, 0);
     operation(operation(records, 0, 1, 7), 1, 2, 0);
+
+    OtqForecast forecast = otq_forecast(P, L, begins, sizeof begins);
+    printf("forecast %" PRIu64 " words, %" PRIu64 " answer bytes, at most %" PRIu64 " records\n",
+           forecast.words, forecast.answer_bytes, forecast.records);
 
     OtqRun run = otq_run(P, L, records, sizeof records, table, OTQ_TABLE_WORDS(P, L), answers,
                          sizeof answers);

@@ -8,3 +8,4 @@ pub mod Beginnings
 pub mod Stored
 pub mod Entries
 pub mod Somes
+pub mod Sums

@@ -11,7 +11,7 @@ use Rattle.tree.specs.Layout.{wordsNeeded}
 use Rattle.steps.specs.Process.{processesAllowed, operationsAllowed}
 use Rattle.calls.specs.declared.Refusal.{Refusal}
 use Rattle.calls.specs.declared.Refusal.the-variants.{None, Processes, Operations, TableShort, RecordsTorn, LogTorn}
-use Rattle.calls.specs.Refusals.{refusalNumber, accepted, torn, firstRefusal, settingsRefusal, bufferRefusal, callRefusal}
+use Rattle.calls.specs.Refusals.{refusalNumber, accepted, torn, firstRefusal, settingsRefusal, bytesRefusal, bufferRefusal, callRefusal}
 use Rattle.tree.specs.Shape.{shapeFor}
 use Rattle.calls.specs.CheckLog.{checkRefusal}
 use Rattle.calls.proofs.Acceptance.{passed}
@@ -21,8 +21,12 @@ pub whole-records : (bytes : ℕ) → torn stepSize bytes ≡ false → bytes % 
 unfolding torn stepSize
 whole-records bytes e = eqb-true (bytes % 8) 0 (not-false (eqb (bytes % 8) 0) e)
 
+pub bytes-whole : (bytes : ℕ) → accepted (bytesRefusal bytes) ≡ true → torn stepSize bytes ≡ false
+unfolding bytesRefusal accepted refusalNumber
+bytes-whole bytes ok = passed (torn stepSize bytes) RecordsTorn None refl ok .0
+
 -- none of two tests refuses
-both-accepted : (a b : Refusal) → accepted (firstRefusal a b) ≡ true → (accepted a ≡ true) × (accepted b ≡ true)
+pub both-accepted : (a b : Refusal) → accepted (firstRefusal a b) ≡ true → (accepted a ≡ true) × (accepted b ≡ true)
 unfolding firstRefusal
 both-accepted a b e = on (accepted a) refl e
   where
@@ -45,17 +49,18 @@ module _ (p l words bytes : ℕ) (ok : accepted (callRefusal p l words bytes) �
   unfolding callRefusal
   call-tests = both-accepted (settingsRefusal p l) (bufferRefusal (shapeFor p l) words bytes) ok
 
+  pub accepted-settings : accepted (settingsRefusal p l) ≡ true
+  accepted-settings = call-tests .0
+
   pub accepted-processes : processesAllowed p ≡ true
-  accepted-processes = settings-processes p l (call-tests .0)
+  accepted-processes = settings-processes p l accepted-settings
 
   pub accepted-operations : operationsAllowed l ≡ true
-  accepted-operations = settings-operations p l (call-tests .0)
+  accepted-operations = settings-operations p l accepted-settings
 
   buffer-tests : (ltb words (wordsNeeded (shapeFor p l)) ≡ false) × (torn stepSize bytes ≡ false)
   unfolding bufferRefusal accepted refusalNumber
-  buffer-tests =
-      let z = passed (ltb words (wordsNeeded (shapeFor p l))) TableShort _ refl (call-tests .1) in
-      (z .0, passed (torn stepSize bytes) RecordsTorn None refl (z .1) .0)
+  buffer-tests = let z = passed (ltb words (wordsNeeded (shapeFor p l))) TableShort _ refl (call-tests .1) in (z .0, bytes-whole bytes (z .1))
 
   pub accepted-enough : wordsNeeded (shapeFor p l) ≤ words
   accepted-enough = ltb-false words (wordsNeeded (shapeFor p l)) (buffer-tests .0)

@@ -79,7 +79,7 @@ step-passed room q h =
     let b = passed (atQ (q .status) && ltb room answerSize) AnswersFull _ refl (a .1) in
     (a .0, b .0)
 
-record-passed : (s : Shape) (room : ℕ) (q : Process) (r : StepRecord) → accepted (recordRefusal s room q r) ≡ true
+pub record-passed : (s : Shape) (room : ℕ) (q : Process) (r : StepRecord) → accepted (recordRefusal s room q r) ≡ true
     → (illFormed (processes s) r ≡ false) × (accepted (if isStep r then stepRefusal room q else beginRefusal (s .most) q) ≡ true)
 unfolding recordRefusal accepted refusalNumber
 record-passed s room q r h = passed (illFormed (processes s) r) IllFormed _ refl h

@@ -16,6 +16,13 @@ pub mod RootAnswers
 pub mod AfterStep
 pub mod Answered
 pub mod Runs
+pub mod BeginRecords
+pub mod RecordLimit
+pub mod Rooms
+pub mod RunLimits
+pub mod PlannedBegins
+pub mod ForecastHolds
+pub mod Foreseen
 pub mod Holds
 pub mod Theorem
 pub mod CallAccepted

@@ -116,6 +116,9 @@ module _ (s : Shape) (room : ℕ) where
   pub played-legal : (rs : List StepRecord) → Legal s (take (play s room rs .taken) rs)
   played-legal rs = subst (Legal s) (first rs) (tracks rs .legal)
 
+  pub played-length : (rs : List StepRecord) → length (take (play s room rs .taken) rs) ≡ play s room rs .taken
+  played-length rs = sym (tracks rs .count ∙ ap length (first rs))
+
   pub played-room : (rs : List StepRecord) → answerSize * length (play s room rs .answers) ≤ room
   played-room rs = tracks rs .has-room
 
@@ -128,11 +131,14 @@ module _ (s : Shape) (room : ℕ) where
 
   -- so it leaves what its whole list does, which is legal
   module _ (rs : List StepRecord) (ok : accepted (play s room rs .refusal) ≡ true) where
-    took-all : take (play s room rs .taken) rs ≡ rs
+    pub took-all : take (play s room rs .taken) rs ≡ rs
     took-all = ap (λ (i : ℕ). take i rs) (played-all rs ok) ∙ take-length rs
 
     pub whole-machine : play s room rs .machine ≡ machineAfter s rs
     whole-machine = played-machine rs ∙ ap (machineAfter s) took-all
+
+    pub whole-answers : play s room rs .answers ≡ answersAlong s rs
+    whole-answers = played-answers rs ∙ ap (answersAlong s) took-all
 
     pub whole-legal : Legal s rs
     whole-legal = subst (Legal s) took-all (played-legal rs)

@@ -107,7 +107,7 @@ module _ (s : Shape) (tall : 1 ≤ s .height) (rs : List StepRecord) (r : StepRe
     b : isBegin r ≡ true
     b = not-step r z
 
-    taken-begin : takeRecord s m r ≡ begin m k (operationOf r)
+    pub taken-begin : takeRecord s m r ≡ begin m k (operationOf r)
     unfolding takeRecord
     taken-begin = rw z
 
@@ -115,7 +115,7 @@ module _ (s : Shape) (tall : 1 ≤ s .height) (rs : List StepRecord) (r : StepRe
     unfolding event
     event-begin = rw b
 
-    none-answered : recordAnswers s m r ≡ []
+    pub none-answered : recordAnswers s m r ≡ []
     unfolding recordAnswers
     none-answered = rw z
 
@@ -132,7 +132,7 @@ module _ (s : Shape) (tall : 1 ≤ s .height) (rs : List StepRecord) (r : StepRe
         (begin-agrees run tall k (acc .process-low) (operationOf r) (acc .idle b) (acc .within b) (λ j. begins j (rs ++ (r ∷ []))) (sym one-more) no-more)
 
   module _ (z : isStep r ≡ true) where
-    busy : (o : Operation) × (n : Step) × (processOf m k .status ≡ Busy o n)
+    pub busy : (o : Operation) × (n : Step) × (processOf m k .status ≡ Busy o n)
     busy = busy-status (processOf m k .status) (acc .busy z)
 
     abbrev o : Operation
@@ -144,7 +144,7 @@ module _ (s : Shape) (tall : 1 ≤ s .height) (rs : List StepRecord) (r : StepRe
     of-step : StepTaken s m (λ j. begins j rs) (history s rs) (answersAlong s rs) k o n
     of-step = record { agrees = run; tall = tall; low = acc .process-low; busy = busy .2 }
 
-    taken-step : takeRecord s m r ≡ stepOf s m k
+    pub taken-step : takeRecord s m r ≡ stepOf s m k
     unfolding takeRecord
     taken-step = rw z
 
@@ -156,7 +156,7 @@ module _ (s : Shape) (tall : 1 ≤ s .height) (rs : List StepRecord) (r : StepRe
     unfolding event
     event-step = rw (not-begin r z, q-or-not)
 
-    answered : recordAnswers s m r ≡ (if isQ n then answerOf s m k o ∷ [] else [])
+    pub answered : recordAnswers s m r ≡ (if isQ n then answerOf s m k o ∷ [] else [])
     unfolding recordAnswers answersOf answersFrom
     answered = rw (z, busy .2)
 

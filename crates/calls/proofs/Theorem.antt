@@ -4,7 +4,7 @@ use Prim.Native.Nat.{ℕ, _*_, _≤_}
 use native.Mathlib.Omega.{arith}
 use native.Mathlib.Nat.{le-refl}
 use mathlib.Core.Path.{_≡_, refl, ap, sym, _∙_, subst}
-use mathlib.Core.Bool.{true}
+use mathlib.Core.Bool.{true, false}
 use mathlib.Core.List.{List}
 use lib.ListN.{length, take, drop}
 use lib.Seq.{take-at}
@@ -19,7 +19,7 @@ use Rattle.tree.specs.Shape.{Shape, heightFor, shapeFor}
 use Rattle.tree.specs.Layout.{wordsNeeded}
 use Rattle.steps.specs.Machine.{Machine}
 use Rattle.calls.specs.Refusals.{accepted, callRefusal}
-use Rattle.calls.specs.Run.{Played, play, runPlayed, run}
+use Rattle.calls.specs.Run.{Played, play, runTurnedDown, runPlayed, run}
 use Rattle.calls.specs.History.{machineAfter, history}
 use Rattle.calls.specs.Demand3.{QueuePromises, Demand3, RunKeeps}
 use Rattle.calls.proofs.Played.{played-machine, played-answers, played-legal}
@@ -59,6 +59,13 @@ pub demand3-played : (p l room : ℕ) (bytes : List ℕ)
 demand3-played p l room bytes = played-kept (shapeFor p l) (tall-for p l) room (stepRecords bytes)
 
 -- ---- what Run leaves in the buffers
+
+-- of a call that is turned down
+pub run-down : (p l : ℕ) (records table answers : List ℕ) → accepted (callRefusal p l (length table) (length records)) ≡ false
+    → run p l records table answers ≡ runTurnedDown (callRefusal p l (length table) (length records)) table answers
+unfolding run
+run-down p l records table answers e = rw e
+
 module _ (p l : ℕ) (records table answers : List ℕ) (taken : accepted (callRefusal p l (length table) (length records)) ≡ true) where
   abbrev s : Shape
   s = shapeFor p l

@@ -1,7 +1,7 @@
 -- What Run and list the order leave where they refuse nothing. Used by proofs; no exported promise names it.
 use Prim.Native.Nat.{ℕ}
 use mathlib.Core.Path.{_≡_, refl, ap, sym, _∙_}
-use mathlib.Core.Bool.{Bool, true, false}
+use mathlib.Core.Bool.{true, false}
 use mathlib.Core.List.{List}
 use lib.ListN.{length, take, drop}
 use lib.Seq.{take-at}
@@ -15,16 +15,8 @@ use Rattle.calls.specs.Run.{RunResult, Played, play, runPlayed, runTurne
 use Rattle.calls.specs.ListOrder.{ListResult, playAll, listRefusal, listed, listPlayed, listOrder}
 use Rattle.order.specs.OrderList.{orderList}
 use Rattle.calls.specs.Continuation.{orderLeft, listWritten}
-use Rattle.calls.proofs.Acceptance.{accepted-zero}
-use Rattle.calls.proofs.Theorem.{run-is, table-is}
-
--- a test that would have been the call's refusal did not fail
-passed-test : (n : Refusal) (answer : ℕ) → (accepted n ≡ false → answer ≡ refusalNumber n) → answer ≡ 0 → accepted n ≡ true
-passed-test n answer kept none = on (accepted n) refl
-  where
-    on : (b : Bool) → accepted n ≡ b → accepted n ≡ true
-    on true e = e
-    on false e = accepted-zero n (sym (kept e) ∙ none)
+use Rattle.calls.proofs.Acceptance.{accepted-zero, passed-test}
+use Rattle.calls.proofs.Theorem.{run-down, run-is, table-is}
 
 -- ---- Run on some bytes, without refusal
 module _ (p l : ℕ) (records table answers : List ℕ) where
@@ -35,8 +27,8 @@ module _ (p l : ℕ) (records table answers : List ℕ) where
   g = play (shapeFor p l) (length answers) (stepRecords records)
 
   run-turned-down : accepted n ≡ false → run p l records table answers .refusal ≡ refusalNumber n
-  unfolding run runTurnedDown
-  run-turned-down e = rw e
+  unfolding runTurnedDown
+  run-turned-down e = ap (λ (r : RunResult). r .refusal) (run-down p l records table answers e)
 
   module _ (none : run p l records table answers .refusal ≡ 0) where
     pub run-accepted : accepted n ≡ true

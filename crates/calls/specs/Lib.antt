@@ -10,8 +10,10 @@ pub mod Demand3
 pub mod Linearizable
 pub mod Continuation
 pub mod StableReads
+pub mod Forecast
 pub mod All
 pub mod KnownRuns
 pub mod NotJudged
 pub mod NotKept
 pub mod NotLinearizable
+pub mod NotForeseen

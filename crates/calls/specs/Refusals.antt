@@ -13,7 +13,7 @@ use Rattle.steps.specs.Process.{processesAllowed, operationsAllowed}
 use Rattle.steps.specs.Machine.{isIdle, atQ}
 use Rattle.calls.specs.declared.Refusal.{Refusal}
 use Rattle.calls.specs.declared.Refusal.the-variants.{None, Processes, Operations, TableShort, RecordsTorn}
-use Rattle.calls.specs.declared.Refusal.the-variants.{IllFormed, BeginWhileBusy, StepWhileIdle, BegunAll, AnswersFull, OutputShort, LogTorn}
+use Rattle.calls.specs.declared.Refusal.the-variants.{IllFormed, BeginWhileBusy, StepWhileIdle, BegunAll, AnswersFull, OutputShort, LogTorn, StepAmongBegins}
 
 -- the paper's number of a refusal, 0 for none
 unfoldable pub refusalNumber : Refusal → ℕ
@@ -29,6 +29,7 @@ refusalNumber BegunAll = 8
 refusalNumber AnswersFull = 9
 refusalNumber OutputShort = 10
 refusalNumber LogTorn = 11
+refusalNumber StepAmongBegins = 12
 
 unfoldable pub accepted : Refusal → Bool
 accepted n = eqb (refusalNumber n) 0
@@ -48,12 +49,13 @@ settingsRefusal p l =
     else if not (operationsAllowed l) then Operations
     else None
 
+-- its list, so many bytes of records: 4
+unfoldable pub bytesRefusal : ℕ → Refusal
+bytesRefusal bytes = if torn stepSize bytes then RecordsTorn else None
+
 -- its buffers, a work table of so many words for a tree of shape s and so many bytes of records: 3, 4
 unfoldable pub bufferRefusal : Shape → ℕ → ℕ → Refusal
-bufferRefusal s words bytes =
-    if ltb words (wordsNeeded s) then TableShort
-    else if torn stepSize bytes then RecordsTorn
-    else None
+bufferRefusal s words bytes = if ltb words (wordsNeeded s) then TableShort else bytesRefusal bytes
 
 -- a call before its first record: 1, 2, 3, 4
 unfoldable pub callRefusal : ℕ → ℕ → ℕ → ℕ → Refusal

@@ -1,5 +1,5 @@
-// What Run, list the order and check a log do, defined, and that demand 3 holds of every run. There is no code here but
-// the two enums of the answers.
+// What Run, list the order, check a log and the forecast do, defined; that demand 3 holds of every run; and the limit
+// on its records. There is no code here but the two enums of the answers.
 
 // Why a call or a record is refused.
 pub enum Refusal {
@@ -15,6 +15,7 @@ pub enum Refusal {
     AnswersFull,
     OutputShort,
     LogTorn,
+    StepAmongBegins,
 }
 
 // What checking a log finds: the same log, the index of the first record that differs, or a refusal.

@@ -9,7 +9,7 @@ use Rattle.tree.specs.Shape.{Shape, processes, heightFor, shapeFor}
 use Rattle.tree.specs.Layout.{partStart, wordsNeeded}
 use Rattle.tree.specs.Contracts.Access.{Laid}
 use Rattle.calls.proofs.Theorem.{tall-for}
-use Rattle.refusals.proofs.Limits.{allowed-most, allowed-width, shape-is, needed-for, short-for}
+use Rattle.steps.proofs.Limits.{allowed-most, allowed-width, shape-is, needed-for, short-for}
 use Rattle.player.specs.Contracts.PlayCalls.{Callable, AtStart}
 
 -- the starts that are worked out are those of the tree for p processes of at most l operations

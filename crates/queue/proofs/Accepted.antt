@@ -8,19 +8,15 @@ use mathlib.Core.List.{List}
 use lib.ListN.{length, take, replicate}
 use lib.Seq.{length-take-le}
 use Rattle.base.proofs.Repeats.{take-replicate}
-use Rattle.tree.proofs.Places.{processes-most}
 use Rattle.calls.specs.Refusals.{accepted, callRefusal}
-use Rattle.tree.specs.Shape.{shapeFor}
 use Rattle.calls.proofs.CallAccepted.{accepted-processes, accepted-operations, accepted-enough}
-use Rattle.refusals.proofs.Limits.{allowed-most, allowed-width, short-for}
+use Rattle.steps.proofs.Limits.{allowed-narrow}
 use Rattle.player.specs.Contracts.PlayCalls.{Callable}
 
 -- with 16 heads of which each is 1
 module _ (p l words bytes : ℕ) (ok : accepted (callRefusal p l words bytes) ≡ true) (heads : List ℕ) (ones : heads ≡ replicate 16 1) (j : ℕ) (is : j ≡ p) where
   narrow : p ≤ 8
-  unfolding shapeFor
-  narrow =
-      omega (arith, allowed-width p l (accepted-processes p l words bytes ok), processes-most (shapeFor p l) (short-for p l))
+  narrow = allowed-narrow p l (accepted-processes p l words bytes ok)
 
   -- the first 2p are those of the nodes
   pub accepted-heads : 2 * j ≤ length heads

@@ -8,11 +8,13 @@ use Rattle.calls.specs.Run.{RunResult}
 use Rattle.calls.specs.ListOrder.{ListResult}
 use Rattle.calls.specs.CheckLog.{CheckResult, verdictNumber, verdictIndex, checked}
 use Rattle.calls.specs.LogVerdict.{Judges}
+use Rattle.forecast.specs.declared.Forecast.{Forecast}
+use Rattle.forecast.specs.Returned.{returned}
 use Rattle.queue.specs.declared.Ran.{Ran}
 use Rattle.queue.specs.declared.Listed.{Listed}
 use Rattle.queue.specs.declared.OtqCheck.{OtqCheck}
 use Rattle.queue.specs.Left.{runLeft, listLeft, checkLeft}
-use Rattle.queue.specs.Exported.{RunExport, ListExport, CheckExport}
+use Rattle.queue.specs.Exported.{RunExport, ListExport, CheckExport, forecastExported}
 
 pub run-export : (r : Ran) (n : ℕ) (table answers : List ℕ) (e : RunResult) → runLeft r table answers ≡ e → n ≡ refusalNumber (r .refusal)
     → RunExport e (record { refusal = n; taken = r .taken; answers = r .answers }) table answers
@@ -46,3 +48,9 @@ pub check-told : (p l words : ℕ) (records log table : List ℕ) (v : Verdict) 
     → Judges p l words records log (verdictNumber v) (verdictIndex v) → Judges p l words records log (r .verdict) (r .index)
 unfolding checked
 check-told p l words records log table v r x told = rw (x .verdict, x .index) told
+
+-- a forecast, told with its refusal's number
+pub forecast-export : (r : Forecast) (n : ℕ) → n ≡ refusalNumber (r .refusal)
+    → forecastExported (record { refusal = n; words = r .words; «answer_bytes» = r .«answer_bytes»; records = r .records }) ≡ returned r
+unfolding forecastExported returned
+forecast-export r n e = rw e

@@ -22,7 +22,7 @@ use Rattle.order.specs.OrderList.{orderList}
 use Rattle.calls.specs.ListOrder.{playAll, listRefusal, listed, listPlayed, listOrder}
 use Rattle.calls.proofs.CallAccepted.{accepted-processes, accepted-operations}
 use Rattle.calls.proofs.Theorem.{tall-for}
-use Rattle.refusals.proofs.Limits.{allowed-most, allowed-width, short-for}
+use Rattle.steps.proofs.Limits.{allowed-most, allowed-width, short-for}
 use Rattle.player.specs.declared.Outcome.{Outcome}
 use Rattle.player.proofs.PlayLaws.{played-agrees}
 use Rattle.player.proofs.PlayCallLaws.{laid-for}

@@ -5,9 +5,11 @@ use mathlib.Core.List.{List}
 use Rattle.calls.specs.Run.{RunResult}
 use Rattle.calls.specs.ListOrder.{ListResult}
 use Rattle.calls.specs.CheckLog.{CheckResult}
+use Rattle.calls.specs.Forecast.{ForecastResult}
 use Rattle.queue.specs.declared.OtqRun.{OtqRun}
 use Rattle.queue.specs.declared.OtqList.{OtqList}
 use Rattle.queue.specs.declared.OtqCheck.{OtqCheck}
+use Rattle.queue.specs.declared.OtqForecast.{OtqForecast}
 
 -- r, the table and the answer bytes are what Run leaves
 pub record RunExport (e : RunResult) (r : OtqRun) (table answers : List ℕ) : Type 0 where
@@ -30,3 +32,7 @@ pub record CheckExport (e : CheckResult) (r : OtqCheck) (table : List ℕ) : Typ
   pub verdict : r .verdict ≡ e .verdict
   pub index : r .index ≡ e .index
   pub words : table ≡ e .table
+
+-- r as the forecast that it tells
+unfoldable pub forecastExported : OtqForecast → ForecastResult
+forecastExported r = record { refusal = r .refusal; words = r .words; answerBytes = r .«answer_bytes»; records = r .records }

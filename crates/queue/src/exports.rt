@@ -1,11 +1,13 @@
-// The three calls for programs in C and Rust. A refusal is its number, a verdict 0 same, 1 differs, 2 refused.
+// The calls for programs in C and Rust. A refusal is its number, a verdict 0 same, 1 differs, 2 refused.
 use crate::OtqCheck;
+use crate::OtqForecast;
 use crate::OtqList;
 use crate::OtqRun;
 use crate::check_log::check_log;
 use crate::list_order::list_order;
 use crate::run::run;
 use calls::Verdict;
+use forecast::call::forecast;
 use refusals::numbers::number;
 ghost use mathlib.Core.Path.{_≡_};
 ghost use mathlib.Core.Bool.{true};
@@ -22,8 +24,9 @@ ghost use Rattle.calls.specs.ListOrder.{listOrder};
 ghost use Rattle.calls.specs.CheckLog.{checked as checkedAs, checkLog};
 ghost use Rattle.calls.specs.LogVerdict.{Judges};
 ghost use Rattle.calls.specs.Demand3.{Demand3};
+ghost use Rattle.calls.specs.Forecast.{forecast as forecastOf, Forecasts};
 ghost use Rattle.superblocks.specs.Supers.{SupersNear};
-ghost use Rattle.queue.specs.Exported.{RunExport, ListExport, CheckExport};
+ghost use Rattle.queue.specs.Exported.{RunExport, ListExport, CheckExport, forecastExported};
 
 // Run.
 #[no_mangle]
@@ -104,4 +107,20 @@ pub extern "C" fn otq_check_log(
     ensures judges { λ r. ⌜ Judges p l (length (now (table .entry))) (now (records .entry)) (now (log .entry)) (r .verdict) (r .index) ⌝ }
 {
     checked(check_log(p, l, records, log, table))
+}
+
+// Forecast.
+#[no_mangle]
+pub extern "C" fn otq_forecast(p: u32, l: u32, begins: &[u8]) -> OtqForecast
+    ensures rules { λ r. ⌜ forecastExported r ≡ forecastOf p l (now (begins .entry)) ⌝ }
+    ensures runs { λ r. ⌜ Forecasts p l (now (begins .entry)) (forecastExported r) ⌝ }
+{
+    let r = forecast(p, l, begins);
+    let why = r.refusal;
+    OtqForecast {
+        refusal: number(why),
+        words: r.words as u64,
+        answer_bytes: r.answer_bytes as u64,
+        records: r.records as u64,
+    }
 }

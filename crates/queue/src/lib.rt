@@ -1,5 +1,5 @@
-// The public library: Run, list the order and check a log. Each call turns down, plays and leaves what its definition
-// says (crate calls).
+// The public library: Run, list the order, check a log and the forecast. Each call turns down, plays and leaves what
+// its definition says (crate calls).
 pub mod check_log;
 pub mod exports;
 pub mod list_order;
@@ -42,4 +42,14 @@ pub struct OtqCheck {
     pub refusal: u32,
     pub verdict: u32,
     pub index: u64,
+}
+
+// What the forecast returns, for C: a refusal's number, the words of the work table, the bytes of the answers, and a
+// limit on the records of any run.
+#[repr(C)]
+pub struct OtqForecast {
+    pub refusal: u32,
+    pub words: u64,
+    pub answer_bytes: u64,
+    pub records: u64,
 }

@@ -7,7 +7,7 @@ use tree::layout::height_for;
 use tree::layout::words_needed;
 ghost use mathlib.Core.Path.{_≡_};
 ghost use mathlib.Core.Bool.{true};
-ghost use Rattle.calls.specs.Refusals.{accepted as isAccepted, settingsRefusal, bufferRefusal, callRefusal};
+ghost use Rattle.calls.specs.Refusals.{accepted as isAccepted, settingsRefusal, bytesRefusal, bufferRefusal, callRefusal};
 ghost use Rattle.tree.specs.Shape.{shapeFor};
 ghost use Rattle.calls.specs.CheckLog.{checkRefusal};
 
@@ -24,6 +24,16 @@ pub fn settings(p: u32, l: u32) -> Refusal
     Refusal::None
 }
 
+// Its list, so many bytes of records: 4.
+pub fn of_bytes(bytes: usize) -> Refusal
+    ensures { λ r. ⌜ r ≡ bytesRefusal bytes ⌝ }
+{
+    if bytes % 8 != 0 {
+        return Refusal::RecordsTorn;
+    }
+    Refusal::None
+}
+
 // Its buffers, a work table of so many words and so many bytes of records: 3, 4.
 fn buffers(p: u32, l: u32, words: usize, bytes: usize) -> Refusal
     requires { ⌜ isAccepted (settingsRefusal p l) ≡ true ⌝ }
@@ -32,10 +42,7 @@ fn buffers(p: u32, l: u32, words: usize, bytes: usize) -> Refusal
     if words < words_needed(height_for(p), as_index(l)) {
         return Refusal::TableShort;
     }
-    if bytes % 8 != 0 {
-        return Refusal::RecordsTorn;
-    }
-    Refusal::None
+    of_bytes(bytes)
 }
 
 // A call: 1, 2, 3, 4.

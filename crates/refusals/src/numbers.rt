@@ -19,6 +19,7 @@ pub fn number(n: Refusal) -> u32
         Refusal::AnswersFull => 9,
         Refusal::OutputShort => 10,
         Refusal::LogTorn => 11,
+        Refusal::StepAmongBegins => 12,
     }
 }
 

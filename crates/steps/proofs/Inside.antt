@@ -8,7 +8,7 @@ use Rattle.tree.specs.Memory.{Memory}
 use Rattle.steps.specs.declared.Operation.{Operation}
 use Rattle.steps.specs.declared.Step.{Step}
 use Rattle.steps.specs.declared.Step.the-variants.{A, V1, V2, V3, R1, R2, R3, R4, R5, C1, C2, C3, C4, Q}
-use Rattle.steps.specs.declared.Status.the-variants.{Busy}
+use Rattle.steps.specs.declared.Status.the-variants.{Idle, Busy}
 use Rattle.steps.specs.Rules.{go, step}
 use Rattle.steps.specs.Machine.{isIdle, isQ}
 
@@ -46,9 +46,12 @@ module _ (s : Shape) (k : ℕ) (o : Operation) (m : Memory) where
   unfolding step
   q-memory = refl
 
-  q-idle : isIdle (step s k o m Q .next) ≡ true
-  unfolding step isIdle
+  q-idle : step s k o m Q .next ≡ Idle
+  unfolding step
   q-idle = refl
+
+  pub q-next : (n : Step) → isQ n ≡ true → step s k o m n .next ≡ Idle
+  q-next n q = ap (λ (x : Step). step s k o m x .next) (is-q n q) ∙ q-idle
 
   -- after a step that leaves the process busy it is inside the same operation, and the step was not Q
   pub next-busy : (n : Step) (o' : Operation) (n' : Step) → step s k o m n .next ≡ Busy o' n' → (isQ n ≡ false) × (o ≡ o')
@@ -56,7 +59,7 @@ module _ (s : Shape) (k : ℕ) (o : Operation) (m : Memory) where
   next-busy n o' n' e = on (goes n)
     where
       on : (n ≡ Q) ⊎ Goes n → (isQ n ≡ false) × (o ≡ o')
-      on (inl q) = absurd (false≢true (sym (ap isIdle e) ∙ ap (λ (x : Step). isIdle (step s k o m x .next)) q ∙ q-idle))
+      on (inl q) = absurd (false≢true (sym (ap isIdle e) ∙ ap (λ (x : Step). isIdle (step s k o m x .next)) q ∙ ap isIdle q-idle))
       on (inr g) = let f = g .1 s k o m .1 in (g .0, cc)
 
   -- any other step leaves the process busy

@@ -137,6 +137,10 @@ module _ (s : Shape) (tall : 1 ≤ s .height) (m : Machine) (inv : Invariant s m
     pub step-effect : Effect s k o (m .memory) (holding m k) (r .memory) (stageOf (r .next))
     step-effect = subst (λ (x : Stage). Effect s k o (m .memory) x (r .memory) (stageOf (r .next))) (sym at) eff
 
+    -- what it may still take is less
+    pub rest-lower : restOf s (r .next) < rest s n
+    rest-lower = rest-step s tall k kp o (m .memory) n (step-nodes s (m .memory) (holding m) k kp (p .begun) n carried)
+
     own-sound : ProcessSound s (r .memory) (holding (withProcess m k next (r .memory))) k next
     own-sound =
         record {
@@ -146,12 +150,7 @@ module _ (s : Shape) (tall : 1 ≤ s .height) (m : Machine) (inv : Invariant s m
               carried-turn s (m .memory) (inv .sized) (inv .sound) (holding m) (holding (withProcess m k next (r .memory))) k kp o
               (others s m inv k kp next (r .memory) o step-effect) (registers s m inv) (p .begun) (inv .process k kp .within) (turn s k o (m .memory) n) at
               (here s m inv k kp next (r .memory) o step-effect) (eff' s m inv k kp next (r .memory) o step-effect) own carried;
-          bounded =
-              omega (
-                arith,
-                subst (λ (x : Status). p .steps + restOf s x ≤ rest s A) busy (inv .process k kp .bounded),
-                rest-step s tall k kp o (m .memory) n (step-nodes s (m .memory) (holding m) k kp (p .begun) n carried),
-              );
+          bounded = omega (arith, subst (λ (x : Status). p .steps + restOf s x ≤ rest s A) busy (inv .process k kp .bounded), rest-lower);
         }
 
     -- the operation has not taken all the own steps that it may take

@@ -12,4 +12,6 @@ pub mod CarriedTurn
 pub mod Invariant
 pub mod Keeps
 pub mod Inside
+pub mod Overall
+pub mod Limits
 pub mod Readiness

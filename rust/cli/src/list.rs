@@ -5,7 +5,8 @@ use crate::failure::Failure;
 use crate::files::{Holds, Name, Source};
 use crate::notation::{Exercise, Heading, Mistake, Record};
 use crate::tool::{tell, Tool};
-use otq::{Answer, Played, Refusal, Run, Step, Verdict};
+use crate::words::count;
+use otq::{Answer, Forecast, Played, Refusal, Run, Step, Verdict};
 
 /// A list: a text exercise, or binary records with p and L of the command line.
 pub struct List {
@@ -165,6 +166,33 @@ impl List {
         Ok(verdict)
     }
 
+    /// Forecast, of a list of begins.
+    pub fn forecast(&self) -> Result<Result<Forecast, Refusal>, Failure> {
+        let told = otq::forecast(self.p(), self.l(), self.bytes());
+        self.all_seen(told.err())?;
+        Ok(told)
+    }
+
+    /// The records before the first that a forecast turns down. A beginning of the list is taken just
+    /// if it ends before that record, so that halving finds it.
+    pub fn begins_taken(&self) -> usize {
+        let (mut taken, mut most) = (0, self.records().len());
+        while taken < most {
+            let tried = taken + (most - taken).div_ceil(2);
+            let first = &self.bytes()[..Step::BYTES * tried];
+            match otq::forecast(self.p(), self.l(), first) {
+                Ok(_) => taken = tried,
+                Err(_) => most = tried - 1,
+            }
+        }
+        taken
+    }
+
+    /// Whether a forecast takes the whole list with this p and this L.
+    pub fn is_forecast_with(&self, p: u32, l: u32) -> bool {
+        !self.exercise.longer && otq::forecast(p, l, self.bytes()).is_ok()
+    }
+
     /// Of a longer text than is kept, only a refusal among the records that are kept counts.
     fn all_seen(&self, refusal: Option<Refusal>) -> Result<(), Failure> {
         match refusal.is_none() && self.exercise.longer {
@@ -252,8 +280,9 @@ pub fn leave_out_torn(name: &Name, bytes: &mut Vec<u8>, size: usize) {
     let at = bytes.len() - torn;
     bytes.truncate(at);
     if torn > 0 {
+        let left_out = count(torn, "byte");
         tell(&format!(
-            "otq: {name}: left out the last {torn} bytes, from byte {at} on"
+            "otq: {name}: left out the last {left_out}, from byte {at} on"
         ));
     }
 }

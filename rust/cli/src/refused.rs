@@ -14,7 +14,7 @@ pub fn advice(refusal: Refusal) -> &'static str {
         Refusal::Operations => "Give the L that the list was made for, with -L or `operations`.",
         Refusal::TableShort => "Take the line `table` out of the heading, or lend more words.",
         Refusal::RecordsTorn => {
-            "The file was cut, or is no list of steps. Get it again, or play its whole records with \
+            "The file was cut, or is no list of steps. Get it again, or take its whole records with \
              --whole; `otq show --as steps` shows where it is torn."
         }
         Refusal::IllFormed => {
@@ -33,7 +33,8 @@ pub fn advice(refusal: Refusal) -> &'static str {
         }
         Refusal::BegunAll => {
             "Give a larger L, with -L or `operations`, up to 500. 8 is tested before 6: if the process \
-             is also still inside its last operation, the list then stops with 6 at the same record."
+             of a list that is played is also still inside its last operation, the list then stops with 6 \
+             at the same record."
         }
         Refusal::AnswersFull => "Take the line `answers` out of the heading, or lend more bytes.",
         Refusal::OutputShort => "Lend an output of 8 bytes for each operation.",
@@ -41,7 +42,18 @@ pub fn advice(refusal: Refusal) -> &'static str {
             "The log was cut, or is no log. Get it again, or check its whole answers with --whole; \
              `otq show --as log` shows where it is torn."
         }
+        Refusal::StepAmongBegins => {
+            "`otq forecast` takes begins alone, one for each operation. `grep -v '^ *step' FILE | otq \
+             forecast -` leaves out the step lines of a text; `otq decode` makes a text of records."
+        }
     }
+}
+
+/// What a list was given to: to a call that plays it, or to the forecast.
+#[derive(Clone, Copy, PartialEq, Eq)]
+enum Call {
+    Play,
+    Forecast,
 }
 
 /// A refused call.
@@ -58,12 +70,22 @@ pub struct Refused<'a> {
 impl Refused<'_> {
     /// A refusal of a list of which so many records were taken.
     pub fn of_list(list: &List, refusal: Refusal, taken: usize) -> Refused<'_> {
+        Refused::new(list, Call::Play, refusal, taken)
+    }
+
+    /// A refusal of a forecast which so many begins passed.
+    pub fn of_begins(list: &List, refusal: Refusal, taken: usize) -> Refused<'_> {
+        Refused::new(list, Call::Forecast, refusal, taken)
+    }
+
+    fn new(list: &List, call: Call, refusal: Refusal, taken: usize) -> Refused<'_> {
         let of_record = [
             Refusal::IllFormed,
             Refusal::BeginWhileBusy,
             Refusal::StepWhileIdle,
             Refusal::BegunAll,
             Refusal::AnswersFull,
+            Refusal::StepAmongBegins,
         ];
         let record = of_record.contains(&refusal).then_some(taken);
         Refused {
@@ -71,10 +93,10 @@ impl Refused<'_> {
             list,
             record,
             standing: match record {
-                Some(record) => standing(list, refusal, record),
+                Some(record) => standing(list, call, refusal, record),
                 None => given(list, refusal),
             },
-            cause: cause(list, refusal),
+            cause: cause(list, call, refusal),
         }
     }
 
@@ -161,7 +183,7 @@ fn given(list: &List, refusal: Refusal) -> Option<String> {
 
 /// How the refused record meets its process, read off the records before it; of 8, whether the process
 /// is also inside an operation is asked of the library.
-fn standing(list: &List, refusal: Refusal, record: usize) -> Option<String> {
+fn standing(list: &List, call: Call, refusal: Refusal, record: usize) -> Option<String> {
     let bytes = list.records()[record];
     let process = bytes[0];
     let last = |begin: bool| {
@@ -184,7 +206,9 @@ fn standing(list: &List, refusal: Refusal, record: usize) -> Option<String> {
         Refusal::BegunAll => {
             let begun = count(list.l() as usize, "operation");
             let all = format!("process {process} has begun {begun}, and L is {}", list.l());
-            let inside = last(true).filter(|_| list.is_inside(process, record));
+            // In a forecast no process is inside anything.
+            let played = call == Call::Play;
+            let inside = last(true).filter(|_| played && list.is_inside(process, record));
             Some(match inside {
                 None => all,
                 Some(begin) => {
@@ -210,9 +234,17 @@ fn ill_formed(record: Record, p: u32) -> String {
 }
 
 /// What may have caused a refusal, where that is cheap to know.
-fn cause(list: &List, refusal: Refusal) -> Option<String> {
+fn cause(list: &List, call: Call, refusal: Refusal) -> Option<String> {
     match refusal {
-        Refusal::RecordsTorn => Some(torn(list.bytes().len(), Step::BYTES, "record", "plays")),
+        Refusal::RecordsTorn => {
+            let does = match call {
+                Call::Play => "plays",
+                Call::Forecast => "forecasts",
+            };
+            Some(torn(list.bytes().len(), Step::BYTES, "record", does))
+        }
+        Refusal::StepAmongBegins => mostly_steps(list)
+            .then(|| "it is a whole list, and a forecast is of its begins alone".to_string()),
         Refusal::AnswersFull => {
             let lent = list.heading().answer_bytes();
             let room = count(lent / Answer::BYTES, "answer");
@@ -224,7 +256,7 @@ fn cause(list: &List, refusal: Refusal) -> Option<String> {
             Some("the file holds answer records: it is a log, and not a list of steps".to_string())
         }
         Refusal::TableShort | Refusal::OutputShort | Refusal::LogTorn => None,
-        _ => other_numbers(list),
+        _ => other_numbers(list, call),
     }
 }
 
@@ -243,14 +275,21 @@ fn holds_answers(list: &List) -> bool {
     torn.is_empty() && answers.iter().all(proper)
 }
 
+/// Whether a list has more steps than begins, as a list that is played to its end has.
+fn mostly_steps(list: &List) -> bool {
+    let records = list.records();
+    2 * records.iter().filter(|record| record[1] == 0).count() > records.len()
+}
+
 /// Another p, another L, or both, with which the whole list is taken.
-fn other_numbers(list: &List) -> Option<String> {
+fn other_numbers(list: &List, call: Call) -> Option<String> {
     let (p, l) = (list.p(), list.l());
     let needed = most_begins(list);
     let tried = |l: u32| {
-        let taken = [2, 4, 8]
-            .into_iter()
-            .filter(move |&p| list.is_taken_with(p, l));
+        let taken = [2, 4, 8].into_iter().filter(move |&p| match call {
+            Call::Play => list.is_taken_with(p, l),
+            Call::Forecast => list.is_forecast_with(p, l),
+        });
         taken.map(move |p| (p, l))
     };
     let mut found: Vec<(u32, u32)> = tried(l).collect();

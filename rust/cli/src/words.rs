@@ -71,3 +71,36 @@ pub fn count(number: usize, thing: &str) -> String {
         _ => format!("{number} {thing}s"),
     }
 }
+
+/// The same with commas between thousands, such as `1,770 words`.
+pub fn amount(number: u64, thing: &str) -> String {
+    let counted = count(number as usize, thing);
+    let digits = number.to_string().len();
+    let mut told = String::new();
+    for (index, c) in counted.chars().enumerate() {
+        if index > 0 && index < digits && (digits - index).is_multiple_of(3) {
+            told.push(',');
+        }
+        told.push(c);
+    }
+    told
+}
+
+#[cfg(test)]
+mod tests {
+    use super::amount;
+
+    #[test]
+    fn amounts() {
+        for (number, told) in [
+            (0, "0 words"),
+            (1, "1 word"),
+            (999, "999 words"),
+            (1_000, "1,000 words"),
+            (440_000, "440,000 words"),
+            (1_234_567, "1,234,567 words"),
+        ] {
+            assert_eq!(amount(number, "word"), told);
+        }
+    }
+}

@@ -5,7 +5,7 @@ use crate::support::{assert_fails, written};
 #[test]
 fn every_refusal() {
     let all = written(&["explain"]);
-    for number in 1..=11 {
+    for number in 1..=12 {
         let one = written(&["explain", &number.to_string()]);
         let (meaning, advice) = one.split_once(".\n").unwrap();
         assert!(meaning.starts_with(&format!("{number} ")), "{one}");
@@ -17,7 +17,11 @@ fn every_refusal() {
 #[test]
 fn the_order_of_the_tests() {
     let all = written(&["explain"]);
-    for order in ["Of a begin: 5, 8, 6.", "Of a step: 5, 7, of a run then 9."] {
+    for order in [
+        "Of a begin: 5, 8, 6.",
+        "Of a step: 5, 7, of a run then 9.",
+        "Of a forecast: 1, 2, 4, and of each record: 5, 12, 8.",
+    ] {
         assert!(all.contains(order), "{all}");
     }
     let instead = "A process that has begun L is refused with 8 instead.\n";
@@ -43,8 +47,8 @@ fn records() {
 
 #[test]
 fn unknown_numbers() {
-    for word in ["0", "12", "-", "six", "4294967296", ""] {
-        let message = format!("otq: expected a number from 1 to 11 or `records`, found `{word}`\n");
+    for word in ["0", "13", "-", "six", "4294967296", ""] {
+        let message = format!("otq: expected a number from 1 to 12 or `records`, found `{word}`\n");
         assert_fails(&["explain", word], 2, &message);
     }
 }

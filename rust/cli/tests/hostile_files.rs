@@ -13,6 +13,7 @@ fn commands(file: &str) -> Vec<Vec<&str>> {
         with_numbers("trace", &[file]),
         with_numbers("check", &[file, LOG]),
         with_numbers("check", &[STEPS, file]),
+        with_numbers("forecast", &[file]),
         vec!["show", "--as", "steps", file],
         vec!["show", "--as", "log", file],
         vec!["show", "--as", "order", file],
@@ -78,6 +79,10 @@ fn the_wrong_sort_of_file() {
                 "{words:?} {said:?}"
             );
         }
+        "forecast" => {
+            assert_eq!(said.status, 3, "{words:?}");
+            assert!(said.err.starts_with("otq: refused with 12: "), "{said:?}");
+        }
         _ => assert_eq!((said.status, said.err.as_str()), (0, ""), "{words:?}"),
     });
     let prose = file(
@@ -119,7 +124,7 @@ fn torn_and_changed_lists() {
         let mut steps = steps.clone();
         steps[bit / 8] ^= 1 << (bit % 8);
         let changed = file("changed.bin", &steps);
-        for command in ["run", "order", "trace"] {
+        for command in ["run", "order", "trace", "forecast"] {
             otq(&with_numbers(command, &[&changed]));
         }
         otq(&with_numbers("check", &[&changed, LOG]));
@@ -131,7 +136,7 @@ fn torn_and_changed_lists() {
 fn hostile_texts() {
     let long = file("long-line.txt", &b"step 0 ".repeat(10_000));
     let message = format!("{long}:1: expected a line of at most 10000 bytes\n");
-    for command in ["run", "order", "trace", "encode"] {
+    for command in ["run", "order", "trace", "forecast", "encode"] {
         assert_eq!(
             otq(&[command, &long]),
             Said {

@@ -35,18 +35,17 @@ fn zeros(name: &str) -> String {
 #[test]
 fn a_huge_list_of_records() {
     let huge = zeros("huge.steps");
-    for words in [
-        with_numbers("run", &[&huge]),
-        with_numbers("order", &[&huge]),
-        with_numbers("trace", &[&huge]),
-        with_numbers("check", &[&huge, LOG]),
+    for (words, number) in [
+        (with_numbers("run", &[&huge]), 7),
+        (with_numbers("order", &[&huge]), 7),
+        (with_numbers("trace", &[&huge]), 7),
+        (with_numbers("check", &[&huge, LOG]), 7),
+        (with_numbers("forecast", &[&huge]), 12),
     ] {
         let said = otq_limited(&words);
         assert_eq!(said.status, 3, "{words:?} {said:?}");
-        assert!(
-            said.err.starts_with("otq: refused with 7: "),
-            "{words:?} {said:?}"
-        );
+        let told = format!("otq: refused with {number}: ");
+        assert!(said.err.starts_with(&told), "{words:?} {said:?}");
     }
     let input = File::open(&huge).expect("a file");
     let said = otq_reading(&with_numbers("run", &["-"]), input.into());
@@ -131,12 +130,39 @@ fn huge_texts() {
             "{list}"
         );
         assert!(said.err.contains(&format!(", {list}:{line}\n")), "{said:?}");
-        for command in ["order", "trace"] {
+        for command in ["order", "trace", "forecast"] {
             assert_eq!(otq_limited(&[command, list]).status, 3, "{command} {list}");
         }
     }
     // Its reader is gone after some lines.
     assert_eq!(otq_limited(&["encode", &many_steps]).status, 0);
+}
+
+/// More begins than a text is kept for: the first too many is told.
+#[test]
+fn huge_lists_of_begins() {
+    let text = b"processes 4\ntake by 1\n".to_vec();
+    let text = [text, b"put 1 by 0\n".repeat(BYTES as usize / 80)].concat();
+    let text = file("many-begins.txt", &text);
+    let records = file(
+        "many-begins.bin",
+        &[0, 1, 0, 0, 7, 0, 0, 0].repeat(BYTES as usize / 8),
+    );
+    for (words, record) in [
+        (
+            vec!["forecast", &text],
+            format!("record 26, byte 200: put 1 by 0 (00 01 00 00 01 00 00 00), {text}:27\n"),
+        ),
+        (
+            with_numbers("forecast", &[&records]),
+            "record 4, byte 24: put 7 by 0 ".to_string(),
+        ),
+    ] {
+        let said = otq_limited(&words);
+        assert_eq!((said.status, said.out.as_str()), (3, ""), "{said:?}");
+        assert!(said.err.starts_with("otq: refused with 8: "), "{said:?}");
+        assert!(said.err.contains(&format!("\n  {record}")), "{said:?}");
+    }
 }
 
 /// Input without an end.

@@ -5,7 +5,7 @@
 #[allow(dead_code)]
 mod support;
 
-use support::{bytes, content, otq, with_numbers, written, LOG, STEPS, TEXT};
+use support::{bytes, content, otq, with_numbers, written, BEGINS, LOG, STEPS, TEXT};
 
 #[test]
 fn commands_that_call_the_library() {
@@ -13,6 +13,7 @@ fn commands_that_call_the_library() {
         vec!["run", TEXT],
         vec!["order", TEXT],
         vec!["check", TEXT, LOG],
+        vec!["forecast", BEGINS],
         vec!["trace", TEXT],
         vec!["make", "-p", "2", "-L", "1", "--pace", "one", "--seed", "1"],
     ] {

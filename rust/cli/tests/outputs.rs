@@ -1,7 +1,8 @@
 //! Outputs that fail: a reader that has gone, a full disk, files that may not be written.
 
 use crate::support::{
-    assert_fails, command, content, file, otq, path, with_numbers, Said, LOG, STEPS, TEXT, WRONG,
+    assert_fails, command, content, file, otq, path, with_numbers, Said, BEGINS, LOG, STEPS, TEXT,
+    WRONG,
 };
 use std::fs::{self, File};
 use std::process::Stdio;
@@ -17,6 +18,8 @@ fn commands() -> Vec<(Vec<&'static str>, i32)> {
         (vec!["order", TEXT], 0),
         (vec!["check", TEXT, LOG], 0),
         (vec!["check", TEXT, WRONG, "--all"], 1),
+        (vec!["forecast", BEGINS], 0),
+        (vec!["forecast", TEXT, "--json"], 3),
         (vec!["show", "--as", "log", LOG], 0),
         (vec!["trace", TEXT], 0),
         (make.to_vec(), 0),

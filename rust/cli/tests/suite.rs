@@ -4,6 +4,7 @@ mod checking;
 mod coding;
 mod errors;
 mod explaining;
+mod forecasting;
 mod hostile_files;
 mod huge_files;
 mod known_runs;

@@ -121,6 +121,9 @@ pub const WRONG: &str = "examples/supplier/wrong.bin";
 pub const TORN: &str = "examples/supplier/torn.bin";
 pub const NUMBERS: [&str; 4] = ["-p", "2", "-L", "3"];
 
+/// Begins alone, of four processes.
+pub const BEGINS: &str = "examples/forecast/begins.txt";
+
 /// The words of a command on binary records of the example.
 pub fn with_numbers<'a>(command: &'a str, words: &[&'a str]) -> Vec<&'a str> {
     [&[command], &NUMBERS[..], words].concat()

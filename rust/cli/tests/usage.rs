@@ -4,8 +4,8 @@ use crate::support::{assert_fails, otq, otq_on, with_numbers, written, LOG, NUMB
 use std::ffi::OsStr;
 use std::os::unix::ffi::OsStrExt;
 
-const COMMANDS: [&str; 9] = [
-    "run", "order", "check", "show", "trace", "make", "encode", "decode", "explain",
+const COMMANDS: [&str; 10] = [
+    "run", "order", "check", "forecast", "show", "trace", "make", "encode", "decode", "explain",
 ];
 
 #[test]
@@ -25,6 +25,9 @@ fn help_and_version() {
             of_command
         );
     }
+    let forecast = written(&["forecast", "--help"]);
+    assert!(forecast.contains("with these begins in this order"));
+    assert!(forecast.contains("\n\nBEGINS is ") && !forecast.contains("\n\nSTEPS is "));
     assert_eq!(written(&["help"]), help);
     assert_eq!(written(&["-h"]), help);
     assert_eq!(
@@ -70,6 +73,11 @@ fn wrong_options() {
         "otq: a file is missing; usage: otq check",
     );
     assert_fails(
+        &["forecast"],
+        2,
+        "otq: a file is missing; usage: otq forecast [-p P -L L] BEGINS [--whole] [--json]\n",
+    );
+    assert_fails(
         &["check", "-", "-"],
         2,
         "otq: standard input can be read once; ",
@@ -109,6 +117,7 @@ fn p_and_l() {
         &["run", STEPS][..],
         &["order", "-p", "2", STEPS],
         &["trace", "-L", "3", STEPS],
+        &["forecast", STEPS],
     ] {
         assert_fails(words, 2, &message);
     }
@@ -116,7 +125,9 @@ fn p_and_l() {
     let message = format!("otq: {TEXT}: its heading says `processes 2`, and not -p 4\n");
     assert_fails(&["run", "-p", "4", TEXT], 2, &message);
     let message = format!("otq: {TEXT}: its heading says `operations 3`, and not -L 4\n");
-    assert_fails(&["run", "-L", "4", TEXT], 2, &message);
+    for command in ["run", "forecast"] {
+        assert_fails(&[command, "-L", "4", TEXT], 2, &message);
+    }
     assert_eq!(
         written(&with_numbers("run", &[TEXT])),
         written(&["run", TEXT])
@@ -128,6 +139,10 @@ fn p_and_l() {
         "put 1 1 15 1\nend 0 16\n"
     );
     assert_eq!(otq_on(&["run", "-"], list).out, "end 0 16\n");
+    assert_eq!(
+        otq_on(&["forecast", "-p", "2", "-"], b"put 7 by 1\n").out,
+        "room for 1 operation: 594 words, 16 answer bytes, at most 38 records\n"
+    );
 }
 
 #[test]

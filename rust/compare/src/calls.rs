@@ -1,10 +1,11 @@
-//! The three calls, each made of the library and of the reference on equal buffers.
+//! The calls, each made of the library and of the reference on equal buffers.
 //!
 //! A call returns what both gave; it panics where they differ.
 
 use crate::buffers::{bytes, words, Buffer};
 use otq::{Refusal, Verdict};
 use reference::check::{self, CheckResult};
+use reference::forecast::{self, ForecastResult};
 use reference::list::{self, ListResult};
 use reference::run::{self, RunResult};
 
@@ -99,6 +100,26 @@ impl Input<'_> {
             check::check_log(p, l, records, log, table)
         });
         same(found, expected, told).result
+    }
+
+    /// The forecast; the records are begins.
+    pub fn forecast(self) -> ForecastResult {
+        let Input { p, l, records } = self;
+        let found = match otq::forecast(p, l, records) {
+            Ok(foreseen) => ForecastResult {
+                refusal: 0,
+                words: foreseen.words,
+                answer_bytes: foreseen.answer_bytes,
+                records: foreseen.records,
+            },
+            Err(refusal) => ForecastResult {
+                refusal: refusal.number(),
+                ..ForecastResult::default()
+            },
+        };
+        let expected = forecast::forecast(p, l, records);
+        assert_eq!(found, expected, "forecast: p {p}, l {l}, {records:?}");
+        expected
     }
 
     fn told(self, call: &str, words: usize, bytes: usize) -> String {

@@ -3,5 +3,5 @@
 
 pub mod buffers;
 pub mod calls;
-pub mod hostile;
+pub mod forecasts;
 pub mod random_calls;

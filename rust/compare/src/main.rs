@@ -1,5 +1,6 @@
 //! compare RECORDS [SEED]: compares the compiled library with the reference on random and hostile
-//! lists until so many records were played. It ends with a panic at the first difference.
+//! lists until so many records were played. It ends with a panic at the first difference. Last it
+//! tells which numbers and verdicts were never met, as some are not where records are few.
 
 use compare::random_calls::compare;
 use std::io::{stderr, Write};
@@ -42,5 +43,10 @@ fn compare_records(records: u64, seed: u64) -> ExitCode {
     );
     println!("calls by refusal number, from 0: {:?}", tally.refusals);
     println!("verdicts same, differs, refused: {:?}", tally.verdicts);
+    println!("{}", tally.forecasts);
+    let never = tally.never_met();
+    if !never.is_empty() {
+        println!("never met: {}", never.join(", "));
+    }
     ExitCode::SUCCESS
 }

@@ -1,8 +1,9 @@
 //! Random calls, for as many records as one wants.
 
 use crate::calls::Input;
-use crate::hostile::{below, harm_list, harm_log};
+use crate::forecasts::Forecasts;
 use otq::{most_answer_bytes, most_order_bytes, table_words};
+use reference::hostile::{below, harm_list, harm_log};
 use reference::process::STEP_NAMES;
 use reference::random::Random;
 use reference::schedules::{schedule, Ending, Pace, Plan};
@@ -13,10 +14,11 @@ pub struct Tally {
     pub lists: u64,
     /// Records taken by the runs with room for every answer.
     pub records: u64,
-    /// By number, of all calls together; entry 0 counts the calls that refused nothing.
+    /// By number, of all calls that play records; entry 0 counts those that refused nothing.
     pub refusals: [u64; 12],
     /// Same, differs, refused.
     pub verdicts: [u64; 3],
+    pub forecasts: Forecasts,
 }
 
 /// Compares calls on random lists until so many records were played. After each list `told` is
@@ -45,6 +47,19 @@ impl Tally {
         self.lists += 1;
         self.compare_runs(random, input);
         self.compare_lists(random, input);
+        self.forecasts.compare_hostile(random);
+    }
+
+    /// What no call gave, though one can.
+    pub fn never_met(&self) -> Vec<String> {
+        let refusals = (0..).zip(&self.refusals);
+        let verdicts = ["same", "differs", "refused"].into_iter();
+        let calls = refusals.map(|(number, &calls)| (format!("number {number}"), calls));
+        let verdicts = verdicts.zip(self.verdicts);
+        let verdicts = verdicts.map(|(verdict, checks)| (format!("verdict {verdict}"), checks));
+        let all = calls.chain(verdicts).chain(self.forecasts.met());
+        let never = all.filter(|&(_, times)| times == 0);
+        never.map(|(what, _)| what).collect()
     }
 
     /// Run with all the room that it can use, then on other lengths; and checks of its log.
@@ -53,6 +68,7 @@ impl Tally {
         let (ran, log) = input.run(needed(input), most);
         self.records += ran.taken;
         self.count(ran.refusal);
+        self.forecasts.compare_run(random, input, ran, &log);
         let (ran, _) = input.run(table(random, input), near(random, log.len()));
         self.count(ran.refusal);
         let mut given = log;

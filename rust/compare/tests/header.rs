@@ -8,7 +8,7 @@ use std::process::Command;
 
 use crate::support::{needed, repository};
 
-const REFUSALS: [(&str, Refusal); 11] = [
+const REFUSALS: [(&str, Refusal); 12] = [
     ("OTQ_PROCESSES", Refusal::Processes),
     ("OTQ_OPERATIONS", Refusal::Operations),
     ("OTQ_TABLE_SHORT", Refusal::TableShort),
@@ -20,6 +20,7 @@ const REFUSALS: [(&str, Refusal); 11] = [
     ("OTQ_ANSWERS_FULL", Refusal::AnswersFull),
     ("OTQ_OUTPUT_SHORT", Refusal::OutputShort),
     ("OTQ_LOG_TORN", Refusal::LogTorn),
+    ("OTQ_STEP_AMONG_BEGINS", Refusal::StepAmongBegins),
 ];
 
 /// A file of these tests.
@@ -76,6 +77,16 @@ fn program(standard: &str, source: &Path) -> PathBuf {
     program
 }
 
+/// The program of this source writes this, in both languages.
+fn assert_writes(name: &str, source: &str, expected: &str) {
+    let file = scratch(name);
+    fs::write(&file, source).expect("the file is written");
+    for standard in ["c99", "c++11"] {
+        let program = program(standard, &file);
+        assert_eq!(written(&mut Command::new(program)), expected);
+    }
+}
+
 fn assert_worked(standard: &str) {
     let example = repository().join("examples/c");
     let program = program(standard, &example.join("worked.c"));
@@ -102,7 +113,7 @@ int main(void)
     uint32_t number;
     printf(\"%d %d %d\\n\", OTQ_TABLE_WORDS(p, l) == 42, OTQ_MOST_ANSWER_BYTES(p, l) == 32,
            OTQ_MOST_OUTPUT_BYTES(p, l) == 16);
-    for (number = 0; number <= 12; number++) {
+    for (number = 0; number <= 13; number++) {
         puts(otq_refusal_text(number));
     }
     return 0;
@@ -114,12 +125,44 @@ fn macros_and_texts() {
     let texts = REFUSALS.map(|(_, refusal)| format!("{refusal}\n"));
     let texts = texts.concat();
     let expected = format!("1 1 1\nnothing is refused\n{texts}no refusal has this number\n");
-    let source = scratch("user.c");
-    fs::write(&source, USER).expect("the file is written");
-    for standard in ["c99", "c++11"] {
-        let program = program(standard, &source);
-        assert_eq!(written(&mut Command::new(program)), expected);
-    }
+    assert_writes("user.c", USER, &expected);
+}
+
+/// Each outcome of a forecast, field by field.
+const FORECASTER: &str = "#include \"otq.h\"
+#include <inttypes.h>
+#include <stdio.h>
+static void tell(uint32_t p, uint32_t l, const uint8_t *begins, size_t count)
+{
+    OtqForecast told = otq_forecast(p, l, begins, count);
+    printf(\"%\" PRIu32 \" %\" PRIu64 \" %\" PRIu64 \" %\" PRIu64 \"\\n\", told.refusal, told.words,
+           told.answer_bytes, told.records);
+}
+int main(void)
+{
+    static const uint8_t begins[] = {0, 1, 0, 0, 7, 0, 0, 0, 1, 2, 0, 0, 0, 0, 0, 0};
+    static const uint8_t step[] = {1, 0, 0, 0, 0, 0, 0, 0};
+    static const uint8_t twice[] = {1, 2, 0, 0, 0, 0, 0, 0, 1, 2, 0, 0, 0, 0, 0, 0};
+    static const uint8_t ill_formed_step[] = {1, 0, 0, 0, 7, 0, 0, 0};
+    tell(2, 1, begins, sizeof begins);
+    tell(4, 24, begins, sizeof begins);
+    tell(8, 500, begins, 0);
+    tell(3, 1, begins, sizeof begins);
+    tell(2, 501, begins, sizeof begins);
+    tell(2, 1, begins, 15);
+    tell(2, 1, ill_formed_step, sizeof ill_formed_step);
+    tell(2, 1, step, sizeof step);
+    tell(2, 1, twice, sizeof twice);
+    return 0;
+}
+";
+
+#[test]
+fn forecasts() {
+    let foreseen = "0 42 32 76\n0 1770 32 148\n0 96090 0 0\n";
+    let refused = [1, 2, 4, 5, 12, 8].map(|number| format!("{number} 0 0 0\n"));
+    let expected = format!("{foreseen}{}", refused.concat());
+    assert_writes("forecaster.c", FORECASTER, &expected);
 }
 
 #[test]
@@ -133,6 +176,11 @@ fn numbers_and_sizes() {
         ("sizeof(OtqRun)", 24),
         ("sizeof(OtqList)", 16),
         ("sizeof(OtqCheck)", 16),
+        ("sizeof(OtqForecast)", 32),
+        ("offsetof(OtqForecast, refusal)", 0),
+        ("offsetof(OtqForecast, words)", 8),
+        ("offsetof(OtqForecast, answer_bytes)", 16),
+        ("offsetof(OtqForecast, records)", 24),
     ];
     let mut expected = Vec::from(refusals);
     expected.extend(others.map(|(name, number)| (name.to_string(), number)));

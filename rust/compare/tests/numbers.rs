@@ -21,6 +21,9 @@ fn every_pair() {
         for l in NUMBERS {
             // 42 words are enough for the smallest tree alone.
             let needed = table_words(p, l).unwrap_or(42);
+            for records in LISTS {
+                Input { p, l, records }.forecast();
+            }
             for words in [0, needed - 1, needed, needed + 1] {
                 for records in LISTS {
                     compare(Input { p, l, records }, words);

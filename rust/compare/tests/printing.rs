@@ -1,7 +1,7 @@
 //! The printing program against the reference's print.
 
 use crate::support::{mixed_list, repository};
-use compare::hostile::harm_list;
+use reference::hostile::harm_list;
 use reference::lists::List;
 use reference::print::{print_run, L, P, RECORD_BYTES};
 use reference::random::Random;

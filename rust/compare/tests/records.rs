@@ -1,32 +1,8 @@
 //! Every record that can be wrong, at every place of a list.
 
-use crate::support::{compare_amply, mixed_list, needed};
+use crate::support::{candidates, compare_amply, mixed_list, needed};
 use otq::{Refusal, Verdict};
 use reference::lists::List;
-
-/// Ill-formed records of each sort, and a step, a begin of a put and a begin of a take by each process:
-/// at most places these are of an idle process, of a busy one, or past L.
-fn candidates(p: u8) -> Vec<[u8; 8]> {
-    let mut candidates = vec![
-        [p, 0, 0, 0, 0, 0, 0, 0],
-        [255, 1, 0, 0, 7, 0, 0, 0],
-        [0, 3, 0, 0, 0, 0, 0, 0],
-        [1, 255, 0, 0, 0, 0, 0, 0],
-        [0, 1, 1, 0, 0, 0, 0, 0],
-        [0, 1, 0, 128, 0, 0, 0, 0],
-    ];
-    for byte in 4..8 {
-        for kind in [0, 2] {
-            let mut record = [1, kind, 0, 0, 0, 0, 0, 0];
-            record[byte] = 1;
-            candidates.push(record);
-        }
-    }
-    for process in 0..p {
-        candidates.extend([0, 1, 2].map(|kind| [process, kind, 0, 0, 0, 0, 0, 0]));
-    }
-    candidates
-}
 
 fn compare_each(p: u32, l: u32) {
     let list = mixed_list(p, l, 3);

@@ -1,6 +1,7 @@
 //! The compiled library, its header and the printing program against the reference, one file for each
 //! topic.
 
+mod forecasts;
 mod header;
 mod known_runs;
 mod lengths;

@@ -1,8 +1,8 @@
 //! Writes rows for the prover: calls of the reference with everything that they leave, and what it
-//! says of demand 3. Arguments: `HOW-MANY SEED` for random calls; `calls` for the fixed ones;
-//! `demand3` for its terms; `long` for more of both that take the prover long; and
-//! `tally FILE ..`, which says how often the rows of these files meet each number and fails if one
-//! is never met.
+//! says of demand 3. Arguments: `HOW-MANY SEED` for random calls and forecasts; `calls` for the
+//! fixed calls that play records; `forecast` for the fixed forecasts; `demand3` for its terms;
+//! `long` for more of these that take the prover long; and `tally FILE ..`, which says how often the
+//! rows of these files meet each number and fails if one is never met.
 
 mod call;
 mod decimal;
@@ -11,6 +11,7 @@ mod fixed_bytes;
 mod fixed_calls;
 mod fixed_logs;
 mod fixed_records;
+mod forecasts;
 mod late_begins;
 mod met;
 mod random_calls;
@@ -32,15 +33,17 @@ fn main() {
         }
         ["calls"] => print(fixed_calls::rows()),
         ["demand3"] => print(demand3::rows()),
+        ["forecast"] => print(forecasts::rows()),
         ["long"] => print(long()),
         [rows, seed] => print(random_calls::rows(number(rows), number(seed))),
-        _ => panic!("arguments: HOW-MANY SEED, calls, demand3, long, or tally FILE .."),
+        _ => panic!("arguments: HOW-MANY SEED, calls, demand3, forecast, long, or tally FILE .."),
     }
 }
 
 fn long() -> Vec<Row> {
     let mut rows = fixed_calls::largest();
     rows.push(fixed_records::many_begun_first());
+    rows.extend(forecasts::largest());
     rows.extend(demand3::planned());
     rows
 }

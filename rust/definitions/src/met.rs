@@ -3,8 +3,8 @@
 use std::fmt;
 
 /// Everything that the rows must meet, by what can meet it. The numbers and verdicts of the calls
-/// are those of document 01, "What each call turns down", and of request a.
-const REQUIRED: [(&str, &[&str]); 7] = [
+/// are those of document 01, "What each call turns down", and of requests a and b.
+const REQUIRED: [(&str, &[&str]); 9] = [
     ("run", &["0", "1", "2", "3", "4", "5", "6", "7", "8", "9"]),
     ("list", &["0", "1", "2", "3", "4", "5", "6", "7", "8", "10"]),
     (
@@ -26,6 +26,8 @@ const REQUIRED: [(&str, &[&str]); 7] = [
             "inside another of 500: 6",
         ],
     ),
+    ("forecast", &["0", "1", "2", "4", "5", "8", "12"]),
+    ("foreseen", &["p=2", "p=4", "p=8"]),
     ("limit", &["p=2", "p=4", "p=8"]),
     ("operation", &["finished", "placed", "begun", "unopened"]),
     ("answer", &["done", "value", "none"]),

@@ -1,6 +1,7 @@
-//! Random calls: lists of every pace, and one thing wrong in every third call.
+//! Random calls: lists of every pace, and one thing wrong in every third call; and forecasts.
 
 use crate::call::Call;
+use crate::forecasts;
 use crate::row::Row;
 use reference::process::STEP_NAMES;
 use reference::random::Random;
@@ -23,18 +24,27 @@ const SHAPES: [(u32, u32, u32); 11] = [
 ];
 
 pub fn rows(count: u64, seed: u64) -> Vec<Row> {
-    let mut random = Random::new(seed);
-    let mut row = |number| {
+    let (mut random, mut of_begins) = (Random::new(seed), Random::new(!seed));
+    let mut rows_of = |number| {
         let call = random_call(&mut random, number, seed);
-        call.row(format!("random, p = {}, L = {}", call.p, call.l))
+        let (p, l, _) = shape_of(number);
+        [
+            call.row(format!("random, p = {}, L = {}", call.p, call.l)),
+            forecasts::row_of_list(call.p, call.l, &call.records),
+            forecasts::random_row(&mut of_begins, p, l),
+        ]
     };
-    (0..count).map(&mut row).collect()
+    (0..count).flat_map(&mut rows_of).collect()
+}
+
+fn shape_of(row: u64) -> (u32, u32, u32) {
+    SHAPES[row as usize % SHAPES.len()]
 }
 
 /// Rows go through the shapes, the paces and, every third, the things that can be wrong, where each
 /// seed goes on from other things.
 fn random_call(random: &mut Random, row: u64, seed: u64) -> Call {
-    let (p, l, each) = SHAPES[row as usize % SHAPES.len()];
+    let (p, l, each) = shape_of(row);
     let plan = Plan {
         p,
         l,

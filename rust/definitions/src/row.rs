@@ -4,7 +4,7 @@ use crate::met::{Met, LINE};
 
 /// The definitions of the rows' own file that the prover computes with.
 const UNFOLDED: &str = "rules wordsOf leaves call left process numbers lateBegin op answer moved \
-     bits saidOf said pairsOf pair queueOf queue";
+     bits saidOf said pairsOf pair queueOf queue foretold";
 
 pub struct Row {
     /// In plain words.

@@ -1,6 +1,6 @@
-//! In the place of the archive where it is not built: the three functions panic.
+//! In the place of the archive where it is not built: the four functions panic.
 
-use crate::returned::{Checked, Listed, Ran};
+use crate::returned::{Checked, Foreseen, Listed, Ran};
 
 pub fn run(_: u32, _: u32, _: &[u8], _: &mut [u32], _: &mut [u8]) -> Ran {
     panic!("{}", crate::NOT_BUILT)
@@ -11,5 +11,9 @@ pub fn list_order(_: u32, _: u32, _: &[u8], _: &mut [u32], _: &mut [u8]) -> List
 }
 
 pub fn check_log(_: u32, _: u32, _: &[u8], _: &[u8], _: &mut [u32]) -> Checked {
+    panic!("{}", crate::NOT_BUILT)
+}
+
+pub fn forecast(_: u32, _: u32, _: &[u8]) -> Foreseen {
     panic!("{}", crate::NOT_BUILT)
 }

@@ -1,6 +1,6 @@
 //! The functions of the archive, and slices lent to them. All of this crate's `unsafe` is here.
 
-use crate::returned::{Checked, Listed, Ran};
+use crate::returned::{Checked, Foreseen, Listed, Ran};
 
 extern "C" {
     fn otq_run(
@@ -35,9 +35,11 @@ extern "C" {
         table: *mut u32,
         table_len: usize,
     ) -> Checked;
+
+    fn otq_forecast(p: u32, l: u32, begins: *const u8, begins_len: usize) -> Foreseen;
 }
 
-// SAFETY of the three calls: the functions have no `requires`, so any numbers and slices may be
+// SAFETY of the four calls: the functions have no `requires`, so any numbers and slices may be
 // lent. Each pointer and length is that of a live slice, the mutable ones are of no other, and the
 // functions keep none of them.
 
@@ -84,4 +86,8 @@ pub fn check_log(p: u32, l: u32, records: &[u8], log: &[u8], table: &mut [u32]) 
             table.len(),
         )
     }
+}
+
+pub fn forecast(p: u32, l: u32, begins: &[u8]) -> Foreseen {
+    unsafe { otq_forecast(p, l, begins.as_ptr(), begins.len()) }
 }

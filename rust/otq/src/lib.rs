@@ -3,7 +3,8 @@
 //!
 //! Every function takes p, the number of processes (2, 4 or 8), and l, the most operations of one
 //! process (1 to 500). What is turned down is told by a [`Refusal`]. [`play`], [`list`] and [`check`]
-//! have buffers of their own; [`run`], [`list_order`] and [`check_log`] are lent theirs.
+//! have buffers of their own; [`run`], [`list_order`] and [`check_log`] are lent theirs. [`forecast`]
+//! tells from begin records alone what a run will need.
 //!
 //! A put of 7 by process 0, then a take by process 1, 15 steps each:
 //!
@@ -66,6 +67,17 @@ pub enum Verdict {
     Differs(u64),
     /// The call or a record was turned down, and no comparison was made.
     Refused(Refusal),
+}
+
+/// What begin records tell of every run of them.
+#[derive(Clone, Copy, PartialEq, Eq, Debug)]
+pub struct Forecast {
+    /// Words of the work table.
+    pub words: u64,
+    /// Bytes of the answers, 16 a begin.
+    pub answer_bytes: u64,
+    /// The most records that a run takes.
+    pub records: u64,
 }
 
 /// A run with the buffers that it filled.
@@ -169,6 +181,54 @@ pub fn check_log(p: u32, l: u32, records: &[u8], log: &[u8], table: &mut [u32]) 
         (returned::DIFFERS, None, index) => Verdict::Differs(index),
         (returned::REFUSED, Some(refusal), 0) => Verdict::Refused(refusal),
         other => unreachable!("the library returned {other:?}"),
+    }
+}
+
+/// Tells from begin records alone, one for each operation, what a run will need. Nothing is played.
+///
+/// What it tells holds of every list whose begins are these in this order, given to [`run`] with the
+/// same p and l, any table and any answer buffer, whether or not a record is turned down: at most
+/// `records` records are taken, and at most `answer_bytes` bytes of answers written, exactly so many
+/// if nothing is turned down and all operations finish; and with at least `words` table words and
+/// `answer_bytes` answer bytes the run ends neither with [`TableShort`](Refusal::TableShort) nor with
+/// [`AnswersFull`](Refusal::AnswersFull).
+///
+/// A step record is [`StepAmongBegins`](Refusal::StepAmongBegins), or
+/// [`IllFormed`](Refusal::IllFormed); [`BegunAll`](Refusal::BegunAll) is a begin by a process of which
+/// l begins stand before it.
+///
+/// ```
+/// use otq::{Act, Forecast, Refusal, Step};
+/// let (put, take) = (Step { process: 0, act: Act::Put(7) }, Step { process: 1, act: Act::Take });
+/// let foreseen = otq::forecast(2, 1, &otq::bytes_of([put, take])).unwrap();
+/// assert_eq!(foreseen, Forecast { words: 42, answer_bytes: 32, records: 76 });
+///
+/// let steps = |process| [Step { process, act: Act::Step }; 15];
+/// let list = [&[put][..], &steps(0), &[take], &steps(1)].concat();
+/// let mut table = vec![0; foreseen.words as usize];
+/// let mut answers = vec![0; foreseen.answer_bytes as usize];
+/// let run = otq::run(2, 1, &otq::bytes_of(list), &mut table, &mut answers);
+/// assert_eq!((run.refusal, 16 * run.answers), (None, foreseen.answer_bytes));
+/// assert!(run.taken <= foreseen.records);
+///
+/// let among = otq::forecast(2, 1, &otq::bytes_of([put, steps(0)[0]]));
+/// assert_eq!(among, Err(Refusal::StepAmongBegins));
+/// assert_eq!(otq::forecast(2, 1, &otq::bytes_of([put, put])), Err(Refusal::BegunAll));
+/// ```
+pub fn forecast(p: u32, l: u32, begins: &[u8]) -> Result<Forecast, Refusal> {
+    let foreseen = archive::forecast(p, l, begins);
+    let forecast = Forecast {
+        words: foreseen.words,
+        answer_bytes: foreseen.answer_bytes,
+        records: foreseen.records,
+    };
+    match refusal_of(foreseen.refusal) {
+        None => Ok(forecast),
+        Some(refusal) => {
+            let zeros = (forecast.words, forecast.answer_bytes, forecast.records);
+            debug_assert_eq!(zeros, (0, 0, 0));
+            Err(refusal)
+        }
     }
 }
 

@@ -8,7 +8,8 @@ use std::fmt;
 ///
 /// It is the first test that fails, in this order: of a call 1, 2, 3, 4, of [`check_log`] then 11;
 /// record by record of a begin 5, 8, 6 and of a step 5, 7, of [`run`] then 9; of [`list_order`] at
-/// the end 10. So a begin inside the last of l operations is [`BegunAll`](Refusal::BegunAll).
+/// the end 10. So a begin inside the last of l operations is [`BegunAll`](Refusal::BegunAll). Of
+/// [`forecast`] 1, 2, 4, then record by record 5, 12, 8.
 ///
 /// ```
 /// use otq::Refusal;
@@ -17,11 +18,13 @@ use std::fmt;
 /// let refusal = |l| otq::play(2, l, &two_begins).run.refusal;
 /// assert_eq!(refusal(1), Some(Refusal::BegunAll));
 /// assert_eq!(refusal(2), Some(Refusal::BeginWhileBusy));
+/// assert_eq!(otq::forecast(2, 1, &two_begins), Err(Refusal::BegunAll));
 /// ```
 ///
 /// [`check_log`]: crate::check_log
 /// [`run`]: crate::run
 /// [`list_order`]: crate::list_order
+/// [`forecast`]: crate::forecast
 #[derive(Clone, Copy, PartialEq, Eq, Hash, Debug)]
 #[repr(u32)]
 pub enum Refusal {
@@ -47,11 +50,13 @@ pub enum Refusal {
     OutputShort = 10,
     /// The log bytes are not a multiple of 16.
     LogTorn = 11,
+    /// A step record where begins alone may stand.
+    StepAmongBegins = 12,
 }
 
 impl Refusal {
     /// All of them, in the order of their numbers.
-    pub const ALL: [Refusal; 11] = [
+    pub const ALL: [Refusal; 12] = [
         Refusal::Processes,
         Refusal::Operations,
         Refusal::TableShort,
@@ -63,13 +68,14 @@ impl Refusal {
         Refusal::AnswersFull,
         Refusal::OutputShort,
         Refusal::LogTorn,
+        Refusal::StepAmongBegins,
     ];
 
     /// The paper's number.
     ///
     /// ```
     /// assert_eq!(otq::Refusal::Processes.number(), 1);
-    /// assert_eq!(otq::Refusal::LogTorn.number(), 11);
+    /// assert_eq!(otq::Refusal::StepAmongBegins.number(), 12);
     /// ```
     pub fn number(self) -> u32 {
         self as u32
@@ -78,7 +84,7 @@ impl Refusal {
     /// The refusal with this number; 0 is none, and those past the last are none.
     ///
     /// ```
-    /// assert_eq!(otq::Refusal::from_number(11), Some(otq::Refusal::LogTorn));
+    /// assert_eq!(otq::Refusal::from_number(12), Some(otq::Refusal::StepAmongBegins));
     /// assert_eq!(otq::Refusal::from_number(0), None);
     /// ```
     pub fn from_number(number: u32) -> Option<Refusal> {
@@ -102,6 +108,7 @@ impl fmt::Display for Refusal {
             Refusal::AnswersFull => "an operation ends with fewer than 16 answer bytes left",
             Refusal::OutputShort => "the order list is longer than the output",
             Refusal::LogTorn => "the log bytes are not a multiple of 16",
+            Refusal::StepAmongBegins => "a step record stands among begins",
         })
     }
 }
@@ -115,7 +122,7 @@ mod tests {
     #[test]
     fn numbers_follow_each_other() {
         let numbers = Refusal::ALL.map(Refusal::number);
-        assert!(numbers.into_iter().eq(1..=11));
-        assert_eq!(Refusal::from_number(12), None);
+        assert!(numbers.into_iter().eq(1..=12));
+        assert_eq!(Refusal::from_number(13), None);
     }
 }

@@ -24,3 +24,11 @@ pub struct Checked {
     pub verdict: u32,
     pub index: u64,
 }
+
+#[repr(C)]
+pub struct Foreseen {
+    pub refusal: u32,
+    pub words: u64,
+    pub answer_bytes: u64,
+    pub records: u64,
+}

@@ -1,9 +1,12 @@
 //! Plain version of the queue on an ordering tree: the oracle of comparison tests.
 
 pub mod account;
+pub mod begin_lists;
 pub mod check;
 pub mod demand3;
+pub mod forecast;
 pub mod growth;
+pub mod hostile;
 pub mod known_runs;
 pub mod linearizable;
 pub mod list;

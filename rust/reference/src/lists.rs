@@ -32,6 +32,14 @@ impl List {
         self
     }
 
+    /// Begins of puts and takes, so many of each process, all processes in turn.
+    pub fn begins_in_turn(p: u32, each: u32) -> List {
+        (0..each * p).fold(List::new(), |list, turn| match turn % 3 {
+            0 => list.take(turn % p),
+            _ => list.put(turn % p, turn),
+        })
+    }
+
     /// Puts of 1, 2 and so on by a process alone, each with all its steps.
     pub fn whole_puts(self, process: u32, count: u32, steps: usize) -> List {
         (1..=count).fold(self, |list, value| {

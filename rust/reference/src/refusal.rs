@@ -24,6 +24,8 @@ pub enum Refusal {
     OutputShort,
     /// The log bytes are not a multiple of 16.
     LogTorn,
+    /// A record of kind 0 among begins.
+    StepAmongBegins,
 }
 
 /// The paper's number; 0 stands for no refusal.
@@ -41,5 +43,6 @@ pub fn number(refusal: Option<Refusal>) -> u32 {
         Some(Refusal::AnswersFull) => 9,
         Some(Refusal::OutputShort) => 10,
         Some(Refusal::LogTorn) => 11,
+        Some(Refusal::StepAmongBegins) => 12,
     }
 }

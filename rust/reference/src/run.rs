@@ -39,10 +39,16 @@ pub fn accept(p: u32, l: u32, records: &[u8], table: &[u32]) -> Result<Shape, Re
     if table.len() < shape.words_needed() {
         return Err(Refusal::TableShort);
     }
-    if !records.len().is_multiple_of(STEP_RECORD_BYTES) {
-        return Err(Refusal::RecordsTorn);
-    }
+    whole(records)?;
     Ok(shape)
+}
+
+/// Test 4.
+pub fn whole(records: &[u8]) -> Result<(), Refusal> {
+    match records.len().is_multiple_of(STEP_RECORD_BYTES) {
+        true => Ok(()),
+        false => Err(Refusal::RecordsTorn),
+    }
 }
 
 /// The tests of one record: 5; then of a begin 8, 6, of a step 7, 9.

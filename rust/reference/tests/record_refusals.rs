@@ -1,29 +1,13 @@
 //! Refusals 5 to 8 at every place of a list: exactly what the records before it left.
 
-use crate::support::{check_with, list_with, mixed_list, needed, pattern_bytes, run_amply, SPARE};
+use crate::support::{
+    check_with, ill_formed, list_with, mixed_list, needed, pattern_bytes, run_amply, SPARE,
+};
 use reference::lists::List;
 use reference::machine::Machine;
 use reference::records::{Act, Operation, StepRecord};
 use reference::run::{play, Room};
 use reference::tree::Shape;
-
-/// Ill-formed records of each sort, whatever the processes do.
-fn ill_formed(p: u32) -> Vec<[u8; 8]> {
-    let p = p as u8;
-    vec![
-        [p, 0, 0, 0, 0, 0, 0, 0],
-        [p, 1, 0, 0, 7, 0, 0, 0],
-        [255, 2, 0, 0, 0, 0, 0, 0],
-        [0, 3, 0, 0, 0, 0, 0, 0],
-        [1, 255, 0, 0, 0, 0, 0, 0],
-        [0, 1, 1, 0, 0, 0, 0, 0],
-        [0, 2, 0, 128, 0, 0, 0, 0],
-        [0, 0, 0, 0, 1, 0, 0, 0],
-        [1, 0, 0, 0, 0, 0, 0, 1],
-        [1, 2, 0, 0, 0, 2, 0, 0],
-        [0, 2, 0, 0, 0, 0, 3, 0],
-    ]
-}
 
 /// Every record that must be refused in this state, with its number.
 fn refused_here(machine: &Machine) -> Vec<(u32, [u8; 8])> {

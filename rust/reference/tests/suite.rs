@@ -6,6 +6,8 @@ mod call_refusals;
 mod check_log;
 mod demand3_mutations;
 mod demand3_runs;
+mod forecast;
+mod forecast_runs;
 mod former_order;
 mod growth_mutations;
 mod growth_runs;

@@ -42,7 +42,8 @@ fn overview(tool: &mut Tool) -> Result<(), Failure> {
     }
     tool.line(
         "\nThe first test that fails is told. Of a call: 1, 2, 3, 4, of a check then 11. Of a begin: \
-         5, 8, 6. Of a step: 5, 7, of a run then 9. Of a list of the order, at the end: 10.",
+         5, 8, 6. Of a step: 5, 7, of a run then 9. Of a list of the order, at the end: 10. Of a \
+         forecast: 1, 2, 4, and of each record: 5, 12, 8.",
     )?;
     tool.line("\n`otq explain N` says what to do, `otq explain records` how records are laid out.")
 }

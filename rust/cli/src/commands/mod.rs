@@ -3,6 +3,7 @@
 mod checking;
 mod coding;
 mod explaining;
+mod forecasting;
 mod listing;
 mod making;
 mod playing;
@@ -51,7 +52,7 @@ const JSON: Choice = Choice {
     about: "writes the result as JSON",
 };
 
-const COMMANDS: [Command; 9] = [
+const COMMANDS: [Command; 10] = [
     Command {
         name: "run",
         usage: "[-p P -L L] STEPS [--log OUT] [--whole] [--json]",
@@ -84,6 +85,18 @@ const COMMANDS: [Command; 9] = [
         files: (2, 2),
         proved: true,
         call: checking::check,
+    },
+    Command {
+        name: "forecast",
+        usage: "[-p P -L L] BEGINS [--whole] [--json]",
+        about: "tells from its begins alone what a list will need",
+        more: "The words of the work table, the bytes of the answers if all operations end, and the most\n\
+               records that are taken: they hold of every list with these begins in this order. Nothing is\n\
+               played.",
+        choices: &[&P, &L, &WHOLE, &JSON],
+        files: (1, 1),
+        proved: true,
+        call: forecasting::forecast,
     },
     Command {
         name: "show",
@@ -154,9 +167,14 @@ const COMMANDS: [Command; 9] = [
 
 const STEPS: &str = "\
 STEPS is a text exercise, whose heading gives p and L, or a file of binary step records, for which
--p and -L are needed. `-` is standard input.
+-p and -L are needed. `-` is standard input.";
 
-Exit status: 0 done or same, 1 the log differs, 2 a mistake in the command, a file or a text, 3 refused.";
+const BEGINS: &str = "\
+BEGINS is as STEPS elsewhere, with begins alone: a text whose heading gives p and L, or a file of
+binary step records, for which -p and -L are needed. `-` is standard input.";
+
+const EXIT: &str =
+    "Exit status: 0 done or same, 1 the log differs, 2 a mistake in the command, a file or a text, 3 refused.";
 
 /// Does what the words say.
 pub fn call(tool: &mut Tool, mut words: Vec<OsString>) -> Result<Status, Failure> {
@@ -229,8 +247,10 @@ impl Command {
                 choice.about.replace('\n', "\n              ")
             );
         }
-        if self.usage.contains("STEPS") {
-            help += &format!("\n\n{STEPS}");
+        for (file, about) in [("STEPS", STEPS), ("BEGINS", BEGINS)] {
+            if self.usage.contains(file) {
+                help += &format!("\n\n{about}\n\n{EXIT}");
+            }
         }
         help.trim_end().to_string()
     }
@@ -246,14 +266,16 @@ fn help(tool: &mut Tool, words: &[OsString]) -> Result<Status, Failure> {
 
 fn overview() -> String {
     let mut text =
-        "otq plays the steps of a shared queue, lists their order, and checks a log.\n".to_string();
+        "otq plays the steps of a shared queue, lists their order, checks a log, and forecasts what a \
+         list will need.\n"
+            .to_string();
     for Command {
         name, usage, about, ..
     } in &COMMANDS
     {
-        text += &format!("\n  otq {name:<8}{usage}\n              {about}");
+        text += &format!("\n  otq {name:<9}{usage}\n               {about}");
     }
-    format!("{text}\n\n`otq COMMAND --help` says more of one.\n\n{STEPS}")
+    format!("{text}\n\n`otq COMMAND --help` says more of one.\n\n{STEPS} BEGINS is the same with begins alone.\n\n{EXIT}")
 }
 
 fn version(tool: &mut Tool) -> Result<Status, Failure> {

@@ -4,7 +4,7 @@ use mathlib.Core.Path.{sym, _∙_}
 use lib.ListN.{length}
 use lib.Seq.{length-take-le}
 use borrow.Author.Needs.{needs}
-use Rattle.refusals.proofs.Limits.{allowed-most, allowed-width}
+use Rattle.steps.proofs.Limits.{allowed-most, allowed-width}
 use Rattle.player.proofs.PlayCallLaws.{Measured, call-fits, call-starts, call-words, call-rest}
 use Rattle.player.proofs.call.play_call.Statement.{statement}
 use Rattle.player.proofs.call.play_call.Tie as tie

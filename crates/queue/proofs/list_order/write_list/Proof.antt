@@ -8,7 +8,7 @@ use Rattle.tree.specs.Layout.{wordsNeeded}
 use Rattle.tree.specs.Contracts.SoundTree.{SoundTree}
 use Rattle.tree.specs.Shape.{shapeFor}
 use Rattle.base.proofs.Somes.{some-two}
-use Rattle.refusals.proofs.Limits.{allowed-most, needed-for}
+use Rattle.steps.proofs.Limits.{allowed-most, needed-for}
 use Rattle.queue.proofs.ListLaws.{listing-tree, listing-height, listing-nodes, listing-words, list-short, list-written}
 use Rattle.queue.proofs.list_order.write_list.Statement.{statement}
 use Rattle.queue.proofs.list_order.write_list.Tie as tie

@@ -2,11 +2,10 @@
 use native.Mathlib.Omega.{arith}
 use mathlib.Core.Path.{_∙_}
 use borrow.Author.Needs.{needs}
-use borrow.Author.Tests.{lt-ltb, le-ltb, eq-eqb, ne-eqb}
-use Rattle.record.specs.StepRecords.{stepSize}
-use Rattle.calls.specs.Refusals.{torn, bufferRefusal}
+use borrow.Author.Tests.{lt-ltb, le-ltb}
+use Rattle.calls.specs.Refusals.{bufferRefusal}
 use Rattle.calls.proofs.CallAccepted.{settings-operations}
-use Rattle.refusals.proofs.Limits.{allowed-most, needed-for}
+use Rattle.steps.proofs.Limits.{allowed-most, needed-for}
 use Rattle.refusals.proofs.before.buffers.Statement.{statement}
 use Rattle.refusals.proofs.before.buffers.Tie as tie
 
@@ -25,19 +24,16 @@ returns c =
     let w = c .before in
     rw (← (w .words-needed .ensures .0 ∙ needed-for _ _ _ _ (w .before .before .height-for .ensures .0) (w .before .as-index .ensures)), lt-ltb _ _ (c .if1 .taken))
 
+of-bytes-requires : tie.Need-of-bytes-requires
+of-bytes-requires c κs = search needs
+
 returns-2 : tie.Need-returns-2
-unfolding bufferRefusal torn stepSize
+unfolding bufferRefusal
 returns-2 c =
     let w = c .before .before in
-    rw (← (w .words-needed .ensures .0 ∙ needed-for _ _ _ _ (w .before .before .height-for .ensures .0) (w .before .as-index .ensures)), le-ltb _ _ (c .before .if1 .left), ne-eqb _ _ (c .if2 .taken))
-
-returns-3 : tie.Need-returns-3
-unfolding bufferRefusal torn stepSize
-returns-3 c =
-    let w = c .before .before in
-    rw (← (w .words-needed .ensures .0 ∙ needed-for _ _ _ _ (w .before .before .height-for .ensures .0) (w .before .as-index .ensures)), le-ltb _ _ (c .before .if1 .left), eq-eqb _ _ (c .if2 .left))
+    rw (← (w .words-needed .ensures .0 ∙ needed-for _ _ _ _ (w .before .before .height-for .ensures .0) (w .before .as-index .ensures)), le-ltb _ _ (c .before .if1 .left)) (c .of-bytes .ensures)
 
 pub buffers-spec : {M : Type 1} → statement M
 buffers-spec =
     tie.close
-    (tie.spec height-for-requires as-index-requires words-needed-requires returns returns-2 returns-3)
+    (tie.spec height-for-requires as-index-requires words-needed-requires returns of-bytes-requires returns-2)

@@ -1,6 +1,6 @@
 //! Lists and logs with something wrong.
 
-use reference::random::Random;
+use crate::random::Random;
 
 /// What is done to a list of records.
 #[derive(Clone, Copy, PartialEq, Eq, Debug)]

@@ -9,7 +9,8 @@ use Rattle.base.specs.Choice.{if_then_else_}
 use Rattle.base.proofs.Cases.{and-true, both}
 use Rattle.tree.specs.Shape.{processes, heightFor, shapeFor}
 use Rattle.tree.specs.Layout.{wordsNeeded}
+use Rattle.tree.proofs.Places.{processes-most}
 use Rattle.steps.specs.Process.{processesAllowed, operationsAllowed}
 
 -- L is 1 to 500
 pub allowed-most : (l : ℕ) → operationsAllowed l ≡ true → (1 ≤ l) × (l ≤ 500)
@@ -39,3 +40,7 @@ needed-for p l h w e f = ap wordsNeeded (shape-is p l h w e f)
 pub short-for : (p l : ℕ) → shapeFor p l .height ≤ 3
 unfolding shapeFor heightFor
 short-for p l = both (λ (x : ℕ). x ≤ 3) (eqb p 2) (omega arith) (both (λ (x : ℕ). x ≤ 3) (eqb p 4) (omega arith) (omega arith))
+
+-- so p is at most 8
+pub allowed-narrow : (p l : ℕ) → processesAllowed p ≡ true → p ≤ 8
+allowed-narrow p l e = omega (arith, allowed-width p l e, processes-most (shapeFor p l) (short-for p l))

@@ -1,0 +1,3 @@
+pub mod Settings
+pub mod ReadSoFar
+pub mod CallLaws

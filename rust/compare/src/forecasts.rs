@@ -1,0 +1,121 @@
+//! Forecasts of the begins of lists and of begins with something wrong, and how near runs come to
+//! the limit.
+
+use crate::calls::Input;
+use reference::begin_lists::BeginList;
+use reference::demand3::step_limit;
+use reference::forecast::{begins_of, record_limit, ForecastResult};
+use reference::random::Random;
+use reference::records::{Answer, ANSWER_RECORD_BYTES};
+use reference::run::RunResult;
+use reference::tree::Shape;
+use std::fmt;
+
+/// The numbers that a forecast can give.
+const NUMBERS: [u32; 7] = [0, 1, 2, 4, 5, 8, 12];
+
+/// Lists of begins with something wrong, for each list that is played.
+const HOSTILE: u32 = 8;
+
+/// How often each number came up, and how near the runs came.
+#[derive(Clone, Default, Debug)]
+pub struct Forecasts {
+    /// By number; entry 0 counts the forecasts that refused nothing.
+    refusals: [u64; 13],
+    /// For p = 2, 4, 8.
+    nearest: [Nearest; 3],
+}
+
+/// How near the runs of one p came to their limit.
+#[derive(Clone, Copy, Default, Debug)]
+struct Nearest {
+    /// Records taken for each begin, in the list that took most.
+    records: f64,
+    /// Own steps of the longest operation that finished.
+    steps: u16,
+}
+
+impl Forecasts {
+    /// The forecast of the begins of a list, which its run with all the room that it can use must stay
+    /// within; at times also a run with just what was foreseen.
+    pub fn compare_run(&mut self, random: &mut Random, input: Input, ran: RunResult, log: &[u8]) {
+        let Input { p, l, records } = input;
+        let begins = begins_of(records);
+        let foreseen = self.compare(p, l, &begins);
+        if foreseen.refusal != 0 {
+            assert_ne!(ran.refusal, 0, "p {p}, l {l}: only the forecast refuses");
+            return;
+        }
+        assert!(ran.taken <= foreseen.records, "p {p}, l {l}: records");
+        let bytes = log.len() as u64;
+        assert!(bytes <= foreseen.answer_bytes, "p {p}, l {l}: answers");
+        if random.chance(1, 4) {
+            let (words, bytes) = (foreseen.words as usize, foreseen.answer_bytes as usize);
+            assert_eq!(input.run(words, bytes).0, ran, "p {p}, l {l}: not enough");
+        }
+        self.nearest[height(p) - 1].count(ran.taken, begins.len() / 8, log);
+    }
+
+    /// Forecasts of begins that are mostly refused.
+    pub fn compare_hostile(&mut self, random: &mut Random) {
+        for _ in 0..HOSTILE {
+            let p = random.pick(&[2, 4, 8]);
+            let l = match random.below(4) {
+                0 => random.pick(&[499, 500]),
+                1 => 1 + random.below(100),
+                _ => 1 + random.below(4),
+            };
+            let list = BeginList::hostile(random, p, l, p * l);
+            self.compare(list.p, list.l, &list.begins);
+        }
+    }
+
+    fn compare(&mut self, p: u32, l: u32, records: &[u8]) -> ForecastResult {
+        let foreseen = Input { p, l, records }.forecast();
+        self.refusals[foreseen.refusal as usize] += 1;
+        foreseen
+    }
+
+    /// How often each number that can come up did.
+    pub fn met(&self) -> impl Iterator<Item = (String, u64)> + '_ {
+        let times = |number: u32| self.refusals[number as usize];
+        NUMBERS
+            .into_iter()
+            .map(move |number| (format!("forecast {number}"), times(number)))
+    }
+}
+
+impl Nearest {
+    fn count(&mut self, taken: u64, begins: usize, log: &[u8]) {
+        if begins > 0 {
+            self.records = self.records.max(taken as f64 / begins as f64);
+        }
+        for record in log.chunks_exact(ANSWER_RECORD_BYTES) {
+            let answer = Answer::read(record).expect("a log that Run wrote");
+            self.steps = self.steps.max(answer.steps);
+        }
+    }
+}
+
+fn height(p: u32) -> usize {
+    p.ilog2() as usize
+}
+
+impl fmt::Display for Forecasts {
+    fn fmt(&self, out: &mut fmt::Formatter) -> fmt::Result {
+        write!(
+            out,
+            "forecasts by refusal number, from 0: {:?}",
+            self.refusals
+        )?;
+        for p in [2, 4, 8] {
+            let shape = Shape::new(p, 1).expect("a proper p and L");
+            let Nearest { records, steps } = self.nearest[height(p) - 1];
+            let (most_records, most_steps) = (record_limit(shape), step_limit(shape));
+            write!(out, "\nnearest to the limits at H = {}: ", height(p))?;
+            write!(out, "{records:.1} of {most_records} records an operation, ")?;
+            write!(out, "{steps} of {most_steps} steps")?;
+        }
+        Ok(())
+    }
+}
