@@ -1,12 +1,12 @@
 -- What it says that a test refuses nothing. Used by proofs; no exported promise names it.
 use Prim.Native.Nat.{ℕ}
 use mathlib.Core.Path.{_≡_, refl, sym, _∙_}
-use mathlib.Core.Bool.{Bool, true, false}
+use mathlib.Core.Bool.{Bool, true, false, false≢true}
 use borrow.Author.Tests.{eqb-true, eq-eqb}
 use Rattle.base.specs.Choice.{if_then_else_}
 use Rattle.base.proofs.Cases.{contradiction}
 use Rattle.calls.specs.declared.Refusal.{Refusal}
-use Rattle.calls.specs.Refusals.{refusalNumber, accepted}
+use Rattle.calls.specs.Refusals.{refusalNumber, accepted, firstRefusal}
 
 -- accepted is number 0
 pub accepted-zero : (n : Refusal) → refusalNumber n ≡ 0 → accepted n ≡ true
@@ -29,3 +29,16 @@ passed-test n answer kept none = on (accepted n) refl
     on : (b : Bool) → accepted n ≡ b → accepted n ≡ true
     on true e = e
     on false e = accepted-zero n (sym (kept e) ∙ none)
+
+-- none of two tests refuses
+pub both-accepted : (a b : Refusal) → accepted (firstRefusal a b) ≡ true → (accepted a ≡ true) × (accepted b ≡ true)
+unfolding firstRefusal
+both-accepted a b e = on (accepted a) refl e
+  where
+    on : (x : Bool) → accepted a ≡ x → accepted (if x then b else a) ≡ true → (accepted a ≡ true) × (accepted b ≡ true)
+    on true z h = (z, h)
+    on false z h = absurd (false≢true (sym z ∙ h))
+
+pub first-accepted : (a b : Refusal) → accepted a ≡ true → accepted b ≡ true → accepted (firstRefusal a b) ≡ true
+unfolding firstRefusal
+first-accepted a b p q = rw p q

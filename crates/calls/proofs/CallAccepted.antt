@@ -1,7 +1,7 @@
 -- What is known of a call that is not turned down. Used by proofs; no exported promise names it.
 use Prim.Native.Nat.{ℕ, _%_, _≤_}
-use mathlib.Core.Path.{_≡_, refl, sym, _∙_}
-use mathlib.Core.Bool.{Bool, true, false, not, false≢true}
+use mathlib.Core.Path.{_≡_, refl}
+use mathlib.Core.Bool.{true, false, not}
 use lib.Dec.{ltb, eqb}
 use borrow.Author.Tests.{eqb-true, ltb-false, not-false}
 use Rattle.base.specs.Choice.{if_then_else_}
@@ -9,30 +9,20 @@ use Rattle.record.specs.StepRecords.{stepSize}
 use Rattle.record.specs.AnswerRecords.{answerSize}
 use Rattle.tree.specs.Layout.{wordsNeeded}
 use Rattle.steps.specs.Process.{processesAllowed, operationsAllowed}
-use Rattle.calls.specs.declared.Refusal.{Refusal}
 use Rattle.calls.specs.declared.Refusal.the-variants.{None, Processes, Operations, TableShort, RecordsTorn, LogTorn}
-use Rattle.calls.specs.Refusals.{refusalNumber, accepted, torn, firstRefusal, settingsRefusal, bytesRefusal, bufferRefusal, callRefusal}
+use Rattle.calls.specs.Refusals.{refusalNumber, accepted, torn, settingsRefusal, bytesRefusal, bufferRefusal, callRefusal}
 use Rattle.tree.specs.Shape.{shapeFor}
 use Rattle.calls.specs.CheckLog.{checkRefusal}
-use Rattle.calls.proofs.Acceptance.{passed}
+use Rattle.calls.proofs.Acceptance.{passed, both-accepted}
 
 -- bytes that are not torn are whole records
 pub whole-records : (bytes : ℕ) → torn stepSize bytes ≡ false → bytes % 8 ≡ 0
 unfolding torn stepSize
 whole-records bytes e = eqb-true (bytes % 8) 0 (not-false (eqb (bytes % 8) 0) e)
 
-pub bytes-whole : (bytes : ℕ) → accepted (bytesRefusal bytes) ≡ true → torn stepSize bytes ≡ false
+bytes-whole : (bytes : ℕ) → accepted (bytesRefusal bytes) ≡ true → torn stepSize bytes ≡ false
 unfolding bytesRefusal accepted refusalNumber
 bytes-whole bytes ok = passed (torn stepSize bytes) RecordsTorn None refl ok .0
-
--- none of two tests refuses
-pub both-accepted : (a b : Refusal) → accepted (firstRefusal a b) ≡ true → (accepted a ≡ true) × (accepted b ≡ true)
-unfolding firstRefusal
-both-accepted a b e = on (accepted a) refl e
-  where
-    on : (x : Bool) → accepted a ≡ x → accepted (if x then b else a) ≡ true → (accepted a ≡ true) × (accepted b ≡ true)
-    on true z h = (z, h)
-    on false z h = absurd (false≢true (sym z ∙ h))
 
 module _ (p l : ℕ) (ok : accepted (settingsRefusal p l) ≡ true) where
   pub settings-processes : processesAllowed p ≡ true

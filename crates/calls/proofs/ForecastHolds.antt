@@ -5,7 +5,7 @@ use native.Mathlib.Omega.{arith}
 use mathlib.Core.Path.{_≡_, refl, ap, _∙_, subst}
 use mathlib.Core.Logic.{_≢_}
 use mathlib.Core.Bool.{true, false}
-use mathlib.Core.List.{List, []}
+use mathlib.Core.List.{List}
 use lib.ListN.{length, take}
 use borrow.Author.Tests.{eqb-false, le-ltb}
 use Rattle.base.proofs.Cases.{both, or-false, contradiction}
@@ -24,9 +24,8 @@ use Rattle.calls.specs.declared.Refusal.the-variants.{TableShort, Answer
 use Rattle.calls.specs.Refusals.{refusalNumber, accepted, torn, firstRefusal, settingsRefusal, bytesRefusal, bufferRefusal, callRefusal}
 use Rattle.calls.specs.Run.{RunResult, Played, play, runTurnedDown, runPlayed, run}
 use Rattle.calls.specs.History.{machineAfter, begins, operation, history}
-use Rattle.calls.specs.Forecast.{recordLimit, forecastRefusal, beginsRefusal, foreseen, forecast, beginRecords, AllFinish, StaysWithin, Forecasts}
+use Rattle.calls.specs.Forecast.{recordLimit, forecastRefusal, foreseen, forecast, beginRecords, AllFinish, StaysWithin, Forecasts}
 use Rattle.calls.proofs.Acceptance.{passed-test}
-use Rattle.calls.proofs.CallAccepted.{both-accepted}
 use Rattle.calls.proofs.Played.{whole-answers, whole-legal, took-all}
 use Rattle.calls.proofs.RecordsStay.{opened-yes}
 use Rattle.calls.proofs.Runs.{Run, runs}
@@ -34,6 +33,7 @@ use Rattle.calls.proofs.Theorem.{tall-for, run-is}
 use Rattle.calls.proofs.Unrefused.{run-accepted, run-played}
 use Rattle.calls.proofs.RecordLimit.{spent}
 use Rattle.calls.proofs.Rooms.{Fits, begins-roomy, roomy-fits}
+use Rattle.calls.proofs.PlannedBegins.{forecast-settings}
 use Rattle.calls.proofs.RunLimits.{list-records, list-answers, run-within}
 
 -- ---- where all operations finish, no process is inside one
@@ -45,7 +45,7 @@ module _ (s : Shape) (tall : 1 ≤ s .height) (rs : List StepRecord) (run : Run 
       let d = run .doing k kp o n e in
       contradiction _ (all (operation k (begins k rs)) (opened-yes run tall (operation k (begins k rs)) (d .some) (omega arith))) (d .unfinished)
 
-  pub all-idle : busy s (machineAfter s rs) ≡ 0
+  all-idle : busy s (machineAfter s rs) ≡ 0
   all-idle = omega (arith, sum-most (λ k. inside (processOf (machineAfter s rs) k .status)) (processes s) 0 (λ k kp. idle k kp _ refl))
 
 -- ---- a list with n begins, and what Run leaves of it
@@ -125,25 +125,18 @@ module _ (p l : ℕ) (records table answers : List ℕ) (n : ℕ) (many : length
 
 -- ---- the forecast
 module _ (p l : ℕ) (bytes : List ℕ) where
-  abbrev tests : Refusal
-  tests = firstRefusal (forecastRefusal p l (length bytes)) (beginsRefusal (shapeFor p l) [] (stepRecords bytes))
-
-  refused : accepted tests ≡ false → forecast p l bytes .refusal ≡ refusalNumber tests
+  refused : accepted (forecastRefusal p l bytes) ≡ false → forecast p l bytes .refusal ≡ refusalNumber (forecastRefusal p l bytes)
   unfolding forecast
   refused e = rw e
 
   module _ (none : forecast p l bytes .refusal ≡ 0) where
-    nothing : accepted tests ≡ true
-    nothing = passed-test tests (forecast p l bytes .refusal) refused none
+    nothing : accepted (forecastRefusal p l bytes) ≡ true
+    nothing = passed-test (forecastRefusal p l bytes) (forecast p l bytes .refusal) refused none
 
-    pub forecast-is : forecast p l bytes ≡ foreseen (shapeFor p l) (length (stepRecords bytes))
+    forecast-is : forecast p l bytes ≡ foreseen (shapeFor p l) (length (stepRecords bytes))
     unfolding forecast
     forecast-is = rw nothing
 
-    settings-pass : accepted (settingsRefusal p l) ≡ true
-    unfolding forecastRefusal
-    settings-pass = both-accepted (settingsRefusal p l) (bytesRefusal (length bytes)) (both-accepted (forecastRefusal p l (length bytes)) _ nothing .0) .0
-
   pub forecast-holds : Forecasts p l bytes (forecast p l bytes)
   forecast-holds none records table answers these =
-      rw (forecast-is none) (stays p l records table answers (length (stepRecords bytes)) (ap length these) (settings-pass none))
+      rw (forecast-is none) (stays p l records table answers (length (stepRecords bytes)) (ap length these) (forecast-settings p l bytes (nothing none)))

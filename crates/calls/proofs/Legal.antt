@@ -28,6 +28,7 @@ use Rattle.calls.proofs.Acceptance.{passed}
 
 -- what is known of a record that is not refused on machine m, whatever the room for answers
 pub record Accepted (s : Shape) (m : Machine) (r : StepRecord) : Type 0 where
+  pub formed : illFormed (processes s) r ≡ false
   pub process-low : r .process < processes s
   pub idle : isBegin r ≡ true → processOf m (r .process) .status ≡ Idle
   pub within : isBegin r ≡ true → processOf m (r .process) .begun < s .most
@@ -79,7 +80,7 @@ step-passed room q h =
     let b = passed (atQ (q .status) && ltb room answerSize) AnswersFull _ refl (a .1) in
     (a .0, b .0)
 
-pub record-passed : (s : Shape) (room : ℕ) (q : Process) (r : StepRecord) → accepted (recordRefusal s room q r) ≡ true
+record-passed : (s : Shape) (room : ℕ) (q : Process) (r : StepRecord) → accepted (recordRefusal s room q r) ≡ true
     → (illFormed (processes s) r ≡ false) × (accepted (if isStep r then stepRefusal room q else beginRefusal (s .most) q) ≡ true)
 unfolding recordRefusal accepted refusalNumber
 record-passed s room q r h = passed (illFormed (processes s) r) IllFormed _ refl h
@@ -103,6 +104,7 @@ accept s room m r h =
     let u = record-passed s room q r h in
     let begins : isBegin r ≡ true → (isIdle (q .status) ≡ true) × (q .begun < s .most) = λ e. begin-passed (s .most) q (rw (no-step r e) at (u .1)) in
     record {
+      formed = u .0;
       process-low = formed-low (processes s) r (u .0);
       idle = λ e. idle-status (q .status) (begins e .0);
       within = λ e. begins e .1;

@@ -12,15 +12,13 @@ use borrow.Author.Tests.{eqb-true, leb-false, lt-leb}
 use Rattle.base.specs.Choice.{if_then_else_}
 use Rattle.base.specs.Members.{All}
 use Rattle.record.specs.declared.StepRecord.{StepRecord}
-use Rattle.record.specs.StepRecords.{isStep, isBegin, illFormed}
-use Rattle.tree.specs.Shape.{Shape, processes}
-use Rattle.calls.specs.declared.Refusal.{Refusal}
+use Rattle.record.specs.StepRecords.{isStep, isBegin, illFormed, stepRecords}
+use Rattle.tree.specs.Shape.{Shape, processes, shapeFor}
 use Rattle.calls.specs.declared.Refusal.the-variants.{None, IllFormed, BegunAll, StepAmongBegins}
-use Rattle.calls.specs.Refusals.{refusalNumber, accepted, firstRefusal}
+use Rattle.calls.specs.Refusals.{refusalNumber, accepted, firstRefusal, settingsRefusal, bytesRefusal}
 use Rattle.calls.specs.History.{begins}
-use Rattle.calls.specs.Forecast.{plannedRefusal, beginsRefusal}
-use Rattle.calls.proofs.Acceptance.{passed}
-use Rattle.calls.proofs.CallAccepted.{both-accepted}
+use Rattle.calls.specs.Forecast.{plannedRefusal, beginsRefusal, forecastRefusal}
+use Rattle.calls.proofs.Acceptance.{passed, both-accepted, first-accepted}
 use Rattle.calls.proofs.Legal.{not-step, no-step, formed-low}
 use Rattle.calls.proofs.Histories.{begins-snoc}
 use Rattle.calls.proofs.BeginRecords.{begin-records-whole, begins-most}
@@ -43,27 +41,20 @@ pub plan : (s : Shape) (begun : ℕ) (r : StepRecord) → Planned s begun r → 
 unfolding plannedRefusal accepted refusalNumber
 plan s begun r p = rw (p .formed, no-step r (p .begins), lt-leb (s .most) begun (p .fewer))
 
-pub first-accepted : (a b : Refusal) → accepted a ≡ true → accepted b ≡ true → accepted (firstRefusal a b) ≡ true
-unfolding firstRefusal
-first-accepted a b p q = rw p q
-
 module _ (s : Shape) where
   -- the first record and those after it
-  pub begins-first : (before : List StepRecord) (r : StepRecord) (rs : List StepRecord) → accepted (beginsRefusal s before (r ∷ rs)) ≡ true
+  begins-first : (before : List StepRecord) (r : StepRecord) (rs : List StepRecord) → accepted (beginsRefusal s before (r ∷ rs)) ≡ true
       → Planned s (begins (r .process) before) r × (accepted (beginsRefusal s (before ++ (r ∷ [])) rs) ≡ true)
   unfolding beginsRefusal
   begins-first before r rs ok =
       let z = both-accepted (plannedRefusal s (begins (r .process) before) r) (beginsRefusal s (before ++ (r ∷ [])) rs) ok in
       (planned s (begins (r .process) before) r (z .0), z .1)
 
-  planned-begin : (before rs : List StepRecord) → accepted (beginsRefusal s before rs) ≡ true → All (λ r. isBegin r ≡ true) rs
-  planned-begin before [] ok = tt
-  planned-begin before (r ∷ rs) ok = let z = begins-first before r rs ok in (z .0 .begins, planned-begin (before ++ (r ∷ [])) rs (z .1))
-
-  planned-low : (before rs : List StepRecord) → accepted (beginsRefusal s before rs) ≡ true → All (λ r. r .process < processes s) rs
-  planned-low before [] ok = tt
-  planned-low before (r ∷ rs) ok =
-      let z = begins-first before r rs ok in (formed-low (processes s) r (z .0 .formed), planned-low (before ++ (r ∷ [])) rs (z .1))
+  -- what holds of each record that is not refused
+  planned-all : (P : StepRecord → Type 0) → ((begun : ℕ) (r : StepRecord) → Planned s begun r → P r) → (before rs : List StepRecord) → accepted (beginsRefusal s before rs) ≡ true → All P rs
+  planned-all P holds before [] ok = tt
+  planned-all P holds before (r ∷ rs) ok =
+      let z = begins-first before r rs ok in (holds (begins (r .process) before) r (z .0), planned-all P holds (before ++ (r ∷ [])) rs (z .1))
 
   -- each process stays within L
   one-within : (before : List StepRecord) (r : StepRecord) → Planned s (begins (r .process) before) r → (k : ℕ) → begins k before ≤ s .most → begins k (before ++ (r ∷ [])) ≤ s .most
@@ -85,8 +76,8 @@ module _ (s : Shape) where
     planned-most =
         omega (
           arith,
-          ap length (begin-records-whole rs (planned-begin [] rs ok)),
-          begins-most (processes s) (s .most) rs (planned-low [] rs ok) (λ k l. planned-within [] rs ok k (omega arith)),
+          ap length (begin-records-whole rs (planned-all (λ r. isBegin r ≡ true) (λ n r a. a .begins) [] rs ok)),
+          begins-most (processes s) (s .most) rs (planned-all (λ r. r .process < processes s) (λ n r a. formed-low (processes s) r (a .formed)) [] rs ok) (λ k l. planned-within [] rs ok k (omega arith)),
         )
 
   -- one record more
@@ -98,3 +89,15 @@ module _ (s : Shape) where
       let z = both-accepted (plannedRefusal s (begins (q .process) before) q) (beginsRefusal s (before ++ (q ∷ [])) rs) ok in
       first-accepted (plannedRefusal s (begins (q .process) before) q) _ (z .0)
       (planned-snoc (before ++ (q ∷ [])) rs r (z .1) (rw (append-snoc before q rs) more))
+
+-- ---- the tests of the call, all failed
+module _ (p l : ℕ) (bytes : List ℕ) (ok : accepted (forecastRefusal p l bytes) ≡ true) where
+  all-tests : (accepted (firstRefusal (settingsRefusal p l) (bytesRefusal (length bytes))) ≡ true) × (accepted (beginsRefusal (shapeFor p l) [] (stepRecords bytes)) ≡ true)
+  unfolding forecastRefusal
+  all-tests = both-accepted (firstRefusal (settingsRefusal p l) (bytesRefusal (length bytes))) (beginsRefusal (shapeFor p l) [] (stepRecords bytes)) ok
+
+  pub forecast-settings : accepted (settingsRefusal p l) ≡ true
+  forecast-settings = both-accepted (settingsRefusal p l) (bytesRefusal (length bytes)) (all-tests .0) .0
+
+  pub forecast-begins : accepted (beginsRefusal (shapeFor p l) [] (stepRecords bytes)) ≡ true
+  forecast-begins = all-tests .1

@@ -27,7 +27,9 @@ use Rattle.calls.proofs.Runs.{Run, runs, taken-begin, none-answered, bu
 use Rattle.calls.proofs.BeginRecords.{one-or-none, begin-records-snoc, begins-most}
 
 pub record Spent (s : Shape) (rs : List StepRecord) : Type 0 where
+  -- the records so far, and what the processes may still take
   pub records : length rs + remaining s (machineAfter s rs) ≤ length (beginRecords rs) * recordLimit s
+  -- the answers given, and the processes inside an operation
   pub answers : length (answersAlong s rs) + busyIn s (machineAfter s rs) ≡ length (beginRecords rs)
 
 -- ---- no records
@@ -39,9 +41,6 @@ none-spent s = record { records = omega (arith, start-remaining s); answers = om
 module _ (s : Shape) (tall : 1 ≤ s .height) (rs : List StepRecord) (r : StepRecord) (run : Run s rs) (acc : Accepted s (machineAfter s rs) r) (spent : Spent s rs) where
   abbrev m : Machine
   m = machineAfter s rs
-
-  abbrev m' : Machine
-  m' = machineAfter s (rs ++ (r ∷ []))
 
   longer : length (rs ++ (r ∷ [])) ≡ length rs + 1
   longer = length-append rs (r ∷ [])

@@ -49,7 +49,7 @@ not-full room x h = on (atQ x) refl
     on true e = le-ltb room answerSize (h e)
     on false e = refl
 
-pub step-roomy : (room : ℕ) (q : Process) → (atQ (q .status) ≡ true → answerSize ≤ room) → stepRefusal room q ≡ stepRefusal answerSize q
+step-roomy : (room : ℕ) (q : Process) → (atQ (q .status) ≡ true → answerSize ≤ room) → stepRefusal room q ≡ stepRefusal answerSize q
 unfolding stepRefusal
 step-roomy room q h = rw (not-full room (q .status) h, not-full answerSize (q .status) (λ e. le-refl answerSize))
 
@@ -62,7 +62,6 @@ record-roomy s room q r h = on (illFormed (processes s) r) refl
     on true e = rw e
     on false e = rw (e, step-roomy room q (h e))
 
--- ---- a run
 -- a refusal's number is neither 3 nor 9
 abbrev pub Fits : ℕ → Type 0
 Fits x = eqb x (refusalNumber TableShort) || eqb x (refusalNumber AnswersFull) ≡ false
@@ -77,6 +76,7 @@ record-fits s q r =
     (both Roomy (isStep r) (both Roomy (isIdle (q .status)) refl (rw (not-full answerSize (q .status) (λ e. le-refl answerSize)) refl))
     (both Roomy (leb (s .most) (q .begun)) refl (both Roomy (not (isIdle (q .status))) refl refl)))
 
+-- ---- a run
 inside-q : (x : Status) → atQ x ≡ true → inside x ≡ 1
 unfolding atQ isIdle
 inside-q Idle e = absurd (false≢true e)
@@ -131,7 +131,7 @@ module _ (s : Shape) (tall : 1 ≤ s .height) (room : ℕ) where
       (record-same rs r (subst HasRoom (append-nil rs) (fits [] (r ∷ ts) refl)) e))
 
   -- a run that has room for all that its first records begin, wherever it ends
-  pub roomy : (rs : List StepRecord) → ((us vs : List StepRecord) → rs ≡ us ++ vs → HasRoom us) → play s room rs ≡ playRoomy s rs
+  roomy : (rs : List StepRecord) → ((us vs : List StepRecord) → rs ≡ us ++ vs → HasRoom us) → play s room rs ≡ playRoomy s rs
   unfolding play playBy
   roomy rs fits = records-same [] rs fits refl
 

@@ -43,7 +43,7 @@ module _ (s : Shape) (tall : 1 ≤ s .height) (room : ℕ) (rs : List StepRecord
   answered-by : length (g .answers) ≤ length (beginRecords took)
   answered-by = omega (arith, ap length (played-answers s room rs), spent s tall legal .answers)
 
-  pub taken-within : (n : ℕ) → length (beginRecords took) ≤ n → g .taken ≤ n * recordLimit s
+  taken-within : (n : ℕ) → length (beginRecords took) ≤ n → g .taken ≤ n * recordLimit s
   taken-within n h = le-trans taken-by (mul-le-mul-right (recordLimit s) h)
 
   -- by those that its list begins

@@ -13,7 +13,7 @@ use Rattle.calls.specs.PlainQueue.{fed, answers}
 use Rattle.calls.specs.History.{machineAfter, doesQ, begins, operation, event, eventsAfter, history, isOpening, isOwnStep, isFinish, isOpened, isFinished, finishedBefore, ownSteps, does}
 use Rattle.calls.specs.Demand3.{queueAfter, queueAnswer, queueRecord, finishing, stepLimit}
 use Rattle.calls.specs.Linearizable.{response, precedes}
-use Rattle.calls.specs.Forecast.{recordLimit, forecastRefusal, plannedRefusal, beginsRefusal, foreseen, forecast, beginRecords}
+use Rattle.calls.specs.Forecast.{recordLimit, plannedRefusal, beginsRefusal, forecastRefusal, foreseen, forecast, beginRecords}
 
 unfoldable pub rules : Unit {0}
 unfolding records trees stepRules margin putNumber valueOf byMargin takeReply replyOf answerOf answersFrom answersOf
@@ -23,5 +23,5 @@ unfolding records trees stepRules margin putNumber valueOf byMargin takeReply re
     checkRefusal verdictNumber verdictIndex verdictRefusal checked verdictOn checkPlayed checkLog logOfRules recordAt
     fed answers machineAfter doesQ begins operation event eventsAfter history isOpening isOwnStep isFinish isOpened
     isFinished finishedBefore ownSteps does queueAfter queueAnswer queueRecord finishing stepLimit response precedes
-    recordLimit forecastRefusal plannedRefusal beginsRefusal foreseen forecast beginRecords
+    recordLimit plannedRefusal beginsRefusal forecastRefusal foreseen forecast beginRecords
 rules = tt

@@ -26,10 +26,6 @@ use Rattle.calls.specs.Demand3.{stepLimit}
 unfoldable pub recordLimit : Shape → ℕ
 recordLimit s = stepLimit s + 1
 
--- the call before its first record, with so many bytes of begin records: 1, 2, 4
-unfoldable pub forecastRefusal : ℕ → ℕ → ℕ → Refusal
-forecastRefusal p l bytes = firstRefusal (settingsRefusal p l) (bytesRefusal bytes)
-
 -- a record whose process begins so many operations before it: 5; 12 kind 0; 8
 unfoldable pub plannedRefusal : Shape → ℕ → StepRecord → Refusal
 plannedRefusal s begun r =
@@ -44,6 +40,11 @@ beginsRefusal s before [] = None
 beginsRefusal s before (r ∷ rs) =
     let later = beginsRefusal s (before ++ (r ∷ [])) rs in
     firstRefusal (plannedRefusal s (begins (r .process) before) r) later
+
+-- the call: 1, 2, 4; then its records
+unfoldable pub forecastRefusal : ℕ → ℕ → List ℕ → Refusal
+forecastRefusal p l bytes =
+    firstRefusal (firstRefusal (settingsRefusal p l) (bytesRefusal (length bytes))) (beginsRefusal (shapeFor p l) [] (stepRecords bytes))
 
 -- what the call returns: the paper's number of the refusal, the words of the work table, the bytes of the answers, and
 -- a limit on the records of any run
@@ -60,10 +61,8 @@ foreseen s n = record { refusal = 0; words = wordsNeeded s; answerBytes = answer
 -- the forecast takes p, L, begin records; a refusal returns zeros
 unfoldable pub forecast : ℕ → ℕ → List ℕ → ForecastResult
 forecast p l bytes =
-    let s = shapeFor p l in
-    let rs = stepRecords bytes in
-    let n = firstRefusal (forecastRefusal p l (length bytes)) (beginsRefusal s [] rs) in
-    if accepted n then foreseen s (length rs)
+    let n = forecastRefusal p l bytes in
+    if accepted n then foreseen (shapeFor p l) (length (stepRecords bytes))
     else record { refusal = refusalNumber n; words = 0; answerBytes = 0; records = 0 }
 
 -- ---- what it says of runs

@@ -3,7 +3,7 @@ use Prim.Native.Nat.{ℕ, _*_, _/_, _≤_}
 use native.Mathlib.Omega.{arith}
 use mathlib.Core.Path.{_≡_, ap, sym, _∙_, subst}
 use mathlib.Core.Bool.{true, false}
-use mathlib.Core.List.{List, []}
+use mathlib.Core.List.{List}
 use lib.ListN.{length}
 use Rattle.record.specs.declared.StepRecord.{StepRecord}
 use Rattle.record.specs.StepRecords.{stepRecords}
@@ -15,12 +15,12 @@ use Rattle.tree.proofs.LayoutSums.{product-most}
 use Rattle.tree.proofs.Places.{processes-most}
 use Rattle.steps.proofs.Limits.{allowed-most, short-for}
 use Rattle.calls.specs.declared.Refusal.{Refusal}
-use Rattle.calls.specs.Refusals.{accepted, firstRefusal, settingsRefusal, bytesRefusal}
+use Rattle.calls.specs.Refusals.{accepted, firstRefusal}
 use Rattle.calls.specs.Demand3.{stepLimit}
-use Rattle.calls.specs.Forecast.{recordLimit, forecastRefusal, beginsRefusal, foreseen, forecast, Forecasts}
+use Rattle.calls.specs.Forecast.{recordLimit, forecastRefusal, foreseen, forecast, Forecasts}
 use Rattle.calls.proofs.Acceptance.{zero-accepted}
-use Rattle.calls.proofs.CallAccepted.{both-accepted, settings-operations}
-use Rattle.calls.proofs.PlannedBegins.{planned-most}
+use Rattle.calls.proofs.CallAccepted.{settings-operations}
+use Rattle.calls.proofs.PlannedBegins.{planned-most, forecast-settings, forecast-begins}
 use Rattle.calls.proofs.ForecastHolds.{forecast-holds}
 use Rattle.forecast.specs.declared.Forecast.{Forecast}
 use Rattle.forecast.specs.Returned.{returned}
@@ -51,15 +51,12 @@ module _ (p l : ℕ) (bytes : List ℕ) where
   abbrev rs : List StepRecord
   rs = stepRecords bytes
 
-  abbrev refusal : Refusal
-  refusal = firstRefusal (forecastRefusal p l (length bytes)) (beginsRefusal s [] rs)
-
   -- both clauses follow from the equation
   pub both-clauses : (f : Forecast) → returned f ≡ forecast p l bytes → (returned f ≡ forecast p l bytes) × Forecasts p l bytes (returned f)
   both-clauses f e = (e, subst (Forecasts p l bytes) (sym e) (forecast-holds p l bytes))
 
   -- n, what the tests say
-  module _ (n : Refusal) (told : n ≡ refusal) where
+  module _ (n : Refusal) (told : n ≡ forecastRefusal p l bytes) where
     pub returns-zeros : accepted n ≡ false → returned (record { refusal = n; words = 0; «answer_bytes» = 0; records = 0 }) ≡ forecast p l bytes
     unfolding returned forecast
     returns-zeros e = rw (← told, e)
@@ -70,14 +67,13 @@ module _ (p l : ℕ) (bytes : List ℕ) where
       unfolding returned forecast foreseen
       returns-foreseen w a r x y z = rw (← told, none, x, y, z, zero-accepted n none)
 
-      passed : (accepted (forecastRefusal p l (length bytes)) ≡ true) × (accepted (beginsRefusal s [] rs) ≡ true)
-      passed = both-accepted (forecastRefusal p l (length bytes)) (beginsRefusal s [] rs) (ap accepted (sym told) ∙ none)
+      passed : accepted (forecastRefusal p l bytes) ≡ true
+      passed = ap accepted (sym told) ∙ none
 
       pub most-allowed : l ≤ 500
-      unfolding forecastRefusal
-      most-allowed = allowed-most l (settings-operations p l (both-accepted (settingsRefusal p l) (bytesRefusal (length bytes)) (passed .0) .0)) .1
+      most-allowed = allowed-most l (settings-operations p l (forecast-settings p l bytes passed)) .1
 
       pub few-begins : length bytes / 8 ≤ 4000
       unfolding shapeFor
       few-begins =
-          omega (arith, records-length bytes, planned-most s rs (passed .1), product-most (processes s) l 8 500 (processes-most s (short-for p l)) most-allowed)
+          omega (arith, records-length bytes, planned-most s rs (forecast-begins p l bytes passed), product-most (processes s) l 8 500 (processes-most s (short-for p l)) most-allowed)

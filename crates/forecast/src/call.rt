@@ -9,18 +9,14 @@ use refusals::numbers::accepted;
 use tree::layout::height_for;
 use tree::layout::words_needed;
 ghost use mathlib.Core.Path.{_≡_};
-ghost use mathlib.Core.List.{[]};
 ghost use Prim.Native.Nat.{_≤_};
-ghost use lib.ListN.{length};
-ghost use Rattle.record.specs.StepRecords.{stepRecords};
-ghost use Rattle.tree.specs.Shape.{Shape, shapeFor};
-ghost use Rattle.calls.specs.Refusals.{firstRefusal};
-ghost use Rattle.calls.specs.Forecast.{recordLimit, forecastRefusal, beginsRefusal, forecast as forecastOf, Forecasts};
+ghost use Rattle.tree.specs.Shape.{Shape};
+ghost use Rattle.calls.specs.Forecast.{recordLimit, forecastRefusal, forecast as forecastOf, Forecasts};
 ghost use Rattle.forecast.specs.Returned.{returned};
 
 // Why the call is refused: 1, 2, 4, then the tests of the records.
 fn refusal_of(p: u32, l: u32, begins: &[u8]) -> Refusal
-    ensures { λ r. ⌜ r ≡ firstRefusal (forecastRefusal p l (length (now (begins .entry)))) (beginsRefusal (shapeFor p l) [] (stepRecords (now (begins .entry)))) ⌝ }
+    ensures { λ r. ⌜ r ≡ forecastRefusal p l (now (begins .entry)) ⌝ }
 {
     let of_settings = settings(p, l);
     if !accepted(of_settings) {

@@ -1,7 +1,7 @@
 //! The forecast: each number at its edge, begins with something wrong at every place, and runs on
 //! just what is foreseen.
 
-use crate::support::{candidates, mixed_list};
+use crate::support::{mixed_list, with_a_record_more};
 use compare::calls::Input;
 use compare::forecasts::Forecasts;
 use reference::forecast::{begins_of, ForecastResult};
@@ -64,12 +64,8 @@ fn numbers_in_their_order() {
 #[test]
 fn a_record_more_at_every_place() {
     for (p, l) in [(2, 1), (2, 3), (4, 2), (8, 1)] {
-        let begins = all_begins(p, l);
-        for place in (0..=begins.len()).step_by(8) {
-            for record in candidates(p as u8) {
-                let (before, after) = begins.split_at(place);
-                foreseen(p, l, &[before, &record, after].concat());
-            }
+        for longer in with_a_record_more(p, &all_begins(p, l)) {
+            foreseen(p, l, &longer);
         }
     }
 }

@@ -1,16 +1,13 @@
 //! Every record that can be wrong, at every place of a list.
 
-use crate::support::{candidates, compare_amply, mixed_list, needed};
+use crate::support::{compare_amply, mixed_list, needed, with_a_record_more};
 use otq::{Refusal, Verdict};
 use reference::lists::List;
 
 fn compare_each(p: u32, l: u32) {
     let list = mixed_list(p, l, 3);
-    for place in (0..=list.len()).step_by(8) {
-        for record in candidates(p as u8) {
-            let (before, after) = list.split_at(place);
-            compare_amply(p, l, &[before, &record, after].concat());
-        }
+    for longer in with_a_record_more(p, &list) {
+        compare_amply(p, l, &longer);
     }
 }
 

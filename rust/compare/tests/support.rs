@@ -3,6 +3,7 @@
 use compare::calls::Input;
 use otq::{most_answer_bytes, most_order_bytes, table_words};
 use reference::forecast::begins_of;
+use reference::hostile::ill_formed;
 use reference::schedules::{schedule, Pace, Plan};
 use std::path::{Path, PathBuf};
 
@@ -32,26 +33,18 @@ pub fn compare_amply(p: u32, l: u32, records: &[u8]) {
     Input { p, l, records }.forecast();
 }
 
-/// Ill-formed records of each sort, and a step, a begin of a put and a begin of a take by each process:
-/// at most places these are of an idle process, of a busy one, or past L.
-pub fn candidates(p: u8) -> Vec<[u8; 8]> {
-    let mut candidates = vec![
-        [p, 0, 0, 0, 0, 0, 0, 0],
-        [255, 1, 0, 0, 7, 0, 0, 0],
-        [0, 3, 0, 0, 0, 0, 0, 0],
-        [1, 255, 0, 0, 0, 0, 0, 0],
-        [0, 1, 1, 0, 0, 0, 0, 0],
-        [0, 1, 0, 128, 0, 0, 0, 0],
-    ];
-    for byte in 4..8 {
-        for kind in [0, 2] {
-            let mut record = [1, kind, 0, 0, 0, 0, 0, 0];
-            record[byte] = 1;
-            candidates.push(record);
-        }
+/// The list with one record more, at every place: ill-formed ones of each sort, and a step, a begin
+/// of a put and a begin of a take by each process. At most places these are of an idle process, of a
+/// busy one, or past L.
+pub fn with_a_record_more(p: u32, list: &[u8]) -> impl Iterator<Item = Vec<u8>> + '_ {
+    let mut records = ill_formed(p);
+    for process in 0..p as u8 {
+        records.extend([0, 1, 2].map(|kind| [process, kind, 0, 0, 0, 0, 0, 0]));
     }
-    for process in 0..p {
-        candidates.extend([0, 1, 2].map(|kind| [process, kind, 0, 0, 0, 0, 0, 0]));
-    }
-    candidates
+    let places = (0..=list.len()).step_by(8);
+    places.flat_map(move |place| {
+        let (before, after) = list.split_at(place);
+        let lists = records.clone().into_iter();
+        lists.map(move |record| [before, &record, after].concat())
+    })
 }

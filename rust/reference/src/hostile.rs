@@ -1,6 +1,30 @@
-//! Lists and logs with something wrong.
+//! Records, lists and logs with something wrong.
 
 use crate::random::Random;
+
+/// Ill-formed records of each sort, whatever the processes do.
+pub fn ill_formed(p: u32) -> Vec<[u8; 8]> {
+    let p = p as u8;
+    let mut records = vec![
+        [p, 0, 0, 0, 0, 0, 0, 0],
+        [p, 1, 0, 0, 7, 0, 0, 0],
+        [255, 2, 0, 0, 0, 0, 0, 0],
+        [0, 3, 0, 0, 0, 0, 0, 0],
+        [1, 255, 0, 0, 0, 0, 0, 0],
+        [0, 1, 1, 0, 0, 0, 0, 0],
+        [0, 2, 0, 128, 0, 0, 0, 0],
+        [1, 0, 4, 0, 0, 0, 0, 0],
+        [0, 0, 0, 1, 0, 0, 0, 0],
+    ];
+    for byte in 4..8 {
+        for kind in [0, 2] {
+            let mut record = [1, kind, 0, 0, 0, 0, 0, 0];
+            record[byte] = 1;
+            records.push(record);
+        }
+    }
+    records
+}
 
 /// What is done to a list of records.
 #[derive(Clone, Copy, PartialEq, Eq, Debug)]

@@ -1,8 +1,9 @@
 //! The forecast: its sums, and each number at its edge, with zeros.
 
-use crate::support::{ill_formed, needed};
+use crate::support::needed;
 use reference::begin_lists::BeginList;
 use reference::forecast::{forecast, ForecastResult};
+use reference::hostile::ill_formed;
 use reference::lists::List;
 use reference::random::Random;
 

@@ -1,8 +1,7 @@
 //! Refusals 5 to 8 at every place of a list: exactly what the records before it left.
 
-use crate::support::{
-    check_with, ill_formed, list_with, mixed_list, needed, pattern_bytes, run_amply, SPARE,
-};
+use crate::support::{check_with, list_with, mixed_list, needed, pattern_bytes, run_amply, SPARE};
+use reference::hostile::ill_formed;
 use reference::lists::List;
 use reference::machine::Machine;
 use reference::records::{Act, Operation, StepRecord};

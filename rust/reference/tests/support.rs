@@ -160,26 +160,6 @@ pub fn one_by_one() -> Vec<u8> {
     puts.take(0).steps(0, 15).take(1).steps(1, 15).bytes()
 }
 
-/// Ill-formed records of each sort, whatever the processes do.
-pub fn ill_formed(p: u32) -> Vec<[u8; 8]> {
-    let p = p as u8;
-    vec![
-        [p, 0, 0, 0, 0, 0, 0, 0],
-        [p, 1, 0, 0, 7, 0, 0, 0],
-        [255, 2, 0, 0, 0, 0, 0, 0],
-        [0, 3, 0, 0, 0, 0, 0, 0],
-        [1, 255, 0, 0, 0, 0, 0, 0],
-        [0, 1, 1, 0, 0, 0, 0, 0],
-        [0, 2, 0, 128, 0, 0, 0, 0],
-        [1, 0, 4, 0, 0, 0, 0, 0],
-        [0, 0, 0, 1, 0, 0, 0, 0],
-        [0, 0, 0, 0, 1, 0, 0, 0],
-        [1, 0, 0, 0, 0, 0, 0, 1],
-        [1, 2, 0, 0, 0, 2, 0, 0],
-        [0, 2, 0, 0, 0, 0, 3, 0],
-    ]
-}
-
 /// A mixed list in which all operations finish.
 pub fn mixed_list(p: u32, l: u32, seed: u64) -> Vec<u8> {
     schedule(&Plan::new(p, l, Pace::Bursts(9), seed))
