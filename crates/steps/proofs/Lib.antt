@@ -1,4 +1,7 @@
 pub mod StepNames
+pub mod Alike
+pub mod AlikeCode
+pub mod Taken
 pub mod Stages
 pub mod Turns
 pub mod Progress

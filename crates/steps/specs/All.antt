@@ -2,8 +2,10 @@
 use Rattle.steps.specs.Process.{idle, processesAllowed, operationsAllowed}
 use Rattle.steps.specs.Rules.{above, resume, advance, afterRefresh, help, plusOperation, joined, built, sameTotals, blockOf, go, step}
 use Rattle.steps.specs.Machine.{start, processOf, withProcess, isIdle, isQ, atQ, begin, stepFrom, stepOf}
+use Rattle.steps.specs.Alike.{position, totalsPositions, positions, wordsTaken}
 
 unfoldable pub stepRules : Unit {0}
 unfolding idle processesAllowed operationsAllowed above resume advance afterRefresh help plusOperation joined built
     sameTotals blockOf go step start processOf withProcess isIdle isQ atQ begin stepFrom stepOf
+    position totalsPositions positions wordsTaken
 stepRules = tt

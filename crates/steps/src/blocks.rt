@@ -4,6 +4,7 @@ use crate::Built;
 use crate::Process;
 use crate::Step;
 use crate::Visit;
+use crate::build::bare;
 use crate::build::block_of;
 use crate::build::joined;
 use crate::build::plus_operation;
@@ -17,24 +18,28 @@ use crate::turn::moved;
 use crate::turn::operation_in;
 use crate::turn::step_in;
 use tree::Block;
+use tree::Totals;
 use tree::access::absent_at;
 use tree::access::block_at;
 use tree::access::set_super_at;
+use tree::access::size_at_root;
+use tree::access::totals_at;
 use tree::access::write_at;
 use tree::access::write_if_absent;
 use tree::heads::head_of;
 ghost use mathlib.Core.Bool.{false};
 ghost use mathlib.Core.Path.{_≡_};
 ghost use mathlib.Core.List.{List};
-ghost use Prim.Native.Nat.{ℕ, _+_, _*_, _-_, _<_};
+ghost use Prim.Native.Nat.{ℕ, _+_, _*_, _-_, _≤_, _<_};
 ghost use Rattle.base.specs.Choice.{if_then_else_};
 ghost use Rattle.tree.specs.Shape.{Shape, leafOf};
 ghost use Rattle.tree.specs.Memory.{memoryOf};
 ghost use Rattle.steps.specs.Rules.{above as aboveOf, help as helpOf, built as builtOf, sameTotals, step, go};
 ghost use Rattle.steps.specs.Machine.{isIdle};
 ghost use Rattle.steps.specs.Contracts.Next.{operationIn, stepIn, Moves, PartsBegin, StepsByTable, Fits, FitsLeaf};
-ghost use Rattle.tree.specs.Contracts.Access.{Begins, HasPart, HasPlace, nodeBlock};
-ghost use Rattle.steps.specs.Contracts.Ready.{Adds, Builds};
+ghost use Rattle.tree.specs.Contracts.Access.{Begins, HasPart, HasPlace, nodeBlock, totalsOf};
+ghost use Rattle.steps.specs.Contracts.Ready.{Adds};
+ghost use Rattle.steps.specs.Contracts.Taken.{sizeTaken, BuildsAlike};
 
 // A: the operation's block at the head of its own leaf, where no other process writes.
 pub fn step_a(
@@ -141,30 +146,42 @@ fn settle(w: Visit, n: Built, old: Block) -> Step
     Step::C4 { visit: w, built: n }
 }
 
-// What C3 makes of the children's blocks at the ends l and r; `old` is the node's block before.
-fn build(table: &[u32], starts: &[usize; 17], w: Visit, old: Block, l: u32, r: u32) -> Built
-    requires { ⌜ Builds (now starts) (now table) w l r × (old ≡ nodeBlock (now starts) (now table) (w .node) (w .head - 1)) ⌝ }
+// The size of the block before the head that was read, in the root. Below the root there is no size, and none is read.
+fn size_before(table: &[u32], starts: &[usize; 17], w: Visit) -> u32
+    requires { ⌜ (1 ≤ w .head) × HasPlace (now starts) (now table) (w .node) (w .head - 1) ⌝ }
+    ensures { λ r. ⌜ r ≡ sizeTaken (w .node) (nodeBlock (now (starts .entry)) (now (table .entry)) (w .node) (w .head - 1)) ⌝ }
+{
+    if w.node == 1 {
+        return size_at_root(table, starts, w.head - 1);
+    }
+    0
+}
+
+// What C3 makes of the children's blocks at the ends l and r; `old` are the totals of the node's block before.
+fn build(table: &[u32], starts: &[usize; 17], w: Visit, old: Totals, l: u32, r: u32) -> Built
+    requires { ⌜ BuildsAlike (now starts) (now table) w l r × (old ≡ totalsOf (nodeBlock (now starts) (now table) (w .node) (w .head - 1))) ⌝ }
     ensures { λ n. ⌜ ((s : Shape) (heads : List ℕ) → PartsBegin s (now (starts .entry)) (Step.C3 w l r) →
         n ≡ builtOf s (memoryOf (now (table .entry)) heads) w l r) ⌝ }
 {
     let v = w.node;
-    let x = block_at(table, starts, 2 * v, l);
-    let y = block_at(table, starts, 2 * v + 1, r);
-    joined(v, old, x, y, l, r)
+    let x = totals_at(table, starts, 2 * v, l);
+    let y = totals_at(table, starts, 2 * v + 1, r);
+    let size = size_before(table, starts, w);
+    joined(v, bare(old, size), bare(x, 0), bare(y, 0), l, r)
 }
 
 // C3: the block is made of the children's blocks at the ends that C1 and C2 found.
 pub fn step_c3(table: &[u32], starts: &[usize; 17], q: Process) -> Process
     requires { ⌜ (q .steps < 65536) × ((w : Visit) (l r : ℕ) → stepIn (q .status) ≡ Step.C3 w l r →
-        Builds (now starts) (now table) w l r × Fits (now starts) (Step.C3 w l r)) ⌝ }
+        BuildsAlike (now starts) (now table) w l r × Fits (now starts) (Step.C3 w l r)) ⌝ }
     ensures { λ z. ⌜ StepsByTable (λ P. (w : Visit) (l r : ℕ) → P (Step.C3 w l r)) (now (starts .entry)) (now (table .entry)) (now (table .entry)) q z ⌝ }
 {
     let Step::C3 { visit, left, right } = step_in(q) else {
         return q;
     };
-    let old = block_at(table, starts, visit.node, visit.head - 1);
+    let old = totals_at(table, starts, visit.node, visit.head - 1);
     let built = build(table, starts, visit, old, left, right);
-    moved(q, settle(visit, built, old))
+    moved(q, settle(visit, built, bare(old, 0)))
 }
 
 // C4: the block is written if its place is still empty. The refresh has then succeeded.

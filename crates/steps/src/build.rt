@@ -2,10 +2,12 @@
 use crate::Built;
 use crate::Operation;
 use tree::Block;
+use tree::Totals;
 ghost use mathlib.Core.Path.{_≡_};
 ghost use Prim.Native.Nat.{_+_, _≤_, _<_};
 ghost use Rattle.tree.specs.Size.{rootSize};
 ghost use Rattle.steps.specs.Rules.{plusOperation, joined as joinedOf, sameTotals, blockOf};
+ghost use Rattle.steps.specs.Contracts.Taken.{bare as bareOf};
 
 // A leaf's next block: the totals of the last one plus this operation. A take has no value, and a leaf has no children,
 // so their words are 0.
@@ -30,6 +32,21 @@ pub fn plus_operation(o: Operation, b: Block) -> Block
             right: 0,
             size: 0,
         },
+    }
+}
+
+// The block with these totals and this size, and 0 for the words that C3 does not take: `joined` and `settle` take
+// blocks.
+pub fn bare(t: Totals, size: u32) -> Block
+    ensures { λ r. ⌜ r ≡ bareOf t size ⌝ }
+{
+    Block {
+        puts: t.puts,
+        takes: t.takes,
+        superblock: 0,
+        left: 0,
+        right: 0,
+        size: size,
     }
 }
 

@@ -1,4 +1,5 @@
 pub mod Parts
+pub mod PartWords
 pub mod BlockWrites
 pub mod Heights
 pub mod Sizes

@@ -2,7 +2,9 @@
 use crate::BLOCK_WORDS;
 use crate::Block;
 use crate::PUTS_WORD;
+use crate::SIZE_WORD;
 use crate::TAKES_WORD;
+use crate::Totals;
 use crate::blocks;
 use crate::table;
 use base::as_index;
@@ -13,7 +15,7 @@ ghost use Rattle.base.specs.Choice.{if_then_else_};
 ghost use Rattle.tree.specs.Layout.{blockWords};
 ghost use Rattle.tree.specs.Blocks.{wordIn, absent as absentOf};
 ghost use Rattle.tree.specs.Memory.{withSuper};
-ghost use Rattle.tree.specs.Contracts.Access.{HasPart, HasPlace, nodePart, nodeBlock, withNodeBlock};
+ghost use Rattle.tree.specs.Contracts.Access.{HasPart, HasPlace, nodePart, nodeBlock, totalsOf, withNodeBlock};
 
 // Where node v's part begins, which is where that of the node before it ends.
 pub fn start_of(starts: &[usize; 17], v: u32) -> usize
@@ -31,6 +33,36 @@ pub fn block_at(words: &[u32], starts: &[usize; 17], v: u32, i: u32) -> Block
     let from = start_of(starts, v);
     let to = start_of(starts, v + 1);
     blocks::block_in(&words[from..to], as_index(i))
+}
+
+// One word of node v's block at place i, which it has, so that no test is needed.
+fn word_in_place(words: &[u32], starts: &[usize; 17], v: u32, i: u32, word: usize) -> u32
+    requires { ⌜ HasPlace (now starts) (now words) v i × (word < blockWords) ⌝ }
+    ensures { λ r. ⌜ r ≡ wordIn (nodePart (now (starts .entry)) (now (words .entry)) v) i word ⌝ }
+{
+    let from = start_of(starts, v);
+    let to = start_of(starts, v + 1);
+    let part = &words[from..to];
+    part[BLOCK_WORDS * as_index(i) + word]
+}
+
+// The totals of node v's block at place i. No other word of it is read.
+pub fn totals_at(words: &[u32], starts: &[usize; 17], v: u32, i: u32) -> Totals
+    requires { ⌜ HasPlace (now starts) (now words) v i ⌝ }
+    ensures { λ r. ⌜ r ≡ totalsOf (nodeBlock (now (starts .entry)) (now (words .entry)) v i) ⌝ }
+{
+    Totals {
+        puts: word_in_place(words, starts, v, i, PUTS_WORD),
+        takes: word_in_place(words, starts, v, i, TAKES_WORD),
+    }
+}
+
+// The size of the root's block at place i. Blocks of other nodes have none.
+pub fn size_at_root(words: &[u32], starts: &[usize; 17], i: u32) -> u32
+    requires { ⌜ HasPlace (now starts) (now words) 1 i ⌝ }
+    ensures { λ r. ⌜ r ≡ nodeBlock (now (starts .entry)) (now (words .entry)) 1 i .size ⌝ }
+{
+    word_in_place(words, starts, 1, i, SIZE_WORD)
 }
 
 // One word of node v's block at any place. One past the last it is 0: there a child is looked at whose places are all

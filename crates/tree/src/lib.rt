@@ -34,6 +34,12 @@ pub struct Block {
     pub size: u32,
 }
 
+// A block's puts and takes.
+pub struct Totals {
+    pub puts: u32,
+    pub takes: u32,
+}
+
 // The two kinds of operations.
 pub enum Kind {
     Puts,

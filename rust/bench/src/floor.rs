@@ -291,9 +291,11 @@ impl Process {
                 if self.puts == *old && self.takes == *old.add(TAKES) {
                     self.go_up();
                 } else {
-                    let held = *old.add(SIZE) + (self.puts - *old);
-                    let size = held.saturating_sub(self.takes - *old.add(TAKES));
-                    self.size = if self.node == 1 { size } else { 0 };
+                    self.size = 0;
+                    if self.node == 1 {
+                        let held = *old.add(SIZE) + (self.puts - *old);
+                        self.size = held.saturating_sub(self.takes - *old.add(TAKES));
+                    }
                     self.next = C4;
                 }
             }

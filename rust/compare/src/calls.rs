@@ -44,15 +44,26 @@ impl Input<'_> {
     /// Run, on a table and answer bytes of these lengths; its answers too.
     pub fn run(self, table: usize, answers: usize) -> (RunResult, Vec<u8>) {
         let Input { p, l, records } = self;
-        let told = || self.told("run", table, answers);
-        let found = left_of(table, answers, |table, answers| {
+        self.run_by(table, answers, |table, answers| {
             let run = otq::run(p, l, records, table, answers);
             RunResult {
                 refusal: number(run.refusal),
                 taken: run.taken,
                 answers: run.answers,
             }
-        });
+        })
+    }
+
+    /// As `run`, where the library's Run is called by the caller.
+    pub fn run_by(
+        self,
+        table: usize,
+        answers: usize,
+        library: impl FnOnce(&mut [u32], &mut [u8]) -> RunResult,
+    ) -> (RunResult, Vec<u8>) {
+        let Input { p, l, records } = self;
+        let told = || self.told("run", table, answers);
+        let found = left_of(table, answers, library);
         let expected = left_of(table, answers, |table, answers| {
             run::run(p, l, records, table, answers)
         });

@@ -1,7 +1,9 @@
 //! The compiled library, its header and the printing program against the reference, one file for each
 //! topic.
 
+mod c3_words;
 mod forecasts;
+mod guarded;
 mod header;
 mod known_runs;
 mod lengths;

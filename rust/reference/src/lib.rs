@@ -2,6 +2,7 @@
 
 pub mod account;
 pub mod begin_lists;
+pub mod c3_words;
 pub mod check;
 pub mod demand3;
 pub mod forecast;

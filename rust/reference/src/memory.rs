@@ -7,7 +7,7 @@ use crate::tree::{Block, Shape, Tree};
 pub struct Memory {
     pub tree: Tree,
     /// By node number; entry 0 is not used.
-    heads: Vec<u32>,
+    pub heads: Vec<u32>,
 }
 
 impl Memory {

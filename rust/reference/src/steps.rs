@@ -3,7 +3,7 @@
 use crate::memory::Memory;
 use crate::process::{Advance, Attempt, Refresh, Step, Then};
 use crate::records::Operation;
-use crate::tree::{left_child, parent, right_child, Block, ROOT};
+use crate::tree::{left_child, parent, right_child, Block, Totals, ROOT};
 
 /// The first step of an advance; at the root V3 only.
 fn begin_advance(node: u32, place: u32, then: Then) -> Step {
@@ -162,27 +162,38 @@ fn create_step(memory: &mut Memory, step: Step) -> Step {
     }
 }
 
-/// C3: the block from the children's blocks at the ends; equal totals end the
-/// refresh with success, without C4 and without an advance.
+/// C3: the block from the totals of the children's blocks at the ends; equal totals end the
+/// refresh with success, without C4 and without an advance. Of the table it takes the totals of
+/// three blocks and, in the root, a size; no other word.
 fn build(memory: &Memory, refresh: Refresh, h: u32, end_left: u32, end_right: u32) -> Step {
-    let node = refresh.node;
-    let left = memory.tree.block(left_child(node), end_left);
-    let right = memory.tree.block(right_child(node), end_right);
-    let before = memory.tree.block(node, h - 1);
+    let (tree, node) = (&memory.tree, refresh.node);
+    let left = tree.totals(left_child(node), end_left);
+    let right = tree.totals(right_child(node), end_right);
+    let before = tree.totals(node, h - 1);
     let (puts, takes) = (left.puts + right.puts, left.takes + right.takes);
-    if (puts, takes) == (before.puts, before.takes) {
+    let totals = Totals { puts, takes };
+    if totals == before {
         return end_refresh(refresh, true);
     }
-    let held =
-        i64::from(before.size) + i64::from(puts - before.puts) - i64::from(takes - before.takes);
-    let size = if node == ROOT { held.max(0) } else { 0 };
+    let size = match node {
+        ROOT => size_after(tree.root_size(h - 1), before, totals),
+        _ => 0,
+    };
     let block = Block {
         puts,
         takes,
         superblock: 0,
         end_left,
         end_right,
-        size: u32::try_from(size).expect("a size is at most all puts"),
+        size,
     };
     Step::C4 { refresh, h, block }
+}
+
+/// The size of a root block, from the size and the totals of the one before it and its own totals.
+fn size_after(size: u32, before: Totals, totals: Totals) -> u32 {
+    let puts = i64::from(totals.puts - before.puts);
+    let takes = i64::from(totals.takes - before.takes);
+    let held = i64::from(size) + puts - takes;
+    u32::try_from(held.max(0)).expect("a size is at most all puts")
 }

@@ -4,6 +4,10 @@ use crate::refusal::Refusal;
 
 /// Words of one block. `Block::words` and `Block::from_words` give their order.
 pub const BLOCK_WORDS: usize = 6;
+/// Where these stand among them.
+pub const PUTS_WORD: usize = 0;
+pub const TAKES_WORD: usize = 1;
+pub const SIZE_WORD: usize = 5;
 pub const ROOT: u32 = 1;
 pub const MOST_OPERATIONS: u32 = 500;
 
@@ -49,6 +53,13 @@ impl Block {
     pub fn present(self) -> bool {
         self.puts != 0 || self.takes != 0
     }
+}
+
+/// Puts and takes up to and including a block.
+#[derive(Clone, Copy, Default, PartialEq, Eq, Hash, Debug)]
+pub struct Totals {
+    pub puts: u32,
+    pub takes: u32,
 }
 
 /// p processes, height H of the root, and L operations a process.
@@ -156,13 +167,16 @@ impl Tree {
         tree
     }
 
+    /// The needed words of a work table.
+    pub fn words(&self) -> Vec<u32> {
+        let blocks = self.nodes.iter().flatten();
+        blocks.flat_map(|block| block.words()).collect()
+    }
+
     /// Writes the needed words of a work table and no others.
     pub fn write_words(&self, table: &mut [u32]) {
-        let mut next = 0;
-        for block in self.nodes.iter().flatten() {
-            table[next..next + BLOCK_WORDS].copy_from_slice(&block.words());
-            next += BLOCK_WORDS;
-        }
+        let words = self.words();
+        table[..words.len()].copy_from_slice(&words);
     }
 
     pub fn shape(&self) -> Shape {
@@ -173,6 +187,17 @@ impl Tree {
     pub fn block(&self, node: u32, place: u32) -> Block {
         let blocks = &self.nodes[node as usize];
         blocks.get(place as usize).copied().unwrap_or_default()
+    }
+
+    /// Two words of a block alone; the node must have the place.
+    pub fn totals(&self, node: u32, place: u32) -> Totals {
+        let Block { puts, takes, .. } = self.nodes[node as usize][place as usize];
+        Totals { puts, takes }
+    }
+
+    /// The size of a root block alone; the root must have the place.
+    pub fn root_size(&self, place: u32) -> u32 {
+        self.nodes[ROOT as usize][place as usize].size
     }
 
     pub fn write(&mut self, node: u32, place: u32, block: Block) {

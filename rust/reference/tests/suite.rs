@@ -2,6 +2,7 @@
 
 mod account;
 mod branches;
+mod c3_words;
 mod call_refusals;
 mod check_log;
 mod demand3_mutations;

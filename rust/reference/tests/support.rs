@@ -95,9 +95,7 @@ pub fn past(p: u32, l: u32, list: &[u8]) -> Past {
 
 /// The needed words that a machine stands for.
 pub fn table_of(machine: &Machine) -> Vec<u32> {
-    let mut table = vec![0; machine.shape().words_needed()];
-    machine.memory.tree.write_words(&mut table);
-    table
+    machine.memory.tree.words()
 }
 
 /// The words of a node's block.

@@ -4,6 +4,7 @@ use mathlib.Core.Path.{_≡_}
 use mathlib.Core.List.{List, _++_}
 use lib.ListN.{length, getD, take, drop}
 use Rattle.tree.specs.declared.Block.{Block}
+use Rattle.tree.specs.declared.Totals.{Totals}
 use Rattle.tree.specs.Shape.{Shape, processes}
 use Rattle.tree.specs.Layout.{blockWords, partStart}
 use Rattle.tree.specs.Blocks.{blockIn, withBlock}
@@ -34,6 +35,10 @@ nodePart starts table v = take (getD starts (v + 1) 0 - getD starts v 0) (drop (
 
 unfoldable pub nodeBlock : List ℕ → List ℕ → ℕ → ℕ → Block
 nodeBlock starts table v i = blockIn (nodePart starts table v) i
+
+-- a block's totals: its puts and its takes
+unfoldable pub totalsOf : Block → Totals
+totalsOf b = record { puts = b .puts; takes = b .takes }
 
 -- the table with block b there: no word outside of that part changes
 unfoldable pub withNodeBlock : List ℕ → List ℕ → ℕ → ℕ → Block → List ℕ

@@ -1,53 +1,89 @@
--- `blocks::build` meets its contract. Assumes nothing.
+-- `blocks::build` meets its contract: the words taken are those that the rules look at. Assumes nothing.
 use Rattle.tree.specs.Shape.{leftOf, rightOf}
 use Rattle.tree.specs.Memory.{block}
+use Rattle.tree.specs.Contracts.Access.{totalsOf}
 use Rattle.steps.specs.Rules.{built}
+use Rattle.steps.specs.Contracts.Taken.{bare}
 use Rattle.tree.proofs.NodeReads.{node-read}
+use Rattle.steps.proofs.Alike.{joined-alike}
+use Rattle.steps.proofs.Taken.{bare-totals, bare-before, taken-low, has-place, totals-fit}
 use borrow.Author.Needs.{needs}
 use Rattle.steps.proofs.blocks.build.Statement.{statement}
 use Rattle.steps.proofs.blocks.build.Tie as tie
 
-mul-block-at : tie.Need-mul-block-at
-mul-block-at c = search needs
+mul-totals-at : tie.Need-mul-totals-at
+mul-totals-at c = search needs
 
-block-at-requires : tie.Need-block-at-requires
-block-at-requires c κs = search needs
+totals-at-requires : tie.Need-totals-at-requires
+totals-at-requires c κs = let p = c .before .pre .0 in has-place (p .alike .words) (p .builds .left)
 
-mul-block-at-2 : tie.Need-mul-block-at-2
-mul-block-at-2 c = search needs
+mul-totals-at-2 : tie.Need-mul-totals-at-2
+mul-totals-at-2 c = search needs
 
-add-block-at : tie.Need-add-block-at
-add-block-at c = search needs
+add-totals-at : tie.Need-add-totals-at
+add-totals-at c = search needs
 
-block-at-requires-2 : tie.Need-block-at-requires-2
-block-at-requires-2 c κs = search needs
+totals-at-requires-2 : tie.Need-totals-at-requires-2
+totals-at-requires-2 c κs = let p = c .before .before .pre .0 in has-place (p .alike .words) (p .builds .right)
+
+size-before-requires : tie.Need-size-before-requires
+size-before-requires c κs = let p = c .before .before .before .pre .0 in (p .builds .head, has-place (p .alike .words) (p .builds .before))
+
+bare-requires : tie.Need-bare-requires
+bare-requires c κs = search needs
+
+bare-requires-2 : tie.Need-bare-requires-2
+bare-requires-2 c κs = search needs
+
+bare-requires-3 : tie.Need-bare-requires-3
+bare-requires-3 c κs = search needs
 
 joined-requires : tie.Need-joined-requires
+unfolding bare totalsOf
 joined-requires c κs =
-    let p = c .before .before .before .pre .0 in
-    rw (c .before .before .before .pre .1, c .block-at2 .ensures, c .before .block-at .ensures) ((p .puts, p .takes, p .size), (p .putsRise, p .takesRise))
+    let p = c .before .before .before .before .before .before .before .pre in
+    let t = totals-fit (p .0) in
+    rw (
+      c .bare3 .ensures,
+      c .before .bare2 .ensures,
+      c .before .before .bare .ensures,
+      c .before .before .before .size-before .ensures,
+      c .before .before .before .before .totals-at2 .ensures,
+      c .before .before .before .before .before .totals-at .ensures,
+      p .1,
+    )
+    ((t .0 .0, t .0 .1, taken-low (p .0 .alike .before) (p .0 .builds .size)), t .1)
 
 returns : tie.Need-returns
 unfolding built block leftOf rightOf
 returns c = λ s heads g.
     rw (
       c .joined .ensures,
-      c .before .before .before .before .pre .1,
-      c .before .block-at2 .ensures,
-      c .before .before .block-at .ensures,
+      c .before .bare3 .ensures,
+      c .before .before .bare2 .ensures,
+      c .before .before .before .bare .ensures,
+      c .before .before .before .before .size-before .ensures,
+      c .before .before .before .before .before .totals-at2 .ensures,
+      c .before .before .before .before .before .before .totals-at .ensures,
+      c .before .before .before .before .before .before .before .before .pre .1,
       node-read s _ _ _ _ (g .0),
       node-read s _ _ _ _ (g .1),
       node-read s _ _ _ _ (g .2),
     )
+    (joined-alike (bare-before _ _) (bare-totals _ 0) (bare-totals _ 0) _ _)
 
 pub build-spec : {M : Type 1} → statement M
 build-spec =
     tie.close
     (tie.spec
-    mul-block-at
-    block-at-requires
-    mul-block-at-2
-    add-block-at
-    block-at-requires-2
+    mul-totals-at
+    totals-at-requires
+    mul-totals-at-2
+    add-totals-at
+    totals-at-requires-2
+    size-before-requires
+    bare-requires
+    bare-requires-2
+    bare-requires-3
     joined-requires
     returns)

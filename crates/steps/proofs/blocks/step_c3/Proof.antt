@@ -4,14 +4,26 @@ use Rattle.tree.specs.Memory.{block}
 use Rattle.steps.specs.declared.Step.the-variants.{C3}
 use Rattle.steps.specs.Rules.{step, go}
 use Rattle.steps.specs.Contracts.Next.{stepIn}
+use Rattle.steps.specs.Contracts.Taken.{BuildsAlike}
 use Rattle.tree.proofs.NodeReads.{node-read}
+use Rattle.steps.proofs.Alike.{same-alike}
+use Rattle.steps.proofs.AlikeCode.{Asked, Promised}
+use Rattle.steps.proofs.Taken.{bare-totals, has-place}
 use Rattle.steps.proofs.StepNames.{other, busy}
+use contract.Lifetimes.{Lfts}
+use borrow.Fn.World.{ArgsD, ResD}
 use borrow.Author.Needs.{needs}
+use Rattle.steps.proofs.blocks.step_c3.{signature}
+use Rattle.steps.proofs.blocks.step_c3.Reads.{Pre, Post}
 use Rattle.steps.proofs.blocks.step_c3.Statement.{statement}
 use Rattle.steps.proofs.blocks.step_c3.Tie as tie
 
 at : (c : tie.After-visit) → let x = c .visit .given .0 in stepIn (c .before .before .before .before .args .q .status) ≡ C3 (x .0) (x .1 .0) (x .1 .1 .0)
 at c = sym (c .before .before .step-in .ensures) ∙ c .visit .given .1
+
+-- what is required of the memory at this C3
+builds : (c : tie.After-visit) → let x = c .visit .given .0 in let a = c .before .before .before .before .args in BuildsAlike (a .starts .now) (a .table .now) (x .0) (x .1 .0) (x .1 .1 .0)
+builds c = c .before .before .before .before .pre .1 _ _ _ (at c) .0
 
 step-in-requires : tie.Need-step-in-requires
 step-in-requires c κs = search needs
@@ -22,30 +34,41 @@ enum-known-visit c = search needs
 returns : tie.Need-returns
 returns c = (λ _ _ _ e. absurd (other (c .match .keys2) (c .before .step-in .ensures ∙ e) tt), λ _. (refl, refl))
 
-sub-block-at : tie.Need-sub-block-at
-sub-block-at c = let p = c .before .before .before .before .before .before .pre .1 _ _ _ (at (c .before .before)) .0 in search needs
+sub-totals-at : tie.Need-sub-totals-at
+sub-totals-at c = let p = builds (c .before .before) in search needs
 
-block-at-requires : tie.Need-block-at-requires
-block-at-requires c κs = let p = c .before .before .before .before .before .before .pre .1 _ _ _ (at (c .before .before)) .0 in search needs
+totals-at-requires : tie.Need-totals-at-requires
+totals-at-requires c κs = let p = builds (c .before .before) in has-place (p .alike .words) (p .builds .before)
 
 build-requires : tie.Need-build-requires
-build-requires c κs = (c .before .before .before .before .before .before .before .pre .1 _ _ _ (at (c .before .before .before)) .0, c .block-at .ensures)
+build-requires c κs = (builds (c .before .before .before), c .totals-at .ensures)
+
+bare-requires : tie.Need-bare-requires
+bare-requires c κs = search needs
 
 settle-requires : tie.Need-settle-requires
 settle-requires c κs = search needs
 
 moved-requires : tie.Need-moved-requires
-moved-requires c κs = (search needs, busy _ (at (c .before .before .before .before .before)) tt)
+moved-requires c κs = (c .before .before .before .before .before .before .before .before .before .before .pre .0, busy _ (at (c .before .before .before .before .before .before)) tt)
 
 returns-2 : tie.Need-returns-2
 unfolding step go block
 returns-2 c =
-    let here = at (c .before .before .before .before .before .before) in (
+    let here = at (c .before .before .before .before .before .before .before) in (
       λ _ _ _ _. rw (c .moved .ensures) (
         refl,
         λ s k o heads b.
             let g = rw here at b in
-            rw (here, c .before .settle .ensures, c .before .before .build .ensures s heads g, c .before .before .before .block-at .ensures, node-read s _ _ _ _ (g .0)),
+            rw (
+              here,
+              c .before .settle .ensures,
+              c .before .before .bare .ensures,
+              c .before .before .before .build .ensures s heads g,
+              c .before .before .before .before .totals-at .ensures,
+              node-read s _ _ _ _ (g .0),
+              same-alike (bare-totals _ 0) _,
+            ),
       ),
       λ no. absurd (no _ _ _ here),
     )
@@ -57,9 +80,17 @@ step-c3-spec =
     step-in-requires
     enum-known-visit
     returns
-    sub-block-at
-    block-at-requires
+    sub-totals-at
+    totals-at-requires
     build-requires
+    bare-requires
     settle-requires
     moved-requires
     returns-2)
+
+-- what is shown of alike tables is shown of this contract: of all that it asks, and of what it promises
+pub asked : (κs : Lfts 2) (a : ArgsD signature κs) → Asked (a .1 .0 .now) (a .0 .now) (a .1 .1 .0) → Pre κs a
+asked κs a p = p
+
+pub promised : (κs : Lfts 2) (a : ArgsD signature κs) (z : ResD signature κs) (x : _) → Post κs a z x → Promised (a .1 .0 .now) (a .0 .now) (a .1 .1 .0) z
+promised κs a z x p = p

@@ -3,6 +3,7 @@
 use mathlib.Core.Path.{refl, ap, sym}
 use Rattle.steps.specs.Process.{idle}
 use Rattle.steps.specs.Machine.{isIdle, isQ}
+use Rattle.steps.proofs.Taken.{builds-alike}
 use Rattle.player.proofs.StepLoop.{step-named, step-busy, step-leaf, step-begins, step-playing, step-ready, step-fits, step-fits-leaf, step-moves, finish-full, finish-moves}
 use Rattle.player.proofs.play.play.Proof.Places.{Inv-loop, μ-loop, found, few-steps}
 use Rattle.player.proofs.play.play.Tie as tie
@@ -158,7 +159,7 @@ unfolding idle isQ
 ready-c3 c κs =
     let b = c .before .before .before .before in
     let busy = b .before .status .given .1 in
-    (few-steps b, λ _ _ _ e. ((step-ready (found b) busy e refl) .1, step-fits (found b) busy e refl))
+    (few-steps b, λ _ _ _ e. (builds-alike ((step-ready (found b) busy e refl) .1), step-fits (found b) busy e refl))
 
 pub again-c3 : tie.Need-loop-again-12 Inv-loop μ-loop
 unfolding idle isQ

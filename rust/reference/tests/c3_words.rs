@@ -1,0 +1,117 @@
+//! C3 takes six words of the table, in the root seven, and no head: with all others random it
+//! leads to the same step with the same registers. Each of these words plays a part.
+
+use reference::c3_words::{random_words, size_word, AtC3};
+use reference::machine::Machine;
+use reference::memory::Memory;
+use reference::process::StepName;
+use reference::random::Random;
+use reference::records::StepRecord;
+use reference::run::play_record;
+use reference::schedules::{schedule, Ending, Pace, Plan};
+use reference::tree::{Shape, Tree, ROOT};
+
+/// How much was met, so that nothing is left out by chance.
+#[derive(Default, Debug)]
+struct Met {
+    /// In the root and below it: steps that built a block, and steps that found equal totals.
+    root: [u64; 2],
+    below: [u64; 2],
+    /// By needed word: steps that one more in it alone changed.
+    changed: [u64; 7],
+}
+
+/// All words but those that are kept, and all heads, are random.
+fn others_random(random: &mut Random, memory: &Memory, kept: &[usize]) -> Memory {
+    let own = memory.tree.words();
+    let mut table = random_words(random, own.len());
+    for &word in kept {
+        table[word] = own[word];
+    }
+    Memory {
+        tree: Tree::from_words(memory.tree.shape(), &table),
+        heads: random_words(random, memory.heads.len()),
+    }
+}
+
+/// The same step follows where all other words are random.
+fn compare(random: &mut Random, machine: &Machine, at: &AtC3) {
+    let other = others_random(random, &machine.memory, &at.words);
+    at.other_words(&machine.memory.tree.words(), &other.tree.words());
+    assert_ne!(other.heads, machine.memory.heads);
+    let expected = at.next_on(machine, &machine.memory);
+    assert_eq!(at.next_on(machine, &other), expected, "{at:?}");
+}
+
+impl Met {
+    /// One more in each needed word, and below the root in the size.
+    fn change_words(&mut self, machine: &Machine, at: &AtC3) {
+        let memory = &machine.memory;
+        let next = at.next_on(machine, memory);
+        let changes = |word| {
+            let other = at.with_one_more(memory, word);
+            other.is_some_and(|other| at.next_on(machine, &other) != next)
+        };
+        for (changed, &word) in self.changed.iter_mut().zip(&at.words) {
+            *changed += u64::from(changes(word));
+        }
+        let equal = usize::from(next.name() != StepName::C4);
+        if at.node == ROOT {
+            self.root[equal] += 1;
+        } else {
+            self.below[equal] += 1;
+            let size = size_word(machine.shape(), at.node, at.h - 1);
+            assert!(!changes(size), "{at:?}");
+        }
+    }
+}
+
+/// Plays a list. Each C3 is compared at every record from when its process comes to it.
+fn compare_list(plan: &Plan, met: &mut Met) {
+    let mut random = Random::new(plan.seed);
+    let mut machine = Machine::start(Shape::new(plan.p, plan.l).unwrap());
+    for bytes in schedule(plan).chunks_exact(8) {
+        let record = StepRecord::read(bytes, plan.p).unwrap();
+        for at in (0..plan.p).filter_map(|process| AtC3::find(&machine, process)) {
+            compare(&mut random, &machine, &at);
+            if at.process == record.process {
+                met.change_words(&machine, &at);
+            }
+        }
+        play_record(&mut machine, record);
+    }
+}
+
+fn compare_lists(p: u32) -> Met {
+    let mut met = Met::default();
+    let (step, after) = (StepName::C3, false);
+    let stalls = Pace::Stalls { step, after };
+    for pace in [Pace::Uniform, Pace::Lockstep, Pace::Bursts(9), stalls] {
+        for (l, seed) in [(1, 0), (1, 1), (2, 2), (3, 3), (5, 4)] {
+            compare_list(&Plan::new(p, l, pace, seed), &mut met);
+        }
+        let plan = Plan::new(p, 24, pace, 5);
+        compare_list(&plan.ending(Ending::Cut(1000)), &mut met);
+    }
+    let plan = Plan::new(p, 500, Pace::Uniform, 6);
+    compare_list(&plan.ending(Ending::Cut(200)), &mut met);
+    met
+}
+
+fn assert_often(counts: &[u64]) {
+    assert!(counts.iter().all(|&times| times > 10), "{counts:?}");
+}
+
+#[test]
+fn two_processes() {
+    let met = compare_lists(2);
+    assert_often(&[&met.root[..], &met.changed].concat());
+}
+
+#[test]
+fn four_and_eight_processes() {
+    for p in [4, 8] {
+        let met = compare_lists(p);
+        assert_often(&[&met.root[..], &met.below, &met.changed].concat());
+    }
+}
