@@ -1,12 +1,12 @@
 -- Request c: two tables alike in the words that C3 takes give, with the same registers, the same block and the same
 -- decision, whatever their other words and the heads are.
 use Prim.Native.Nat.{ℕ, _+_, _*_, _-_}
-use native.Mathlib.Decide.{ℕ-discrete}
 use mathlib.Core.Path.{_≡_, ap}
 use mathlib.Core.List.{List}
 use lib.ListN.{length, getD}
 use lib.Dec.{eqb}
-use borrow.Author.Tests.{eq-eqb, ne-eqb}
+use borrow.Author.Tests.{eq-eqb, eqb-true}
+use Rattle.base.proofs.Cases.{cases}
 use Rattle.base.specs.Choice.{if_then_else_}
 use Rattle.tree.specs.declared.Block.{Block}
 use Rattle.tree.specs.Shape.{Shape, root}
@@ -28,11 +28,10 @@ use Rattle.tree.proofs.PartWords.{same-word}
 size-alike : {v : ℕ} {b c : Block} → AlikeBefore v b c → (puts takes : ℕ)
     → (if eqb v root then rootSize b puts takes else 0) ≡ (if eqb v root then rootSize c puts takes else 0)
 unfolding rootSize
-size-alike {v} {b} {c} a puts takes = on (ℕ-discrete v root)
-  where
-    on : Dec (v ≡ root) → (if eqb v root then rootSize b puts takes else 0) ≡ (if eqb v root then rootSize c puts takes else 0)
-    on (yes e) = rw (eq-eqb v root e, a .size e, a .totals .puts, a .totals .takes)
-    on (no e) = rw (ne-eqb v root e)
+size-alike {v} {b} {c} a puts takes =
+    cases (λ (z : ℕ). z ≡ (if eqb v root then rootSize c puts takes else 0)) (eqb v root)
+    (λ e. rw (e, a .size (eqb-true v root e), a .totals .puts, a .totals .takes))
+    (λ e. rw e)
 
 pub joined-alike : {v : ℕ} {b c x x' y y' : Block} → AlikeBefore v b c → AlikeTotals x x' → AlikeTotals y y' → (l r : ℕ)
     → joined v b x y l r ≡ joined v c x' y' l r
@@ -44,18 +43,17 @@ unfolding sameTotals
 same-alike a n = rw (a .puts, a .takes)
 
 -- ---- C3 in two memories that are alike: the same block, the same decision, and so the same next step
-pub same-block : {s : Shape} {m n : Memory} {w : Visit} {l r : ℕ} → Alike s m n w l r → built s m w l r ≡ built s n w l r
-unfolding built
-same-block {l = l} {r = r} a = joined-alike (a .before) (a .left) (a .right) l r
+module _ (s : Shape) (m n : Memory) (w : Visit) (l r : ℕ) (a : Alike s m n w l r) where
+  pub same-block : built s m w l r ≡ built s n w l r
+  unfolding built
+  same-block = joined-alike (a .before) (a .left) (a .right) l r
 
-pub same-decision : {s : Shape} {m n : Memory} {w : Visit} {l r : ℕ} → Alike s m n w l r
-    → sameTotals (built s m w l r) (block s m (w .node) (w .head - 1)) ≡ sameTotals (built s n w l r) (block s n (w .node) (w .head - 1))
-same-decision {s} {m} {n} {w} {l} {r} a = rw (same-block a) (same-alike (a .before .totals) (built s n w l r))
+  pub same-decision : sameTotals (built s m w l r) (block s m (w .node) (w .head - 1)) ≡ sameTotals (built s n w l r) (block s n (w .node) (w .head - 1))
+  same-decision = rw same-block (same-alike (a .before .totals) (built s n w l r))
 
-pub same-next : {s : Shape} {m n : Memory} {w : Visit} {l r : ℕ} → Alike s m n w l r
-    → (k : ℕ) (o : Operation) → step s k o m (C3 w l r) .next ≡ step s k o n (C3 w l r) .next
-unfolding step go
-same-next a k o = rw (same-decision a, same-block a)
+  pub same-next : (k : ℕ) (o : Operation) → step s k o m (C3 w l r) .next ≡ step s k o n (C3 w l r) .next
+  unfolding step go
+  same-next k o = rw (same-decision, same-block)
 
 -- ---- memories with the same words taken are alike
 module _ (s : Shape) (m n : Memory) (w : Visit) (l r : ℕ) (same : wordsTaken s m w l r ≡ wordsTaken s n w l r) where
@@ -84,8 +82,4 @@ module _ (s : Shape) (m n : Memory) (w : Visit) (l r : ℕ) (same : wordsTaken s
 -- and no other word is taken: six, in the root seven
 pub taken-number : (s : Shape) (m : Memory) (w : Visit) (l r : ℕ) → length (wordsTaken s m w l r) ≡ (if eqb (w .node) root then 7 else 6)
 unfolding wordsTaken positions totalsPositions
-taken-number s m w l r = on (ℕ-discrete (w .node) root)
-  where
-    on : Dec (w .node ≡ root) → length (wordsTaken s m w l r) ≡ (if eqb (w .node) root then 7 else 6)
-    on (yes e) = rw (eq-eqb (w .node) root e)
-    on (no e) = rw (ne-eqb (w .node) root e)
+taken-number s m w l r = cases (λ (z : ℕ). length (wordsTaken s m w l r) ≡ z) (eqb (w .node) root) (λ e. rw e) (λ e. rw e)

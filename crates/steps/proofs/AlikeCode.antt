@@ -44,7 +44,7 @@ module _ (s : Shape) (starts t u heads heads' : List ℕ) (w : Visit) (l r : ℕ
     pub same-process : (q y z : Process) → stepIn (q .status) ≡ C3 w l r → Promised starts t q y → Promised starts u q z → y ≡ z
     same-process q y z e py pz =
         let same : stepIn (y .status) ≡ stepIn (z .status) =
-        sym (came s starts t heads q y fits e py) ∙ ap stepIn (same-next alike 0 Take) ∙ came s starts u heads' q z fits e pz in
+        sym (came s starts t heads q y fits e py) ∙ ap stepIn (same-next s (memoryOf t heads) (memoryOf u heads') w l r alike 0 Take) ∙ came s starts u heads' q z fits e pz in
         py .0 w l r e .0 ∙ ap (moved q (operationIn (q .status))) same ∙ sym (pz .0 w l r e .0)
 
     -- the code may be given u where it may be given t
@@ -52,9 +52,8 @@ module _ (s : Shape) (starts t u heads heads' : List ℕ) (w : Visit) (l r : ℕ
     unfolding block leftOf rightOf
     same-asked e =
         let read : (x : List ℕ) (v i : ℕ) → Begins s starts v → nodeBlock starts x v i ≡ blockAt s x v i = node-read s starts in
-        needs-alike
+        needs-alike e
         (record {
-          words = e;
           left = rw (read t _ l (fits .1), read u _ l (fits .1)) (alike .left);
           right = rw (read t _ r (fits .2), read u _ r (fits .2)) (alike .right);
           before = rw (read t _ _ (fits .0), read u _ _ (fits .0)) (alike .before);

@@ -49,9 +49,13 @@ pub record AlikeBefore (v : ℕ) (b c : Block) : Type 0 where
   pub totals : AlikeTotals b c
   pub size : v ≡ root → b .size ≡ c .size
 
--- memories m and n are alike in the words that C3 takes, a field a block: the left child's, the right child's, block
--- h − 1. Of other words and of the heads nothing is said
-pub record Alike (s : Shape) (m n : Memory) (w : Visit) (l r : ℕ) : Type 0 where
-  pub left : AlikeTotals (block s m (leftOf (w .node)) l) (block s n (leftOf (w .node)) l)
-  pub right : AlikeTotals (block s m (rightOf (w .node)) r) (block s n (rightOf (w .node)) r)
-  pub before : AlikeBefore (w .node) (block s m (w .node) (w .head - 1)) (block s n (w .node) (w .head - 1))
+-- two ways to read blocks, x and y, by node and place, are alike where C3 takes words, in visit w with the ends l and r;
+-- a field a block: the left child's, the right child's, block h − 1
+pub record AlikeReads (x y : ℕ → ℕ → Block) (w : Visit) (l r : ℕ) : Type 0 where
+  pub left : AlikeTotals (x (leftOf (w .node)) l) (y (leftOf (w .node)) l)
+  pub right : AlikeTotals (x (rightOf (w .node)) r) (y (rightOf (w .node)) r)
+  pub before : AlikeBefore (w .node) (x (w .node) (w .head - 1)) (y (w .node) (w .head - 1))
+
+-- memories m and n are: of other words and of the heads nothing is said
+abbrev pub Alike : Shape → Memory → Memory → Visit → ℕ → ℕ → Type 0
+Alike s m n w l r = AlikeReads (block s m) (block s n) w l r

@@ -5,7 +5,7 @@ use crate::guarded::{self, Changes, Other};
 use crate::support::needed;
 use compare::calls::Input;
 use otq::most_answer_bytes;
-use reference::c3_words::{random_words, AtC3};
+use reference::c3_words::{random_words, AtC3, MetC3};
 use reference::machine::Machine;
 use reference::memory::Memory;
 use reference::process::{Step, StepName};
@@ -13,7 +13,7 @@ use reference::random::Random;
 use reference::records::{Act, StepRecord};
 use reference::run::play_record;
 use reference::schedules::{schedule, Ending, Pace, Plan};
-use reference::tree::{Shape, ROOT};
+use reference::tree::Shape;
 use std::collections::BTreeMap;
 use std::mem::replace;
 
@@ -30,49 +30,30 @@ fn each_c3(plan: &Plan, list: &[u8], mut does: impl FnMut(usize, &Machine, AtC3)
     }
 }
 
-/// C3 steps that were played with all other words random.
-#[derive(Default, Debug)]
-struct Met {
-    /// In the root and below it: steps that built a block, and steps that found equal totals.
-    root: [u64; 2],
-    below: [u64; 2],
-}
-
-impl Met {
-    fn count(&mut self, machine: &Machine, at: &AtC3) {
-        let next = at.next_on(machine, &machine.memory);
-        let equal = usize::from(next.name() != StepName::C4);
-        match at.node {
-            ROOT => self.root[equal] += 1,
-            _ => self.below[equal] += 1,
-        }
-    }
-
-    /// A list in which every C3 meets random words.
-    fn compare_list(&mut self, plan: &Plan) {
-        let Plan { p, l, seed, .. } = *plan;
-        let (mut random, mut others) = (Random::new(seed), BTreeMap::new());
-        let mut other_words = 0;
-        let records = &schedule(plan)[..];
-        each_c3(plan, records, |index, machine, at| {
-            self.count(machine, &at);
-            let words = random_words(&mut random, needed(p, l));
-            other_words += at.other_words(&machine.memory.tree.words(), &words);
-            let kept = at.words;
-            others.insert(index, Other { words, kept });
-        });
-        let all = Changes {
-            records: others.len(),
-            words: other_words,
-            written: 0,
-        };
-        let (input, answers) = (Input { p, l, records }, most_answer_bytes(p, l).unwrap());
-        input.run_by(needed(p, l), answers, |table, answers| {
-            let (result, changes) = guarded::run(input, table, answers, others);
-            assert_eq!(changes, all, "{plan:?}");
-            result
-        });
-    }
+/// A list in which every C3 meets random words.
+fn compare_list(plan: &Plan, met: &mut MetC3) {
+    let Plan { p, l, seed, .. } = *plan;
+    let (mut random, mut others) = (Random::new(seed), BTreeMap::new());
+    let mut other_words = 0;
+    let records = &schedule(plan)[..];
+    each_c3(plan, records, |index, machine, at| {
+        met.count(&at, at.next_on(machine, &machine.memory));
+        let words = random_words(&mut random, needed(p, l));
+        other_words += at.other_words(&machine.memory.tree.words(), &words);
+        let kept = at.words;
+        others.insert(index, Other { words, kept });
+    });
+    let all = Changes {
+        records: others.len(),
+        words: other_words,
+        written: 0,
+    };
+    let (input, answers) = (Input { p, l, records }, most_answer_bytes(p, l).unwrap());
+    input.run_by(needed(p, l), answers, |table, answers| {
+        let (result, changes) = guarded::run(input, table, answers, others);
+        assert_eq!(changes, all, "{plan:?}");
+        result
+    });
 }
 
 fn paces() -> [Pace; 4] {
@@ -83,17 +64,17 @@ fn paces() -> [Pace; 4] {
 
 #[test]
 fn all_other_words_random() {
-    let mut met = Met::default();
+    let mut met = MetC3::default();
     for p in [2, 4, 8] {
         for pace in paces() {
             for (l, seed) in [(1, 0), (2, 1), (5, 2)] {
-                met.compare_list(&Plan::new(p, l, pace, seed));
+                compare_list(&Plan::new(p, l, pace, seed), &mut met);
             }
             let plan = Plan::new(p, 24, pace, 3);
-            met.compare_list(&plan.ending(Ending::Cut(700)));
+            compare_list(&plan.ending(Ending::Cut(700)), &mut met);
         }
         let plan = Plan::new(p, 500, Pace::Bursts(99), 4);
-        met.compare_list(&plan.ending(Ending::Cut(300)));
+        compare_list(&plan.ending(Ending::Cut(300)), &mut met);
     }
     let steps = [met.root, met.below].concat();
     assert!(steps.iter().all(|&times| times > 100), "{met:?}");

@@ -2,7 +2,7 @@
 
 use crate::machine::Machine;
 use crate::memory::Memory;
-use crate::process::Step;
+use crate::process::{Step, StepName};
 use crate::random::Random;
 use crate::tree::{
     left_child, right_child, Shape, Tree, BLOCK_WORDS, PUTS_WORD, ROOT, SIZE_WORD, TAKES_WORD,
@@ -83,6 +83,25 @@ impl AtC3 {
             tree: Tree::from_words(memory.tree.shape(), &table),
             heads: memory.heads.clone(),
         })
+    }
+}
+
+/// C3 steps that were met, in the root and below it: those that built a block, and those that found
+/// equal totals.
+#[derive(Default, Debug)]
+pub struct MetC3 {
+    pub root: [u64; 2],
+    pub below: [u64; 2],
+}
+
+impl MetC3 {
+    /// A step, and the one that followed it.
+    pub fn count(&mut self, at: &AtC3, next: Step) {
+        let equal = usize::from(next.name() != StepName::C4);
+        match at.node {
+            ROOT => self.root[equal] += 1,
+            _ => self.below[equal] += 1,
+        }
     }
 }
 

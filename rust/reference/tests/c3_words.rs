@@ -1,7 +1,7 @@
 //! C3 takes six words of the table, in the root seven, and no head: with all others random it
 //! leads to the same step with the same registers. Each of these words plays a part.
 
-use reference::c3_words::{random_words, size_word, AtC3};
+use reference::c3_words::{random_words, size_word, AtC3, MetC3};
 use reference::machine::Machine;
 use reference::memory::Memory;
 use reference::process::StepName;
@@ -14,9 +14,7 @@ use reference::tree::{Shape, Tree, ROOT};
 /// How much was met, so that nothing is left out by chance.
 #[derive(Default, Debug)]
 struct Met {
-    /// In the root and below it: steps that built a block, and steps that found equal totals.
-    root: [u64; 2],
-    below: [u64; 2],
+    steps: MetC3,
     /// By needed word: steps that one more in it alone changed.
     changed: [u64; 7],
 }
@@ -55,11 +53,8 @@ impl Met {
         for (changed, &word) in self.changed.iter_mut().zip(&at.words) {
             *changed += u64::from(changes(word));
         }
-        let equal = usize::from(next.name() != StepName::C4);
-        if at.node == ROOT {
-            self.root[equal] += 1;
-        } else {
-            self.below[equal] += 1;
+        self.steps.count(at, next);
+        if at.node != ROOT {
             let size = size_word(machine.shape(), at.node, at.h - 1);
             assert!(!changes(size), "{at:?}");
         }
@@ -105,13 +100,13 @@ fn assert_often(counts: &[u64]) {
 #[test]
 fn two_processes() {
     let met = compare_lists(2);
-    assert_often(&[&met.root[..], &met.changed].concat());
+    assert_often(&[&met.steps.root[..], &met.changed].concat());
 }
 
 #[test]
 fn four_and_eight_processes() {
     for p in [4, 8] {
         let met = compare_lists(p);
-        assert_often(&[&met.root[..], &met.below, &met.changed].concat());
+        assert_often(&[&met.steps.root[..], &met.steps.below, &met.changed].concat());
     }
 }

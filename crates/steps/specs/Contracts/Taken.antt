@@ -1,5 +1,5 @@
 -- What the code of C3 takes of a block that it reads, and what it needs of a table.
-use Prim.Native.Nat.{ℕ, _+_, _*_, _-_}
+use Prim.Native.Nat.{ℕ}
 use mathlib.Core.Path.{_≡_}
 use mathlib.Core.List.{List}
 use lib.ListN.{length}
@@ -10,7 +10,7 @@ use Rattle.tree.specs.declared.Totals.{Totals}
 use Rattle.tree.specs.Shape.{root}
 use Rattle.tree.specs.Contracts.Access.{nodeBlock}
 use Rattle.steps.specs.declared.Visit.{Visit}
-use Rattle.steps.specs.Alike.{AlikeTotals, AlikeBefore}
+use Rattle.steps.specs.Alike.{AlikeReads}
 use Rattle.steps.specs.Contracts.Ready.{Builds}
 
 -- the size of block b of node v, if v is the root; below it none is taken, and 0 stands for it
@@ -21,15 +21,10 @@ sizeTaken v b = if eqb v root then b .size else 0
 unfoldable pub bare : Totals → ℕ → Block
 bare t size = record { puts = t .puts; takes = t .takes; superblock = 0; left = 0; right = 0; size = size }
 
--- tables t and u, of one length, are alike in the words that C3 takes, by the starts of the parts: a field a block
-pub record AlikeParts (starts t u : List ℕ) (w : Visit) (l r : ℕ) : Type 0 where
-  pub words : length t ≡ length u
-  pub left : AlikeTotals (nodeBlock starts t (2 * w .node) l) (nodeBlock starts u (2 * w .node) l)
-  pub right : AlikeTotals (nodeBlock starts t (2 * w .node + 1) r) (nodeBlock starts u (2 * w .node + 1) r)
-  pub before : AlikeBefore (w .node) (nodeBlock starts t (w .node) (w .head - 1)) (nodeBlock starts u (w .node) (w .head - 1))
-
--- what C3 needs of a table, whatever its other words hold: it is alike to one that has what `Builds` says
+-- what C3 needs of a table, whatever its other words hold: one of the same length, of which `Builds` holds, is alike to
+-- it in the words taken
 pub record BuildsAlike (starts table : List ℕ) (w : Visit) (l r : ℕ) : Type 0 where
   pub other : List ℕ
   pub builds : Builds starts other w l r
-  pub alike : AlikeParts starts other table w l r
+  pub words : length other ≡ length table
+  pub alike : AlikeReads (nodeBlock starts other) (nodeBlock starts table) w l r

@@ -4,9 +4,9 @@ use Rattle.tree.specs.Memory.{block}
 use Rattle.tree.specs.Contracts.Access.{totalsOf}
 use Rattle.steps.specs.Rules.{built}
 use Rattle.steps.specs.Contracts.Taken.{bare}
-use Rattle.tree.proofs.NodeReads.{node-read}
+use Rattle.tree.proofs.NodeReads.{node-read, same-place}
 use Rattle.steps.proofs.Alike.{joined-alike}
-use Rattle.steps.proofs.Taken.{bare-totals, bare-before, taken-low, has-place, totals-fit}
+use Rattle.steps.proofs.Taken.{bare-totals, bare-before, taken-low, totals-fit}
 use borrow.Author.Needs.{needs}
 use Rattle.steps.proofs.blocks.build.Statement.{statement}
 use Rattle.steps.proofs.blocks.build.Tie as tie
@@ -15,7 +15,7 @@ mul-totals-at : tie.Need-mul-totals-at
 mul-totals-at c = search needs
 
 totals-at-requires : tie.Need-totals-at-requires
-totals-at-requires c κs = let p = c .before .pre .0 in has-place (p .alike .words) (p .builds .left)
+totals-at-requires c κs = let p = c .before .pre .0 in same-place (p .words) (p .builds .left)
 
 mul-totals-at-2 : tie.Need-mul-totals-at-2
 mul-totals-at-2 c = search needs
@@ -24,10 +24,10 @@ add-totals-at : tie.Need-add-totals-at
 add-totals-at c = search needs
 
 totals-at-requires-2 : tie.Need-totals-at-requires-2
-totals-at-requires-2 c κs = let p = c .before .before .pre .0 in has-place (p .alike .words) (p .builds .right)
+totals-at-requires-2 c κs = let p = c .before .before .pre .0 in same-place (p .words) (p .builds .right)
 
 size-before-requires : tie.Need-size-before-requires
-size-before-requires c κs = let p = c .before .before .before .pre .0 in (p .builds .head, has-place (p .alike .words) (p .builds .before))
+size-before-requires c κs = let p = c .before .before .before .pre .0 in (p .builds .head, same-place (p .words) (p .builds .before))
 
 bare-requires : tie.Need-bare-requires
 bare-requires c κs = search needs

@@ -5,10 +5,10 @@ use Rattle.steps.specs.declared.Step.the-variants.{C3}
 use Rattle.steps.specs.Rules.{step, go}
 use Rattle.steps.specs.Contracts.Next.{stepIn}
 use Rattle.steps.specs.Contracts.Taken.{BuildsAlike}
-use Rattle.tree.proofs.NodeReads.{node-read}
+use Rattle.tree.proofs.NodeReads.{node-read, same-place}
 use Rattle.steps.proofs.Alike.{same-alike}
 use Rattle.steps.proofs.AlikeCode.{Asked, Promised}
-use Rattle.steps.proofs.Taken.{bare-totals, has-place}
+use Rattle.steps.proofs.Taken.{bare-totals}
 use Rattle.steps.proofs.StepNames.{other, busy}
 use contract.Lifetimes.{Lfts}
 use borrow.Fn.World.{ArgsD, ResD}
@@ -38,7 +38,7 @@ sub-totals-at : tie.Need-sub-totals-at
 sub-totals-at c = let p = builds (c .before .before) in search needs
 
 totals-at-requires : tie.Need-totals-at-requires
-totals-at-requires c κs = let p = builds (c .before .before) in has-place (p .alike .words) (p .builds .before)
+totals-at-requires c κs = let p = builds (c .before .before) in same-place (p .words) (p .builds .before)
 
 build-requires : tie.Need-build-requires
 build-requires c κs = (builds (c .before .before .before), c .totals-at .ensures)
