@@ -12,7 +12,7 @@ use Rattle.tree.specs.Shape.{processes, shapeFor}
 use Rattle.steps.specs.declared.Process.{Process}
 use Rattle.steps.specs.Process.{idle}
 use Rattle.steps.specs.Machine.{processOf}
-use Rattle.steps.specs.Contracts.Next.{entered}
+use Rattle.steps.specs.Contracts.Operations.{entered}
 use Rattle.calls.specs.declared.Refusal.{Refusal}
 use Rattle.calls.specs.declared.Refusal.the-variants.{IllFormed}
 use Rattle.calls.specs.Refusals.{accepted, beginRefusal}

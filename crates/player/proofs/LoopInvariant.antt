@@ -17,7 +17,7 @@ use Rattle.steps.specs.declared.Process.{Process}
 use Rattle.steps.specs.Process.{idle}
 use Rattle.steps.specs.Machine.{start}
 use Rattle.tree.specs.Contracts.Access.{Laid}
-use Rattle.steps.specs.Contracts.Next.{rested}
+use Rattle.steps.specs.Contracts.Operations.{rested}
 use Rattle.tree.proofs.Places.{processes-most}
 use Rattle.calls.specs.declared.Refusal.{Refusal}
 use Rattle.calls.specs.declared.Refusal.the-variants.{None}

@@ -18,7 +18,7 @@ use Rattle.steps.specs.declared.Status.the-variants.{Busy}
 use Rattle.steps.specs.declared.Process.{Process}
 use Rattle.steps.specs.Process.{idle}
 use Rattle.tree.specs.Contracts.Access.{Laid}
-use Rattle.steps.specs.Contracts.Next.{rested}
+use Rattle.steps.specs.Contracts.Operations.{rested}
 use Rattle.steps.specs.Machine.{Machine, processOf, withProcess}
 use Rattle.calls.specs.declared.Refusal.{Refusal}
 use Rattle.calls.specs.declared.Refusal.the-variants.{None}

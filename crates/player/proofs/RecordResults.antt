@@ -11,7 +11,7 @@ use Rattle.steps.specs.declared.Process.{Process}
 use Rattle.steps.specs.declared.Status.the-variants.{Busy}
 use Rattle.steps.specs.declared.Step.the-variants.{Q}
 use Rattle.steps.specs.Machine.{Machine, processOf, withProcess}
-use Rattle.steps.specs.Contracts.Next.{rested}
+use Rattle.steps.specs.Contracts.Operations.{rested}
 use Rattle.calls.specs.declared.Refusal.{Refusal}
 use Rattle.calls.specs.Answer.{answerOf}
 use Rattle.calls.specs.Refusals.{accepted, recordRefusal}

@@ -16,7 +16,8 @@ use Rattle.steps.specs.declared.Status.the-variants.{Busy}
 use Rattle.steps.specs.declared.Process.{Process}
 use Rattle.steps.specs.Rules.{step, go}
 use Rattle.steps.specs.Machine.{Machine, processOf, isIdle, isQ, atQ, begin, stepFrom, stepOf}
-use Rattle.steps.specs.Contracts.Next.{entered, rested, moved}
+use Rattle.stepping.specs.Contracts.Next.{moved}
+use Rattle.steps.specs.Contracts.Operations.{entered, rested}
 use Rattle.steps.proofs.Inside.{is-q}
 use Rattle.calls.specs.declared.Refusal.{Refusal}
 use Rattle.calls.specs.declared.Refusal.the-variants.{None, IllFormed, StepWhileIdle, AnswersFull}

@@ -20,7 +20,8 @@ use Rattle.steps.specs.Process.{idle}
 use Rattle.steps.specs.Rules.{step, go}
 use Rattle.tree.specs.Contracts.Access.{Begins}
 use Rattle.steps.specs.Contracts.Ready.{Ready}
-use Rattle.steps.specs.Contracts.Next.{PartsBegin, Fits, FitsLeaf, operationIn, stepIn, rested, moved, Moves}
+use Rattle.stepping.specs.Contracts.Next.{PartsBegin, Fits, FitsLeaf, operationIn, stepIn, moved, Moves}
+use Rattle.steps.specs.Contracts.Operations.{rested}
 use Rattle.tree.proofs.NodeReads.{begins}
 use Rattle.steps.specs.Machine.{isIdle, isQ}
 use Rattle.calls.specs.declared.Refusal.the-variants.{StepWhileIdle, AnswersFull}

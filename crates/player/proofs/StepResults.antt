@@ -12,7 +12,7 @@ use Rattle.steps.specs.declared.Status.the-variants.{Busy}
 use Rattle.steps.specs.declared.Process.{Process}
 use Rattle.steps.specs.Rules.{step, go}
 use Rattle.steps.specs.Machine.{processOf, isIdle, isQ}
-use Rattle.steps.specs.Contracts.Next.{moved}
+use Rattle.stepping.specs.Contracts.Next.{moved}
 use Rattle.calls.specs.declared.Refusal.the-variants.{StepWhileIdle, AnswersFull}
 use Rattle.player.proofs.RecordResults.{Refused, Moved, Finished}
 use Rattle.player.proofs.ResultLaws.{idle-refused, full-refused, step-finishes, step-goes}

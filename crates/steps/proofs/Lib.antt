@@ -1,7 +1,4 @@
-pub mod StepNames
 pub mod Alike
-pub mod AlikeCode
-pub mod Taken
 pub mod Stages
 pub mod Turns
 pub mod Progress

@@ -1,5 +1,3 @@
 -- What contracts of functions say in their own terms. Proofs use it; no exported promise names it.
 pub mod Ready
-pub mod Next
-pub mod Taken
-pub mod Sequence
+pub mod Operations

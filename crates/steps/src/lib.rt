@@ -1,15 +1,9 @@
-// Processes and their named steps. This crate knows nothing of records.
-pub mod blocks;
-pub mod build;
-pub mod heads;
-pub mod sequence;
-pub mod turn;
-
+// Processes and their named steps: what they are. This crate knows nothing of records.
 ghost use mathlib.Core.Path.{_≡_};
 ghost use Prim.Native.Nat.{_<_};
 ghost use Rattle.steps.specs.Machine.{isIdle};
 ghost use Rattle.steps.specs.Process.{idle, processesAllowed, operationsAllowed};
-ghost use Rattle.steps.specs.Contracts.Next.{entered as enteredOf, rested as restedOf};
+ghost use Rattle.steps.specs.Contracts.Operations.{entered as enteredOf, rested as restedOf};
 
 // What a process is inside of: a put of a value, or a take.
 pub enum Operation {

@@ -1,7 +1,7 @@
 -- `Process::rested` meets its contract. Assumes nothing.
 use mathlib.Core.Path.{refl}
 use borrow.Author.Needs.{needs}
-use Rattle.steps.specs.Contracts.Next.{rested}
+use Rattle.steps.specs.Contracts.Operations.{rested}
 use Rattle.steps.proofs.Process.rested.Statement.{statement}
 use Rattle.steps.proofs.Process.rested.Tie as tie
 

@@ -3,7 +3,7 @@
 use mathlib.Core.Path.{refl, ap, sym}
 use Rattle.steps.specs.Process.{idle}
 use Rattle.steps.specs.Machine.{isIdle, isQ}
-use Rattle.steps.proofs.Taken.{builds-alike}
+use Rattle.stepping.proofs.Taken.{builds-alike}
 use Rattle.player.proofs.StepLoop.{step-named, step-busy, step-leaf, step-begins, step-playing, step-ready, step-fits, step-fits-leaf, step-moves, finish-full, finish-moves}
 use Rattle.player.proofs.play.play.Proof.Places.{Inv-loop, μ-loop, found, few-steps}
 use Rattle.player.proofs.play.play.Tie as tie

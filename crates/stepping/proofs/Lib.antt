@@ -1,0 +1,3 @@
+pub mod StepNames
+pub mod AlikeCode
+pub mod Taken

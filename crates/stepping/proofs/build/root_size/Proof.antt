@@ -1,0 +1,26 @@
+-- `build::root_size` meets its contract. Assumes nothing.
+use native.Mathlib.Omega.{arith}
+use Rattle.tree.specs.Size.{rootSize}
+use borrow.Author.Needs.{needs}
+use Rattle.stepping.proofs.build.root_size.Statement.{statement}
+use Rattle.stepping.proofs.build.root_size.Tie as tie
+
+sub-held : tie.Need-sub-held
+sub-held c = search needs
+
+add-held : tie.Need-add-held
+add-held c = search needs
+
+sub-taken : tie.Need-sub-taken
+sub-taken c = search needs
+
+returns : tie.Need-returns
+unfolding rootSize
+returns c = omega arith
+
+returns-2 : tie.Need-returns-2
+unfolding rootSize
+returns-2 c = omega arith
+
+pub root-size-spec : {M : Type 1} → statement M
+root-size-spec = tie.close (tie.spec sub-held add-held sub-taken returns returns-2)

@@ -1,0 +1,88 @@
+-- What the code of a named step promises: the memory that it leaves and the step that its process comes to are those of
+-- the rules, whatever it does not look at.
+use Prim.Native.Nat.{ℕ, _+_, _*_, _<_}
+use mathlib.Core.Path.{_≡_}
+use mathlib.Core.List.{List}
+use Rattle.tree.specs.Shape.{Shape, processes, leafOf}
+use Rattle.steps.specs.declared.Operation.{Operation}
+use Rattle.steps.specs.declared.Operation.the-variants.{Take}
+use Rattle.steps.specs.declared.Process.{Process}
+use Rattle.steps.specs.declared.Status.{Status}
+use Rattle.steps.specs.declared.Status.the-variants.{Idle, Busy}
+use Rattle.steps.specs.declared.Step.{Step}
+use Rattle.steps.specs.declared.Step.the-variants.{A, V1, V2, V3, R1, R2, R3, R4, R5, C1, C2, C3, C4, Q}
+use Rattle.steps.specs.Rules.{step, go}
+use Rattle.tree.specs.Contracts.Access.{Begins}
+use Rattle.tree.specs.Memory.{memoryOf}
+
+-- the parts of the nodes whose blocks a step looks at begin and end where they do in a tree of shape s; A, which knows
+-- its leaf from its process, is told it
+abbrev pub PartsBegin : Shape → List ℕ → Step → Type 0
+PartsBegin s starts A = Unit {0}
+PartsBegin s starts (V1 a w v h) = Unit {0}
+PartsBegin s starts (V2 a w v h x) = Begins s starts v
+PartsBegin s starts (V3 a w v h) = Unit {0}
+PartsBegin s starts (R1 second v) = Unit {0}
+PartsBegin s starts (R2 w) = Unit {0}
+PartsBegin s starts (R3 w c) = Begins s starts (2 * w .node)
+PartsBegin s starts (R4 w) = Unit {0}
+PartsBegin s starts (R5 w c) = Begins s starts (2 * w .node + 1)
+PartsBegin s starts (C1 w) = Unit {0}
+PartsBegin s starts (C2 w l) = Unit {0}
+PartsBegin s starts (C3 w l r) = Begins s starts (w .node) × Begins s starts (2 * w .node) × Begins s starts (2 * w .node + 1)
+PartsBegin s starts (C4 w n) = Begins s starts (w .node)
+PartsBegin s starts Q = Unit {0}
+
+-- there is a tree whose parts begin where the starts say, as far as the step looks at them
+pub record Fits (starts : List ℕ) (n : Step) : Type 0 where
+  pub shape : Shape
+  pub begins : PartsBegin shape starts n
+
+-- there is one that has a process with this leaf, whose part begins where the starts say
+pub record FitsLeaf (starts : List ℕ) (leaf : ℕ) : Type 0 where
+  pub shape : Shape
+  pub process : ℕ
+  pub low : process < processes shape
+  pub own : leaf ≡ leafOf shape process
+  pub begins : Begins shape starts leaf
+
+-- the operation that a busy process is inside of. An idle one is inside of none: no contract accepts it here
+abbrev pub operationIn : Status → Operation
+operationIn Idle = Take
+operationIn (Busy o n) = o
+
+-- the step that a process is at; an idle one is at none, and the next that it comes to is A
+abbrev pub stepIn : Status → Step
+stepIn Idle = A
+stepIn (Busy o n) = n
+
+-- a process after a step of operation o, with step n next
+abbrev pub moved : Process → Operation → Step → Process
+moved q o n = record { status = Busy o n; begun = q .begun; steps = q .steps + 1 }
+
+-- process q has become r by a step: it is inside of the same operation, with one own step more
+abbrev pub Moves : Process → Process → Type 0
+Moves q r = r ≡ moved q (operationIn (q .status)) (stepIn (r .status))
+
+-- q becomes r by a step that looks at these heads alone and leaves heads'
+abbrev pub NextByHeads : List ℕ → List ℕ → Process → Process → Type 0
+NextByHeads heads heads' q r = Moves q r × ((s : Shape) (k : ℕ) (o : Operation) (table : List ℕ)
+    → step s k o (memoryOf table heads) (stepIn (q .status))
+    ≡ go s k o (memoryOf table heads) (memoryOf table heads') (stepIn (r .status)))
+
+-- q becomes r by a step that looks at this table alone, by the starts of its parts, and leaves table'
+abbrev pub NextByTable : List ℕ → List ℕ → List ℕ → Process → Process → Type 0
+NextByTable starts table table' q r = Moves q r × ((s : Shape) (k : ℕ) (o : Operation) (heads : List ℕ) → PartsBegin s starts (stepIn (q .status))
+    → step s k o (memoryOf table heads) (stepIn (q .status))
+    ≡ go s k o (memoryOf table heads) (memoryOf table' heads) (stepIn (r .status)))
+
+-- The functions of the named steps. A name is given by what it is to say P of each step of that name: of R2,
+-- (w : Visit) → P (R2 w). Where process q is at such a step, Next holds; at a step of another name, Same does.
+abbrev pub AtName : ((Step → Type 0) → Type 0) → Process → Type 0 → Type 0 → Type 0
+AtName Each q Next Same = Each (λ n. stepIn (q .status) ≡ n → Next) × (Each (λ n. stepIn (q .status) ≡ n → ⊥) → Same)
+
+abbrev pub StepsByHeads : ((Step → Type 0) → Type 0) → List ℕ → List ℕ → Process → Process → Type 0
+StepsByHeads Each heads heads' q r = AtName Each q (NextByHeads heads heads' q r) ((r ≡ q) × (heads' ≡ heads))
+
+abbrev pub StepsByTable : ((Step → Type 0) → Type 0) → List ℕ → List ℕ → List ℕ → Process → Process → Type 0
+StepsByTable Each starts table table' q r = AtName Each q (NextByTable starts table table' q r) ((r ≡ q) × (table' ≡ table))

@@ -1,0 +1,147 @@
+// The named steps that look at heads alone. They go on alike whatever the table is.
+use crate::sequence::resume;
+use crate::turn::by_fields;
+use crate::turn::moved;
+use crate::turn::step_in;
+use steps::After;
+use steps::Process;
+use steps::Step;
+use steps::Visit;
+use tree::heads::head_of;
+use tree::heads::raise;
+ghost use mathlib.Core.Path.{_≡_};
+ghost use mathlib.Core.Bool.{Bool};
+ghost use Prim.Native.Nat.{ℕ, _+_, _*_, _/_, _≤_, _<_};
+ghost use lib.ListN.{length, getD};
+ghost use Rattle.stepping.specs.Contracts.Next.{stepIn, StepsByHeads};
+ghost use Rattle.steps.specs.Contracts.Ready.{Children};
+
+// V1: the parent's head is what v's block is to remember as its superblock.
+pub fn step_v1(heads: &[u32], q: Process) -> Process
+    requires { ⌜ (q .steps < 65536) × ((a : After) (w : Visit) (v h : ℕ) → stepIn (q .status) ≡ Step.V1 a w v h → v / 2 < length (now heads)) ⌝ }
+    ensures { λ r. ⌜ StepsByHeads (λ P. (a : After) (w : Visit) (v h : ℕ) → P (Step.V1 a w v h)) (now (heads .entry)) (now (heads .entry)) q r ⌝ }
+{
+    let Step::V1 {
+        after,
+        visit,
+        node,
+        place,
+    } = step_in(q)
+    else {
+        return q;
+    };
+    let visit = by_fields(visit);
+    let above = head_of(heads, node / 2);
+    moved(
+        q,
+        Step::V2 {
+            after,
+            visit,
+            node,
+            place,
+            above,
+        },
+    )
+}
+
+// V3: the head of v is raised past the block at h, and what was put off goes on.
+pub fn step_v3(heads: &mut [u32], q: Process) -> Process
+    requires { ⌜ (q .steps < 65536) × ((a : After) (w : Visit) (v h : ℕ) → stepIn (q .status) ≡ Step.V3 a w v h → (v < length (now heads)) × (h < 65536)) ⌝ }
+    ensures { λ r. ⌜ StepsByHeads (λ P. (a : After) (w : Visit) (v h : ℕ) → P (Step.V3 a w v h)) (now (heads .entry)) (now (heads .exit)) q r ⌝ }
+{
+    let Step::V3 {
+        after,
+        visit,
+        node,
+        place,
+    } = step_in(q)
+    else {
+        return q;
+    };
+    raise(heads, node, place);
+    moved(q, resume(after, visit))
+}
+
+// R1: the head of v is the place at which this refresh is to write.
+pub fn step_r1(heads: &[u32], q: Process) -> Process
+    requires { ⌜ (q .steps < 65536) × ((b : Bool) (v : ℕ) → stepIn (q .status) ≡ Step.R1 b v → v < length (now heads)) ⌝ }
+    ensures { λ r. ⌜ StepsByHeads (λ P. (b : Bool) (v : ℕ) → P (Step.R1 b v)) (now (heads .entry)) (now (heads .entry)) q r ⌝ }
+{
+    let Step::R1 { second, node } = step_in(q) else {
+        return q;
+    };
+    moved(
+        q,
+        Step::R2 {
+            visit: Visit {
+                node: node,
+                head: head_of(heads, node),
+                second: second,
+            },
+        },
+    )
+}
+
+// The head of v's left child.
+fn left_head(heads: &[u32], v: u32) -> u32
+    requires { ⌜ (v < 65536) × (2 * v + 1 < length (now heads)) ⌝ }
+    ensures { λ r. ⌜ r ≡ getD (now (heads .entry)) (2 * v) 1 ⌝ }
+{
+    head_of(heads, 2 * v)
+}
+
+// The head of v's right child.
+fn right_head(heads: &[u32], v: u32) -> u32
+    requires { ⌜ (v < 65536) × (2 * v + 1 < length (now heads)) ⌝ }
+    ensures { λ r. ⌜ r ≡ getD (now (heads .entry)) (2 * v + 1) 1 ⌝ }
+{
+    head_of(heads, 2 * v + 1)
+}
+
+// R2: the left child's head, where a block may stand that its writer has not advanced yet.
+pub fn step_r2(heads: &[u32], q: Process) -> Process
+    requires { ⌜ (q .steps < 65536) × ((w : Visit) → stepIn (q .status) ≡ Step.R2 w → Children (now heads) w) ⌝ }
+    ensures { λ r. ⌜ StepsByHeads (λ P. (w : Visit) → P (Step.R2 w)) (now (heads .entry)) (now (heads .entry)) q r ⌝ }
+{
+    let Step::R2 { visit } = step_in(q) else {
+        return q;
+    };
+    let child = left_head(heads, visit.node);
+    moved(q, Step::R3 { visit, child })
+}
+
+// R4: the same of the right child.
+pub fn step_r4(heads: &[u32], q: Process) -> Process
+    requires { ⌜ (q .steps < 65536) × ((w : Visit) → stepIn (q .status) ≡ Step.R4 w → Children (now heads) w) ⌝ }
+    ensures { λ r. ⌜ StepsByHeads (λ P. (w : Visit) → P (Step.R4 w)) (now (heads .entry)) (now (heads .entry)) q r ⌝ }
+{
+    let Step::R4 { visit } = step_in(q) else {
+        return q;
+    };
+    let child = right_head(heads, visit.node);
+    moved(q, Step::R5 { visit, child })
+}
+
+// C1: the left end is the last block below the left child's head, which is at least 1.
+pub fn step_c1(heads: &[u32], q: Process) -> Process
+    requires { ⌜ (q .steps < 65536) × ((w : Visit) → stepIn (q .status) ≡ Step.C1 w → Children (now heads) w × (1 ≤ getD (now heads) (2 * w .node) 1)) ⌝ }
+    ensures { λ r. ⌜ StepsByHeads (λ P. (w : Visit) → P (Step.C1 w)) (now (heads .entry)) (now (heads .entry)) q r ⌝ }
+{
+    let Step::C1 { visit } = step_in(q) else {
+        return q;
+    };
+    let left = left_head(heads, visit.node) - 1;
+    moved(q, Step::C2 { visit, left })
+}
+
+// C2: the same of the right child.
+pub fn step_c2(heads: &[u32], q: Process) -> Process
+    requires { ⌜ (q .steps < 65536) × ((w : Visit) (l : ℕ) → stepIn (q .status) ≡ Step.C2 w l → Children (now heads) w × (1 ≤ getD (now heads) (2 * w .node + 1) 1)) ⌝ }
+    ensures { λ r. ⌜ StepsByHeads (λ P. (w : Visit) (l : ℕ) → P (Step.C2 w l)) (now (heads .entry)) (now (heads .entry)) q r ⌝ }
+{
+    let Step::C2 { visit, left } = step_in(q) else {
+        return q;
+    };
+    let right = right_head(heads, visit.node) - 1;
+    moved(q, Step::C3 { visit, left, right })
+}
