@@ -16,8 +16,8 @@
    - step record, 8 bytes: process; kind (0 step, 1 begin put, 2 begin take); two zero bytes; value,
      32 bits, 0 unless the kind is 1;
    - answer record, 16 bytes: process; kind (1 put done, 2 value, 3 none); own steps of the operation,
-     16 bits; then, 32 bits each, value (0 unless the kind is 2), serial of the operation in its
-     process, from 1, and root block;
+     16 bits, at most 41, 81 or 121 with p = 2, 4 or 8; then, 32 bits each, value (0 unless the kind
+     is 2), serial of the operation in its process, from 1, and root block;
    - order record, 8 bytes: process; kind (1 put, 2 take); serial, 16 bits; root block, 32 bits. */
 #ifndef OTQ_H
 #define OTQ_H
@@ -96,7 +96,7 @@ typedef struct OtqForecast {
     uint32_t refusal;      /* enum OtqRefusal; with a refusal the others are 0 */
     uint64_t words;        /* words of the table */
     uint64_t answer_bytes; /* bytes of the answers, 16 a begin */
-    uint64_t records;      /* the most records that a run takes */
+    uint64_t records;      /* the most records that a run takes: 42, 82 or 122 a begin with p = 2, 4 or 8 */
 } OtqForecast;
 
 /* Run: plays the records and writes the answers.

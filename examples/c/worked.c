@@ -10,7 +10,7 @@
 #include <inttypes.h>
 #include <stdio.h>
 
-enum { P = 4, L = 24, STEPS = 27, RECORDS = 2 * (1 + STEPS) };
+enum { P = 4, L = 24, STEPS = 31, RECORDS = 2 * (1 + STEPS) };
 
 static uint8_t begins[2 * OTQ_STEP_BYTES];
 static uint8_t records[RECORDS * OTQ_STEP_BYTES];

@@ -18,7 +18,7 @@ use Rattle.answer.specs.Contracts.Playing.{machineOf, Plays}
 
 module _ (s : Shape) (ps : List Process) (starts heads table : List ℕ) (k : ℕ) (q : Process) (plays : Plays s ps starts heads table k q) where
   -- its own steps and the operations that it has begun are few
-  pub steps-small : q .steps ≤ 109
+  pub steps-small : q .steps ≤ 1000
   steps-small =
       omega (arith, plays .keeps .process k (plays .low) .bounded, ap (λ (x : Process). x .steps) (plays .here), rest-first s (plays .inner), plays .tall)
 

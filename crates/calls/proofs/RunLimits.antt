@@ -1,4 +1,4 @@
--- Every run takes at most (36H + 2) × p × L records and gives at most p × L answers, and with room for p × L answers it
+-- Every run takes at most (40H + 2) × p × L records and gives at most p × L answers, and with room for p × L answers it
 -- is the run with room for all. For general H; and of what Run leaves, for every p, L, list of bytes, table and buffer.
 use Prim.Native.Nat.{ℕ, _*_, _≤_}
 use native.Mathlib.Omega.{arith}

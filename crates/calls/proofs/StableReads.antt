@@ -1,5 +1,5 @@
--- What C3 and Q read can no longer change, save super: of every run without refusal and of every continuation without
--- refusal, for general H.
+-- What C3L, C3R, C3N and Q read can no longer change, save super: of every run without refusal and of every
+-- continuation without refusal, for general H.
 use Prim.Native.Nat.{ℕ, suc, _-_, _≤_, _<_}
 use native.Mathlib.Omega.{arith}
 use native.Mathlib.Nat.{le-refl}
@@ -9,7 +9,7 @@ use mathlib.Core.Bool.{true}
 use mathlib.Core.List.{List, _++_}
 use Rattle.record.specs.declared.StepRecord.{StepRecord}
 use Rattle.tree.specs.declared.Block.{Block}
-use Rattle.tree.specs.Shape.{Shape, processes, root, leftOf, rightOf}
+use Rattle.tree.specs.Shape.{Shape, processes, root}
 use Rattle.tree.specs.Memory.{Memory, headOf, block}
 use Rattle.tree.specs.Order.{OpId, lastRoot, rootOperations}
 use Rattle.tree.specs.Sides.{Side, childOf, endOf}
@@ -25,13 +25,13 @@ use Rattle.tree.proofs.Later.{Later}
 use Rattle.tree.proofs.Once.{Found, stands-once, in-block}
 use Rattle.tree.proofs.OrderGrows.{root-block-grows, reached-grows}
 use Rattle.steps.specs.declared.Operation.{Operation}
-use Rattle.steps.specs.declared.Visit.{Visit}
 use Rattle.steps.specs.declared.Status.{Status}
 use Rattle.steps.specs.declared.Status.the-variants.{Busy}
-use Rattle.steps.specs.declared.Step.the-variants.{C3, Q}
+use Rattle.steps.specs.declared.Step.{Step}
+use Rattle.steps.specs.declared.Step.the-variants.{C3L, C3R, C3N, Q}
 use Rattle.steps.specs.Machine.{Machine, processOf, isQ}
-use Rattle.steps.proofs.Stages.{stageOf, two}
-use Rattle.steps.proofs.Progress.{Building, Rooted, Carried}
+use Rattle.steps.proofs.Stages.{stage, stageOf}
+use Rattle.steps.proofs.Progress.{Rooted, Carried}
 use Rattle.steps.proofs.Invariant.{holding}
 use Rattle.calls.specs.Answer.{replyOf}
 use Rattle.calls.specs.Refusals.{accepted}
@@ -79,15 +79,9 @@ module _ (s : Shape) (tall : 1 ≤ s .height) (rs ts : List StepRecord) (legal :
   ends : (v i : ℕ) → Inner s v → i < headOf (m .memory) v → (d : Side) → endOf d (block s (m .memory) v i) < headOf (m .memory) (childOf d v)
   ends v i iv h d = end-below sound d v iv i (below-head (sound .node v (inner-node s v iv)) i h)
 
-  -- C3 reads below heads
-  read-c3 : (o : Operation) (w : Visit) (l r : ℕ) → processOf m k .status ≡ Busy o (C3 w l r)
-      → (w .head - 1 < headOf (m .memory) (w .node)) × (l < headOf (m .memory) (leftOf (w .node))) × (r < headOf (m .memory) (rightOf (w .node)))
-  unfolding leftOf rightOf
-  read-c3 o w l r at =
-      let carried : Building s (m .memory) (holding m) k (processOf m k .begun) w (two l r) =
-      subst (λ (x : Status). Carried s (m .memory) (holding m) k (processOf m k .begun) (stageOf x)) at (now .invariant .process k kp .carried)
-      in
-      (omega (arith, carried .refreshing .first, carried .refreshing .last), carried .hand .0 .below, carried .hand .1 .below)
+  -- how far process k has come at its step, which says what C3L, C3R and C3N read below heads
+  come : (o : Operation) (x : Step) → processOf m k .status ≡ Busy o x → Carried s (m .memory) (holding m) k (processOf m k .begun) (stage x)
+  come o x at = subst (λ (y : Status). Carried s (m .memory) (holding m) k (processOf m k .begun) (stageOf y)) at (now .invariant .process k kp .carried)
 
   -- ---- an operation that stands in the root
   module _ (o : Operation) (at : processOf m k .status ≡ Busy o Q) where
@@ -173,7 +167,9 @@ module _ (s : Shape) (tall : 1 ≤ s .height) (rs ts : List StepRecord) (legal :
       record {
         stays = λ v i f l. stays v i (omega arith);
         opens = λ v i f l. ends v i (record { first = f; last = l });
-        c3 = read-c3;
+        c3l = λ o w l r at. come o (C3L w l r) at .hand .0 .below;
+        c3r = λ o w l r puts takes at. come o (C3R w l r puts takes) at .hand .1 .below;
+        c3n = λ o w l r puts takes at. let re = come o (C3N w l r puts takes) at .refreshing in omega (arith, re .first, re .last);
         q = λ o at. rw serial (below-root o at);
         rootBlock = λ o at. rw serial (same-block o at);
         reply = λ o at. rw serial (same-reply o at);

@@ -74,7 +74,7 @@ finishing (finishes x ∷ h) = x ∷ finishing h
 
 -- the limit on an operation's own steps
 unfoldable pub stepLimit : Shape → ℕ
-stepLimit s = 36 * s .height + 1
+stepLimit s = 40 * s .height + 1
 
 -- the claims, on a history, the answer bytes and the table words
 pub record QueuePromises (s : Shape) (h : List Event) (log t : List ℕ) : Type 0 where
@@ -91,7 +91,7 @@ pub record QueuePromises (s : Shape) (h : List Event) (log t : List ℕ) : Type 
   pub endSize : length (queueAfter h [] (rootOperations s t)) ≡ blockAt s t root (lastRoot s t) .size
   -- what finished before another began stands in an earlier block
   pub realTime : (x y : OpId) (b c : ℕ) → b ≤ lastRoot s t → c ≤ lastRoot s t → finishedBefore x y h ≡ true → 1 ≤ standsIn s t x b → 1 ≤ standsIn s t y c → b < c
-  -- no operation takes more than 36H + 1 steps of its own
+  -- no operation takes more than 40H + 1 steps of its own
   pub stepsBounded : (x : OpId) → ownSteps x h ≤ stepLimit s
 
 -- Demand 3, on p, L, the records taken, the answer bytes written and the table words left

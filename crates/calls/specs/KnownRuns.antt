@@ -88,31 +88,31 @@ knownRuns =
     -- M1 no records
     row 2 24 594 64 [] 0 0 [] []
     -- M2 the worked run of the printing program
-    ∷ row 4 24 1770 64 (beginPut 7 0 ++ steps 27 0 ++ beginTake 1 ++ steps 27 1) 0 56 (answer 0 1 27 1 Done ∷ answer 1 1 27 2 (Value 7) ∷ []) []
-    -- M3 block 1 holds both, steps 15 and 13, the take gets 5 at margin 0
-    ∷ row 2 24 594 64 (beginPut 5 0 ++ beginTake 1 ++ steps 4 0 ++ steps 4 1 ++ steps 11 0 ++ steps 9 1) 0 30
-    (answer 0 1 15 1 Done ∷ answer 1 1 13 1 (Value 5) ∷ [])
+    ∷ row 4 24 1770 64 (beginPut 7 0 ++ steps 31 0 ++ beginTake 1 ++ steps 31 1) 0 64 (answer 0 1 31 1 Done ∷ answer 1 1 31 2 (Value 7) ∷ []) []
+    -- M3 block 1 holds both, steps 17 and 15, the take gets 5 at margin 0
+    ∷ row 2 24 594 64 (beginPut 5 0 ++ beginTake 1 ++ steps 4 0 ++ steps 4 1 ++ steps 13 0 ++ steps 11 1) 0 34
+    (answer 0 1 17 1 Done ∷ answer 1 1 15 1 (Value 5) ∷ [])
     (holds 1 (op 0 1 ∷ []) (op 1 1 ∷ []) ∷ takeMargin 1 1 (pos 0) ∷ [])
-    -- M4 a take alone: 15 steps, none at margin −1
-    ∷ row 2 24 594 64 (beginTake 0 ++ steps 15 0) 0 16 (answer 0 1 15 1 Nothing ∷ []) (takeMargin 1 1 (negsuc 0) ∷ [])
+    -- M4 a take alone: 17 steps, none at margin −1
+    ∷ row 2 24 594 64 (beginTake 0 ++ steps 17 0) 0 18 (answer 0 1 17 1 Nothing ∷ []) (takeMargin 1 1 (negsuc 0) ∷ [])
     -- M5 the take gets 10
-    ∷ row 4 24 1770 64 (beginPut 10 1 ++ steps 16 1 ++ beginPut 20 0 ++ steps 27 0 ++ steps 9 1 ++ beginTake 2 ++ steps 27 2) 0 82
-    (answer 0 1 27 1 Done ∷ answer 1 1 25 1 Done ∷ answer 2 1 27 2 (Value 10) ∷ []) []
+    ∷ row 4 24 1770 64 (beginPut 10 1 ++ steps 18 1 ++ beginPut 20 0 ++ steps 31 0 ++ steps 11 1 ++ beginTake 2 ++ steps 31 2) 0 94
+    (answer 0 1 31 1 Done ∷ answer 1 1 29 1 Done ∷ answer 2 1 31 2 (Value 10) ∷ []) []
     -- M6 both in block 1, the leaf head of 0 is 2
-    ∷ row 2 24 594 64 (beginPut 9 0 ++ steps 1 0 ++ beginPut 8 1 ++ steps 18 1 ++ steps 12 0) 0 33
-    (answer 1 1 18 1 Done ∷ answer 0 1 13 1 Done ∷ [])
+    ∷ row 2 24 594 64 (beginPut 9 0 ++ steps 1 0 ++ beginPut 8 1 ++ steps 20 1 ++ steps 14 0) 0 37
+    (answer 1 1 20 1 Done ∷ answer 0 1 15 1 Done ∷ [])
     (holds 1 (op 0 1 ∷ op 1 1 ∷ []) [] ∷ leafHead 0 2 ∷ [])
-    -- M7 L = 1: the second begin is refused with 8, 16 taken
-    ∷ row 2 1 42 64 (beginPut 1 0 ++ steps 15 0 ++ beginPut 2 0) 8 16 (answer 0 1 15 1 Done ∷ []) []
+    -- M7 L = 1: the second begin is refused with 8, 18 taken
+    ∷ row 2 1 42 64 (beginPut 1 0 ++ steps 17 0 ++ beginPut 2 0) 8 18 (answer 0 1 17 1 Done ∷ []) []
     -- M8 the first record a step: 7
     ∷ row 2 24 594 64 (steps 1 0) 7 0 [] []
     -- M9 L = 2, two begins: 6, 1 taken
     ∷ row 2 2 78 64 (beginPut 1 0 ++ beginPut 2 0) 6 1 [] []
-    -- M10 15 answer bytes: 9, 15 taken
-    ∷ row 2 24 594 15 (beginPut 1 0 ++ steps 15 0) 9 15 [] []
+    -- M10 15 answer bytes: 9, 17 taken
+    ∷ row 2 24 594 15 (beginPut 1 0 ++ steps 17 0) 9 17 [] []
     -- M11 L = 1: 41 words refuse with 3, 42 do
-    ∷ row 2 1 41 64 (beginPut 1 0 ++ steps 15 0) 3 0 [] []
-    ∷ row 2 1 42 64 (beginPut 1 0 ++ steps 15 0) 0 16 (answer 0 1 15 1 Done ∷ []) []
+    ∷ row 2 1 41 64 (beginPut 1 0 ++ steps 17 0) 3 0 [] []
+    ∷ row 2 1 42 64 (beginPut 1 0 ++ steps 17 0) 0 18 (answer 0 1 17 1 Done ∷ []) []
     ∷ []
 
 -- ---- the theorem

@@ -17,3 +17,4 @@ pub mod NotJudged
 pub mod NotKept
 pub mod NotLinearizable
 pub mod NotForeseen
+pub mod NotStable

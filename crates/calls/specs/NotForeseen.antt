@@ -40,18 +40,18 @@ doneFinishes : AllFinish done
 unfolding rules op
 doneFinishes x e = e
 
--- a record more than the limit, 38
-pub oneRecordMore : StaysWithin foreseenTake (ran 0 39 0) begun 66 16 → ⊥
+-- a record more than the limit, 42
+pub oneRecordMore : StaysWithin foreseenTake (ran 0 43 0) begun 66 16 → ⊥
 unfolding rules beginTake
 oneRecordMore w = omega (arith, w .records)
 
 -- an answer more than the take has
-pub oneAnswerMore : StaysWithin foreseenTake (ran 0 38 2) begun 66 16 → ⊥
+pub oneAnswerMore : StaysWithin foreseenTake (ran 0 42 2) begun 66 16 → ⊥
 unfolding rules beginTake
 oneAnswerMore w = omega (arith, w .answers)
 
 -- no answer, though the take finished
-pub oneAnswerLess : StaysWithin foreseenTake (ran 0 16 0) done 66 16 → ⊥
+pub oneAnswerLess : StaysWithin foreseenTake (ran 0 18 0) done 66 16 → ⊥
 unfolding rules beginTake
 oneAnswerLess w = omega (arith, w .exact refl doneFinishes)
 
@@ -60,7 +60,7 @@ pub tableTooShort : StaysWithin foreseenTake (ran 3 0 0) [] 66 16 → ⊥
 unfolding rules beginTake
 tableTooShort w = w .enough (omega arith) (omega arith) .0 refl
 
-pub answersTooShort : StaysWithin foreseenTake (ran 9 15 0) begun 66 16 → ⊥
+pub answersTooShort : StaysWithin foreseenTake (ran 9 17 0) begun 66 16 → ⊥
 unfolding rules beginTake
 answersTooShort w = w .enough (omega arith) (omega arith) .1 refl
 
@@ -87,7 +87,7 @@ module _ (p l : ℕ) (bytes : List ℕ) (f : ForecastResult) (none : f .refusal 
     saysEnough = claim none records table answers these .enough
 
 -- the steps of a list are not among its begins
-pub withSteps : (f : ForecastResult) → f .refusal ≡ 0 → Forecasts 2 2 (beginTake 0) f → 16 ≤ f .records
+pub withSteps : (f : ForecastResult) → f .refusal ≡ 0 → Forecasts 2 2 (beginTake 0) f → 18 ≤ f .records
 unfolding rules beginTake steps
 withSteps f none claim = claim none takeAlone (replicate 66 0) (replicate 16 0) refl .records
 

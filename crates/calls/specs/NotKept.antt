@@ -206,7 +206,7 @@ pub ofOneProcess : Refuted (shape 1 2) inTurn (table2 (sixWords 1 1 2 0 0) none 
 unfolding rules
 ofOneProcess log k = omega (arith, k .realTime x x2 1 1 (omega arith) (omega arith) refl (omega arith) (omega arith))
 
--- ---- no operation takes more than 36H + 1 steps of its own
+-- ---- no operation takes more than 40H + 1 steps of its own
 
 pub counted : (n : ℕ) (after : List Event) → ownSteps x (replicate n (moves x) ++ after) ≡ n + ownSteps x after
 unfolding rules
@@ -214,23 +214,23 @@ counted zero after = omega arith
 counted (suc n) after = omega (arith, counted n after)
 
 -- stepsBounded: x takes more than that, at any H, whatever the table words are
-pub tooMany : (s : Shape) (t : List ℕ) (n : ℕ) (after : List Event) → 36 * s .height + 1 < n + ownSteps x after → Refuted s (stepping n after) t
+pub tooMany : (s : Shape) (t : List ℕ) (n : ℕ) (after : List Event) → 40 * s .height + 1 < n + ownSteps x after → Refuted s (stepping n after) t
 unfolding rules
 tooMany s t n after l log k = omega (arith, counted n after, k .stepsBounded x)
 
--- 38 at H = 1, no Q among them, and 74 at H = 2, the last of them Q
-pub steps38 : (t : List ℕ) → Refuted (shape 1 1) (stepping 38 []) t
+-- 42 at H = 1, no Q among them, and 82 at H = 2, the last of them Q
+pub steps42 : (t : List ℕ) → Refuted (shape 1 1) (stepping 42 []) t
 unfolding rules
-steps38 t = tooMany (shape 1 1) t 38 [] (omega arith)
+steps42 t = tooMany (shape 1 1) t 42 [] (omega arith)
 
-pub steps74 : (t : List ℕ) → Refuted (shape 2 1) (stepping 73 (finishes x ∷ [])) t
+pub steps82 : (t : List ℕ) → Refuted (shape 2 1) (stepping 81 (finishes x ∷ [])) t
 unfolding rules
-steps74 t = tooMany (shape 2 1) t 73 (finishes x ∷ []) (omega arith)
+steps82 t = tooMany (shape 2 1) t 81 (finishes x ∷ []) (omega arith)
 
 -- ---- with the one thing put right, what the clause says is so
 
 -- x in root block 1; the end in block 2 kept at 1; x opened; the right log; size 2; the put in root block 1 and the
--- take in root block 2; 37 and 73 steps
+-- take in root block 2; 41 and 81 steps
 pub putRight :
     (times x (rootOperations (shape 1 1) (table (sixWords 1 0 1 0 1) none (putBlock 7) none)) ≡ 1)
     × (times x (rootOperations (shape 1 2) (threeBlocks 1)) ≡ 1)
@@ -239,16 +239,16 @@ pub putRight :
     × (length (queueAfter twoPuts [] (rootOperations (shape 1 1) (lastSize 2))) ≡ blockAt (shape 1 1) (lastSize 2) root (lastRoot (shape 1 1) (lastSize 2)) .size)
     × (standsIn (shape 1 1) inTwoBlocks x 1 ≡ 1)
     × (standsIn (shape 1 1) inTwoBlocks y 2 ≡ 1)
-    × (stepLimit (shape 1 1) ≡ 37)
-    × (stepLimit (shape 2 1) ≡ 73)
+    × (stepLimit (shape 1 1) ≡ 41)
+    × (stepLimit (shape 2 1) ≡ 81)
 unfolding rules
 putRight = (refl, refl, refl, refl, refl, refl, refl, refl, refl)
 
 -- ---- step records in the place of a history
 
--- a put of 7 by process 0, then a take by 1, 15 steps each
+-- a put of 7 by process 0, then a take by 1, 17 steps each
 abbrev pub putThenTake : List StepRecord
-putThenTake = stepRecords (beginPut 7 0 ++ steps 15 0 ++ beginTake 1 ++ steps 15 1)
+putThenTake = stepRecords (beginPut 7 0 ++ steps 17 0 ++ beginTake 1 ++ steps 17 1)
 
 -- the table cleared and left
 pub cleared : (log : List ℕ) → Demand3 2 1 putThenTake log (replicate 42 0) → ⊥
@@ -256,6 +256,6 @@ unfolding rules beginPut beginTake steps
 cleared log k = omega (arith, k .finishedOnce x refl)
 
 -- every take 'none'
-pub everyTakeNone : Demand3 2 1 putThenTake (bytes 0 1 15 0 1 1 ++ bytes 1 3 15 0 1 2) inTwoBlocks → ⊥
+pub everyTakeNone : Demand3 2 1 putThenTake (bytes 0 1 17 0 1 1 ++ bytes 1 3 17 0 1 2) inTwoBlocks → ⊥
 unfolding rules beginPut beginTake steps
-everyTakeNone k = unequal (bytes 0 1 15 0 1 1 ++ bytes 1 2 15 7 1 2) _ refl refl (k .answered)
+everyTakeNone k = unequal (bytes 0 1 17 0 1 1 ++ bytes 1 2 17 7 1 2) _ refl refl (k .answered)

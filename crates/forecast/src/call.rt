@@ -34,7 +34,7 @@ fn record_limit(height: usize) -> usize
     requires { ⌜ height ≤ 3 ⌝ }
     ensures { λ r. ⌜ ((s : Shape) → s .height ≡ height → r ≡ recordLimit s) ⌝ }
 {
-    36 * height + 2
+    40 * height + 2
 }
 
 // What p, l and begin records alone tell of every run of them. It returns what the rules say; and of a forecast without

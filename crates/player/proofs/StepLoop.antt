@@ -13,7 +13,7 @@ use Rattle.tree.specs.Shape.{Shape, processes, leafOf}
 use Rattle.tree.specs.Memory.{Memory, memoryOf}
 use Rattle.steps.specs.declared.Operation.{Operation}
 use Rattle.steps.specs.declared.Step.{Step}
-use Rattle.steps.specs.declared.Step.the-variants.{A, V1, V2, V3, R1, R2, R3, R4, R5, C1, C2, C3, C4, Q}
+use Rattle.steps.specs.declared.Step.the-variants.{A, V1, V2, V3, R1, R2, R3, R4, R5, C1, C2, C3L, C3R, C3N, C4, Q}
 use Rattle.steps.specs.declared.Status.the-variants.{Idle, Busy}
 use Rattle.steps.specs.declared.Process.{Process}
 use Rattle.steps.specs.Process.{idle}
@@ -50,7 +50,8 @@ module _ {c : Call} {t : State} {i first j : ℕ} (w : StepAt c t i first j) whe
   abbrev s : Shape
   s = shapeOf c
 
-  abbrev q : Process
+  -- its process
+  abbrev pub q : Process
   q = getD (t .procs) j idle
 
   pub step-low : j < 8
@@ -98,7 +99,9 @@ module _ {c : Call} {t : State} {i first j : ℕ} (w : StepAt c t i first j) whe
   placed (R5 w c) r = step-begins _ (r .0 .both)
   placed (C1 w) r = tt
   placed (C2 w l) r = tt
-  placed (C3 w l e) r = (step-begins _ (omega (arith, r .0 .both)), step-begins _ (omega (arith, r .0 .both)), step-begins _ (r .0 .both))
+  placed (C3L w l e) r = step-begins _ (omega (arith, r .0 .both))
+  placed (C3R w l e puts takes) r = step-begins _ (r .0 .both)
+  placed (C3N w l e puts takes) r = step-begins _ (omega (arith, r .0 .both))
   placed (C4 w n) r = step-begins _ (r .0)
   placed Q r = tt
 

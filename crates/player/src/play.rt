@@ -10,8 +10,12 @@ use log::write::write_answer;
 use record::bytes::word_at;
 use refusals::begin::begin_refusal;
 use refusals::numbers::accepted;
+use stepping::blocks::adds_nothing;
 use stepping::blocks::step_a;
-use stepping::blocks::step_c3;
+use stepping::blocks::step_c3l;
+use stepping::blocks::step_c3n_on;
+use stepping::blocks::step_c3n_up;
+use stepping::blocks::step_c3r;
 use stepping::blocks::step_c4;
 use stepping::blocks::step_r3;
 use stepping::blocks::step_r5;
@@ -136,9 +140,23 @@ pub fn play(
                             procs[k] = step_c2(heads, q);
                             continue;
                         }
-                        Step::C3 { .. } => {
+                        Step::C3L { .. } => {
                             let q = procs[k];
-                            procs[k] = step_c3(table, starts, q);
+                            procs[k] = step_c3l(table, starts, q);
+                            continue;
+                        }
+                        Step::C3R { .. } => {
+                            let q = procs[k];
+                            procs[k] = step_c3r(table, starts, q);
+                            continue;
+                        }
+                        Step::C3N { .. } => {
+                            let q = procs[k];
+                            if adds_nothing(table, starts, q) {
+                                procs[k] = step_c3n_up(q);
+                                continue;
+                            }
+                            procs[k] = step_c3n_on(table, starts, q);
                             continue;
                         }
                         Step::C4 { .. } => {

@@ -1,3 +1,4 @@
 pub mod StepNames
-pub mod AlikeCode
-pub mod Taken
+pub mod Decision
+pub mod OwnWordsCode
+pub mod OwnWordsContracts

@@ -8,7 +8,9 @@ use lib.ListN.{take, drop}
 use mir.Val.{hasKey}
 use types.Run.{OneOf, miss}
 use denote.Enum.Declared as declared
+use Rattle.steps.specs.declared.Visit.{Visit}
 use Rattle.steps.specs.declared.Step.{Step}
+use Rattle.steps.specs.declared.Step.the-variants.{C3N}
 use Rattle.steps.specs.declared.Status.{Status}
 use Rattle.steps.specs.declared.Status.the-variants.{Idle, Busy}
 use Rattle.steps.specs.Machine.{isIdle}
@@ -20,7 +22,7 @@ abbrev pub tag : Step → ℕ
 tag = declared.tagOf steps.the-type
 
 abbrev tags : List ℕ
-tags = 0 ∷ 1 ∷ 2 ∷ 3 ∷ 4 ∷ 5 ∷ 6 ∷ 7 ∷ 8 ∷ 9 ∷ 10 ∷ 11 ∷ 12 ∷ 13 ∷ []
+tags = 0 ∷ 1 ∷ 2 ∷ 3 ∷ 4 ∷ 5 ∷ 6 ∷ 7 ∷ 8 ∷ 9 ∷ 10 ∷ 11 ∷ 12 ∷ 13 ∷ 14 ∷ 15 ∷ []
 
 -- the numbers of the other names
 abbrev pub others : Step → List ℕ
@@ -29,6 +31,11 @@ others y = take (tag y) tags ++ drop (tag y + 1) tags
 -- a step of the name of y is not in the arm of the other names
 pub other : {n y : Step} → OneOf (others y) (tag n) → n ≡ y → T (not (hasKey (others y) (tag y))) → ⊥
 other {n} {y} k e d = miss (others y) (tag y) d (subst (λ z. OneOf (others y) (tag z)) e k)
+
+-- two steps C3N that are equal have equal registers
+pub same-registers : {w w' : Visit} {l l' r r' puts puts' takes takes' : ℕ} → C3N w l r puts takes ≡ C3N w' l' r' puts' takes'
+    → (w ≡ w') × (l ≡ l') × (r ≡ r') × (puts ≡ puts') × (takes ≡ takes')
+same-registers e = (cc, cc, cc, cc, cc)
 
 -- a process at a step other than A is busy
 pub busy : (x : Status) {n : Step} → stepIn x ≡ n → T (not (eqb (tag n) 0)) → isIdle x ≡ false

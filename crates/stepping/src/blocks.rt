@@ -1,8 +1,7 @@
 // The named steps that read or write blocks. Where no head is read, they hold whatever the heads are.
-use crate::build::bare;
 use crate::build::block_of;
-use crate::build::joined;
 use crate::build::plus_operation;
+use crate::build::root_size;
 use crate::build::same_totals;
 use crate::sequence::above;
 use crate::sequence::advance;
@@ -17,7 +16,6 @@ use steps::Built;
 use steps::Process;
 use steps::Step;
 use steps::Visit;
-use tree::Block;
 use tree::Totals;
 use tree::access::absent_at;
 use tree::access::block_at;
@@ -30,16 +28,17 @@ use tree::heads::head_of;
 ghost use mathlib.Core.Bool.{false};
 ghost use mathlib.Core.Path.{_≡_};
 ghost use mathlib.Core.List.{List};
-ghost use Prim.Native.Nat.{ℕ, _+_, _*_, _-_, _≤_, _<_};
+ghost use Prim.Native.Nat.{ℕ, _+_, _*_, _-_, _<_};
+ghost use lib.Dec.{eqb};
 ghost use Rattle.base.specs.Choice.{if_then_else_};
-ghost use Rattle.tree.specs.Shape.{Shape, leafOf};
+ghost use Rattle.tree.specs.Shape.{Shape, root, leafOf};
 ghost use Rattle.tree.specs.Memory.{memoryOf};
-ghost use Rattle.steps.specs.Rules.{above as aboveOf, help as helpOf, built as builtOf, sameTotals, step, go};
+ghost use Rattle.tree.specs.Size.{rootSize};
+ghost use Rattle.steps.specs.Rules.{above as aboveOf, help as helpOf, built, step, go};
 ghost use Rattle.steps.specs.Machine.{isIdle};
-ghost use Rattle.stepping.specs.Contracts.Next.{operationIn, stepIn, Moves, PartsBegin, StepsByTable, Fits, FitsLeaf};
+ghost use Rattle.stepping.specs.Contracts.Next.{operationIn, stepIn, Moves, StepsByTable, Decided, GoesFromC3N, Fits, FitsLeaf};
 ghost use Rattle.tree.specs.Contracts.Access.{Begins, HasPart, HasPlace, nodeBlock, totalsOf};
-ghost use Rattle.steps.specs.Contracts.Ready.{Adds};
-ghost use Rattle.stepping.specs.Contracts.Taken.{sizeTaken, BuildsAlike};
+ghost use Rattle.steps.specs.Contracts.Ready.{Adds, Sums, Decides};
 
 // A: the operation's block at the head of its own leaf, where no other process writes.
 pub fn step_a(
@@ -136,52 +135,125 @@ pub fn step_r5(table: &[u32], starts: &[usize; 17], q: Process) -> Process
     moved(q, help(table, starts, visit, After::Ends, v, child))
 }
 
-// A block that would add nothing is not written: the operation is in a block of the node already.
-fn settle(w: Visit, n: Built, old: Block) -> Step
-    ensures { λ r. ⌜ r ≡ (if sameTotals n old then aboveOf (w .node) else Step.C4 w n) ⌝ }
+// C3L: the totals of the left child's block at the end that C1 found.
+pub fn step_c3l(table: &[u32], starts: &[usize; 17], q: Process) -> Process
+    requires { ⌜ (q .steps < 65536) × ((w : Visit) (l r : ℕ) → stepIn (q .status) ≡ Step.C3L w l r →
+        HasPlace (now starts) (now table) (2 * w .node) l × Fits (now starts) (Step.C3L w l r)) ⌝ }
+    ensures { λ z. ⌜ StepsByTable (λ P. (w : Visit) (l r : ℕ) → P (Step.C3L w l r)) (now (starts .entry)) (now (table .entry)) (now (table .entry)) q z ⌝ }
 {
-    if same_totals(n, old) {
-        return above(w.node);
-    }
-    Step::C4 { visit: w, built: n }
+    let Step::C3L { visit, left, right } = step_in(q) else {
+        return q;
+    };
+    let x = totals_at(table, starts, 2 * visit.node, left);
+    moved(
+        q,
+        Step::C3R {
+            visit,
+            left,
+            right,
+            puts: x.puts,
+            takes: x.takes,
+        },
+    )
 }
 
-// The size of the block before the head that was read, in the root. Below the root there is no size, and none is read.
-fn size_before(table: &[u32], starts: &[usize; 17], w: Visit) -> u32
-    requires { ⌜ (1 ≤ w .head) × HasPlace (now starts) (now table) (w .node) (w .head - 1) ⌝ }
-    ensures { λ r. ⌜ r ≡ sizeTaken (w .node) (nodeBlock (now (starts .entry)) (now (table .entry)) (w .node) (w .head - 1)) ⌝ }
+// C3R: those of the right child's block at the end that C2 found are added.
+pub fn step_c3r(table: &[u32], starts: &[usize; 17], q: Process) -> Process
+    requires { ⌜ (q .steps < 65536) × ((w : Visit) (l r puts takes : ℕ) → stepIn (q .status) ≡ Step.C3R w l r puts takes →
+        Sums (now starts) (now table) w r puts takes × Fits (now starts) (Step.C3R w l r puts takes)) ⌝ }
+    ensures { λ z. ⌜ StepsByTable (λ P. (w : Visit) (l r puts takes : ℕ) → P (Step.C3R w l r puts takes)) (now (starts .entry)) (now (table .entry)) (now (table .entry)) q z ⌝ }
+{
+    let Step::C3R {
+        visit,
+        left,
+        right,
+        puts,
+        takes,
+    } = step_in(q)
+    else {
+        return q;
+    };
+    let y = totals_at(table, starts, 2 * visit.node + 1, right);
+    moved(
+        q,
+        Step::C3N {
+            visit,
+            left,
+            right,
+            puts: puts + y.puts,
+            takes: takes + y.takes,
+        },
+    )
+}
+
+// The size of the block that C3N makes, where `old` are the totals of the block before. Below the root there is none,
+// and none is read.
+fn size_of(table: &[u32], starts: &[usize; 17], w: Visit, old: Totals, puts: u32, takes: u32) -> u32
+    requires { ⌜ Decides (now starts) (now table) w puts takes × (old ≡ totalsOf (nodeBlock (now starts) (now table) (w .node) (w .head - 1))) ⌝ }
+    ensures { λ r. ⌜ r ≡ (if eqb (w .node) root then rootSize (nodeBlock (now (starts .entry)) (now (table .entry)) (w .node) (w .head - 1)) puts takes else 0) ⌝ }
 {
     if w.node == 1 {
-        return size_at_root(table, starts, w.head - 1);
+        let size = size_at_root(table, starts, w.head - 1);
+        return root_size(old, size, puts, takes);
     }
     0
 }
 
-// What C3 makes of the children's blocks at the ends l and r; `old` are the totals of the node's block before.
-fn build(table: &[u32], starts: &[usize; 17], w: Visit, old: Totals, l: u32, r: u32) -> Built
-    requires { ⌜ BuildsAlike (now starts) (now table) w l r × (old ≡ totalsOf (nodeBlock (now starts) (now table) (w .node) (w .head - 1))) ⌝ }
-    ensures { λ n. ⌜ ((s : Shape) (heads : List ℕ) → PartsBegin s (now (starts .entry)) (Step.C3 w l r) →
-        n ≡ builtOf s (memoryOf (now (table .entry)) heads) w l r) ⌝ }
+// C3N decides by the node's block before the head: whether a block with the totals in hand would add nothing to it. A
+// process at another step has none to add.
+pub fn adds_nothing(table: &[u32], starts: &[usize; 17], q: Process) -> bool
+    requires { ⌜ ((w : Visit) (l r puts takes : ℕ) → stepIn (q .status) ≡ Step.C3N w l r puts takes → Decides (now starts) (now table) w puts takes) ⌝ }
+    ensures { λ b. ⌜ Decided (now (starts .entry)) (now (table .entry)) q b ⌝ }
 {
-    let v = w.node;
-    let x = totals_at(table, starts, 2 * v, l);
-    let y = totals_at(table, starts, 2 * v + 1, r);
-    let size = size_before(table, starts, w);
-    joined(v, bare(old, size), bare(x, 0), bare(y, 0), l, r)
+    let Step::C3N {
+        visit,
+        puts,
+        takes,
+        ..
+    } = step_in(q)
+    else {
+        return true;
+    };
+    let old = totals_at(table, starts, visit.node, visit.head - 1);
+    same_totals(puts, takes, old)
 }
 
-// C3: the block is made of the children's blocks at the ends that C1 and C2 found.
-pub fn step_c3(table: &[u32], starts: &[usize; 17], q: Process) -> Process
-    requires { ⌜ (q .steps < 65536) × ((w : Visit) (l r : ℕ) → stepIn (q .status) ≡ Step.C3 w l r →
-        BuildsAlike (now starts) (now table) w l r × Fits (now starts) (Step.C3 w l r)) ⌝ }
-    ensures { λ z. ⌜ StepsByTable (λ P. (w : Visit) (l r : ℕ) → P (Step.C3 w l r)) (now (starts .entry)) (now (table .entry)) (now (table .entry)) q z ⌝ }
+// C3N, where the block would add nothing: it is not written, for the operation is in a block of the node already.
+pub fn step_c3n_up(q: Process) -> Process
+    requires { ⌜ q .steps < 65536 ⌝ }
+    ensures { λ z. ⌜ GoesFromC3N (λ w l r puts takes. aboveOf (w .node)) q z ⌝ }
 {
-    let Step::C3 { visit, left, right } = step_in(q) else {
+    let Step::C3N { visit, .. } = step_in(q) else {
+        return q;
+    };
+    moved(q, above(visit.node))
+}
+
+// C3N, where it would add something: C4 is to write it.
+pub fn step_c3n_on(table: &[u32], starts: &[usize; 17], q: Process) -> Process
+    requires { ⌜ (q .steps < 65536) × ((w : Visit) (l r puts takes : ℕ) → stepIn (q .status) ≡ Step.C3N w l r puts takes → Decides (now starts) (now table) w puts takes) ⌝ }
+    ensures { λ z. ⌜ GoesFromC3N (λ w l r puts takes. Step.C4 w (built (w .node) (nodeBlock (now (starts .entry)) (now (table .entry)) (w .node) (w .head - 1)) l r puts takes)) q z ⌝ }
+{
+    let Step::C3N {
+        visit,
+        left,
+        right,
+        puts,
+        takes,
+    } = step_in(q)
+    else {
         return q;
     };
     let old = totals_at(table, starts, visit.node, visit.head - 1);
-    let built = build(table, starts, visit, old, left, right);
-    moved(q, settle(visit, built, bare(old, 0)))
+    let size = size_of(table, starts, visit, old, puts, takes);
+    let new = Built {
+        left,
+        right,
+        puts,
+        takes,
+        size,
+    };
+    moved(q, Step::C4 { visit, built: new })
 }
 
 // C4: the block is written if its place is still empty. The refresh has then succeeded.

@@ -143,5 +143,5 @@ pub fn step_c2(heads: &[u32], q: Process) -> Process
         return q;
     };
     let right = right_head(heads, visit.node) - 1;
-    moved(q, Step::C3 { visit, left, right })
+    moved(q, Step::C3L { visit, left, right })
 }

@@ -1,4 +1,4 @@
--- The block that C3 makes: with other totals it may follow the block before; with equal totals its ends are that
+-- The block that C3N makes: with other totals it may follow the block before; with equal totals its ends are that
 -- block's.
 use Prim.Native.Nat.{ℕ, _+_, _-_, _≤_, _<_}
 use native.Mathlib.Omega.{arith}
@@ -20,17 +20,13 @@ use Rattle.tree.proofs.Nodes.{child-node, inner-node}
 use Rattle.tree.proofs.Sound.{below-head, totals-rise, counts-rise, sums-at}
 use Rattle.steps.specs.declared.Visit.{Visit}
 use Rattle.steps.specs.declared.Built.{Built}
-use Rattle.steps.specs.Rules.{joined, built, sameTotals, blockOf}
-use Rattle.steps.proofs.Progress.{EndOk}
+use Rattle.steps.specs.Rules.{sameTotals, built, blockOf}
+use Rattle.steps.proofs.Stages.{countedBoth}
+use Rattle.steps.proofs.Progress.{EndOk, Tallied}
 
-same-totals : (n : Built) (b : Block) → sameTotals n b ≡ true → (κ : Kind) → total κ (blockOf n) ≡ total κ b
-unfolding sameTotals total blockOf
-same-totals n b e Puts = eqb-true (n .puts) (b .puts) (and-true (eqb (n .puts) (b .puts)) (eqb (n .takes) (b .takes)) e .0)
-same-totals n b e Takes = eqb-true (n .takes) (b .takes) (and-true (eqb (n .puts) (b .puts)) (eqb (n .takes) (b .takes)) e .1)
-
-other-totals : (n : Built) (b : Block) → sameTotals n b ≡ false → n .puts ≡ b .puts → n .takes ≡ b .takes → ⊥
+other-totals : (puts takes : ℕ) (b : Block) → sameTotals puts takes b ≡ false → puts ≡ b .puts → takes ≡ b .takes → ⊥
 unfolding sameTotals
-other-totals n b e p q = true≢false (sym (rw (eq-eqb (n .puts) (b .puts) p, eq-eqb (n .takes) (b .takes) q)) ∙ e)
+other-totals puts takes b e p q = true≢false (sym (rw (eq-eqb puts (b .puts) p, eq-eqb takes (b .takes) q)) ∙ e)
 
 -- a sum rises if its parts do not fall and are not both equal
 strict : {w x y z : ℕ} → w ≤ x → y ≤ z → (x ≡ w → z ≡ y → ⊥) → w + y < x + z
@@ -42,13 +38,13 @@ strict {w} {x} {y} {z} p q ne = on (ℕ-discrete x w) (ℕ-discrete z y)
     on (no e) f = omega arith
 
 module _ (s : Shape) (m : Memory) (sound : Sound s m) (w : Visit) (iv : Inner s (w .node)) (first : 1 ≤ w .head) (last : w .head ≤ headOf m (w .node)) (l r : ℕ)
-    (lo : EndOk s m w onLeft l) (ro : EndOk s m w onRight r)
+    (lo : EndOk s m w onLeft l) (ro : EndOk s m w onRight r) (puts takes : ℕ) (told : Tallied s m w l r (countedBoth puts takes))
   where
     abbrev old : Block
     old = block s m (w .node) (w .head - 1)
 
     abbrev new : Built
-    new = built s m w l r
+    new = built (w .node) old l r puts takes
 
     before : Written s m (w .node) (w .head - 1)
     before = below-head (sound .node (w .node) (inner-node s (w .node) iv)) (w .head - 1) (omega arith)
@@ -65,9 +61,9 @@ module _ (s : Shape) (m : Memory) (sound : Sound s m) (w : Visit) (iv : Inner s 
 
     -- the totals are the sums at the ends, in the new block and in the old
     pub new-sums : (κ : Kind) → total κ (blockOf new) ≡ total κ (block s m (childOf onLeft (w .node)) l) + total κ (block s m (childOf onRight (w .node)) r)
-    unfolding built joined blockOf total
-    new-sums Puts = refl
-    new-sums Takes = refl
+    unfolding built blockOf total
+    new-sums Puts = told .0
+    new-sums Takes = told .1
 
     old-sums : (κ : Kind) → total κ old ≡ total κ (block s m (childOf onLeft (w .node)) (old .left)) + total κ (block s m (childOf onRight (w .node)) (old .right))
     old-sums κ = sums-at sound (w .node) iv (w .head - 1) before κ
@@ -75,25 +71,25 @@ module _ (s : Shape) (m : Memory) (sound : Sound s m) (w : Visit) (iv : Inner s 
     pub totals-grow : (κ : Kind) → total κ old ≤ total κ (blockOf new)
     totals-grow κ = omega (arith, new-sums κ, old-sums κ, total-side onLeft l lo κ, total-side onRight r ro κ)
 
-    count-grows : sameTotals new old ≡ false → total Puts old ≤ total Puts (blockOf new) → total Takes old ≤ total Takes (blockOf new) → count old < count (blockOf new)
-    unfolding total blockOf
-    count-grows e p q = strict p q (other-totals new old e)
+    count-grows : sameTotals puts takes old ≡ false → total Puts old ≤ total Puts (blockOf new) → total Takes old ≤ total Takes (blockOf new) → count old < count (blockOf new)
+    unfolding built blockOf total
+    count-grows e p q = strict p q (other-totals puts takes old e)
 
-    pub built-follows : sameTotals new old ≡ false → Follows old (blockOf new)
+    pub built-follows : sameTotals puts takes old ≡ false → Follows old (blockOf new)
     built-follows e = record { rises = totals-grow; more = count-grows e (totals-grow Puts) (totals-grow Takes) }
 
     ends-rise : (d : Side) → endOf d old ≤ endOf d (blockOf new)
-    unfolding built joined blockOf
+    unfolding built blockOf
     ends-rise onLeft = lo .rises
     ends-rise onRight = ro .rises
 
     ends-below : (d : Side) → endOf d (blockOf new) < headOf m (childOf d (w .node))
-    unfolding built joined blockOf
+    unfolding built blockOf
     ends-below onLeft = lo .below
     ends-below onRight = ro .below
 
     pub built-joins : Joins s m (w .node) old (blockOf new)
-    unfolding built joined blockOf root
+    unfolding built blockOf root
     built-joins = record { rises = ends-rise; below = ends-below; sums = new-sums; sized = refl }
 
     -- equal totals: both ends are those of the block before
@@ -112,5 +108,10 @@ module _ (s : Shape) (m : Memory) (sound : Sound s m) (w : Visit) (iv : Inner s 
         let q = ro .rises in
         (omega arith, omega arith)
 
-    pub same-ends : sameTotals new old ≡ true → (old .left ≡ l) × (old .right ≡ r)
-    same-ends e = equal-ends (same-totals new old e)
+    same-totals : sameTotals puts takes old ≡ true → (κ : Kind) → total κ (blockOf new) ≡ total κ old
+    unfolding sameTotals built blockOf total
+    same-totals e Puts = eqb-true puts (old .puts) (and-true (eqb puts (old .puts)) (eqb takes (old .takes)) e .0)
+    same-totals e Takes = eqb-true takes (old .takes) (and-true (eqb puts (old .puts)) (eqb takes (old .takes)) e .1)
+
+    pub same-ends : sameTotals puts takes old ≡ true → (old .left ≡ l) × (old .right ≡ r)
+    same-ends e = equal-ends (same-totals e)

@@ -23,11 +23,11 @@ use Rattle.steps.specs.declared.After.the-variants.{Up}
 use Rattle.steps.specs.declared.Built.{Built}
 use Rattle.steps.specs.Rules.{afterRefresh, plusOperation, blockOf}
 use Rattle.steps.proofs.Stages.{made, Stage, advancing, Holds}
-use Rattle.steps.proofs.Turns.{Turn, afterHelp, rests, adds, supers, raises, starts, helps, endsLeft, endsRight, makes, finds, writes, meets, finishes}
+use Rattle.steps.proofs.Turns.{Turn, afterHelp, rests, adds, supers, raises, starts, helps, endsLeft, endsRight, counts, makes, finds, writes, meets, finishes}
 use Rattle.steps.proofs.Progress.{LeafOpen, OwnLeaf, Threshold, Refreshing, Passing, Failed, AfterAdvance, Advancing, Building, Carried}
 use Rattle.steps.proofs.Others.{Effect, Registers, hand-below, reached, covered-stable, owed-stable, refreshing-stable, after-stable, carried-stable, sound'}
 use Rattle.steps.proofs.Effects.{plus-one, made-has, build-fresh}
-use Rattle.steps.proofs.OwnTurn.{resumed, started, read-left, read-right, made-block, nothing-new}
+use Rattle.steps.proofs.OwnTurn.{resumed, started, read-left, read-right, counted, made-block, nothing-new}
 
 module _ (s : Shape) (m : Memory) (sized : Sized s m) (sound : Sound s m) (hold hold' : ℕ → Stage) (k : ℕ) (kp : k < processes s) (o : Operation)
     (others : (r : ℕ) → r ≢ k → hold' r ≡ hold r) (regs : Registers s m hold) (b : ℕ) (bm : b ≤ s .most)
@@ -138,8 +138,9 @@ module _ (s : Shape) (m : Memory) (sized : Sized s m) (sound : Sound s m) (hold 
         helped onRight r = r
     carried-turn (endsLeft w l g) e f eff own p = read-left s m sound hold hold' k kp o eff others regs b w (p .refreshing) l g
     carried-turn (endsRight w l r g) e f eff own p = read-right s m sound hold hold' k kp o eff others regs b w l r g p
-    carried-turn (makes w l r g) e f eff own p = made-block s m sound hold hold' k kp o eff others regs b w l r p g
-    carried-turn (finds w l r g) e f eff own p = nothing-new s m sound hold hold' k kp o eff others regs b w l r p g
+    carried-turn (counts w l r x y g) e f eff own p = counted s m sound hold hold' k kp o eff others regs b w l r x y g p
+    carried-turn (makes w l r puts takes g) e f eff own p = made-block s m sound hold hold' k kp o eff others regs b w l r puts takes p g
+    carried-turn (finds w l r puts takes g) e f eff own p = nothing-new s m sound hold hold' k kp o eff others regs b w l r puts takes p g
     carried-turn (writes w c g) e f eff own p =
         let iv : Inner s (w .node) = refresh-inner w (p .refreshing) in
         let put = write-here s m (w .node) (w .head) (blockOf c) sized (inner-node s (w .node) iv) (place-within w c p iv g) in

@@ -1,4 +1,4 @@
--- An operation takes at most 36H + 1 own steps: each step lowers a bound on those still to take, which is 36H + 1 at A.
+-- An operation takes at most 40H + 1 own steps: each step lowers a bound on those still to take, which is 40H + 1 at A.
 -- Used by proofs and by contracts of functions; no exported promise names it.
 use Prim.Native.Nat.{ℕ, zero, suc, _+_, _*_, _-_, _≤_, _<_}
 use native.Mathlib.Omega.{arith}
@@ -18,10 +18,10 @@ use Rattle.steps.specs.declared.Visit.{Visit}
 use Rattle.steps.specs.declared.After.{After}
 use Rattle.steps.specs.declared.After.the-variants.{Right, Ends, Again, Up}
 use Rattle.steps.specs.declared.Step.{Step}
-use Rattle.steps.specs.declared.Step.the-variants.{A, V1, V2, V3, R1, R2, R3, R4, R5, C1, C2, C3, C4, Q}
+use Rattle.steps.specs.declared.Step.the-variants.{A, V1, V2, V3, R1, R2, R3, R4, R5, C1, C2, C3L, C3R, C3N, C4, Q}
 use Rattle.steps.specs.declared.Status.{Status}
 use Rattle.steps.specs.declared.Status.the-variants.{Idle, Busy}
-use Rattle.steps.specs.Rules.{above, resume, advance, afterRefresh, help, built, sameTotals, go, step}
+use Rattle.steps.specs.Rules.{above, resume, advance, afterRefresh, help, sameTotals, go, step}
 use Rattle.steps.proofs.Stages.{Stage, resting, adding, advancing, starting, building, answering, stage}
 
 -- ---- the costs
@@ -43,7 +43,7 @@ advanceRoot = 1
 abbrev pub helpCost : ℕ
 helpCost = advanceBelow
 
--- the own steps of a refresh: R1 to R3, R4 to R5, C1 to C4
+-- the own steps of a refresh: R1 to R3, R4 to R5, C1 to C4, with C3L, C3R and C3N
 abbrev pub leftSteps : ℕ
 leftSteps = 3
 
@@ -51,7 +51,7 @@ abbrev pub rightSteps : ℕ
 rightSteps = 2
 
 abbrev pub endSteps : ℕ
-endSteps = 4
+endSteps = 6
 
 -- a refresh from R4, and from R1, up to and with C4
 abbrev pub fromRight : ℕ
@@ -127,8 +127,10 @@ rest s (R3 w c) = 1 + helpCost + fromRight + tail s (w .node) (w .second)
 rest s (R4 w) = fromRight + tail s (w .node) (w .second)
 rest s (R5 w c) = 1 + helpCost + endSteps + tail s (w .node) (w .second)
 rest s (C1 w) = endSteps + tail s (w .node) (w .second)
-rest s (C2 w l) = 3 + tail s (w .node) (w .second)
-rest s (C3 w l r) = 2 + tail s (w .node) (w .second)
+rest s (C2 w l) = 5 + tail s (w .node) (w .second)
+rest s (C3L w l r) = 4 + tail s (w .node) (w .second)
+rest s (C3R w l r puts takes) = 3 + tail s (w .node) (w .second)
+rest s (C3N w l r puts takes) = 2 + tail s (w .node) (w .second)
 rest s (C4 w n) = 1 + tail s (w .node) (w .second)
 rest s Q = answerCost
 
@@ -219,8 +221,10 @@ rest-step s tall k kp o m (R4 w) n = omega arith
 rest-step s tall k kp o m (R5 w c) n = omega (arith, rest-help s m w Ends n (rightOf (w .node)) c)
 rest-step s tall k kp o m (C1 w) n = omega arith
 rest-step s tall k kp o m (C2 w l) n = omega arith
-rest-step s tall k kp o m (C3 w l r) n =
-    both (λ (x : Step). rest s x < 2 + tail s (w .node) (w .second)) (sameTotals (built s m w l r) (block s m (w .node) (w .head - 1)))
+rest-step s tall k kp o m (C3L w l r) n = omega arith
+rest-step s tall k kp o m (C3R w l r puts takes) n = omega arith
+rest-step s tall k kp o m (C3N w l r puts takes) n =
+    both (λ (x : Step). rest s x < 2 + tail s (w .node) (w .second)) (sameTotals puts takes (block s m (w .node) (w .head - 1)))
     (omega (arith, rest-above s (w .node) (inner-node s (w .node) n), up-tail s (w .node) (w .second))) (omega arith)
 rest-step s tall k kp o m (C4 w b) n =
     let x : Bool = absent (block s m (w .node) (w .head)) in
@@ -232,5 +236,5 @@ pub rest-first-cost : (s : Shape) → 1 ≤ s .height → rest s A ≡ addCost +
 unfolding rest
 rest-first-cost s tall = let e : s .height ≡ suc (s .height - 1) = omega arith in omega (arith, ap upCost e, up-cost (s .height - 1))
 
-pub rest-first : (s : Shape) → 1 ≤ s .height → rest s A ≡ 36 * s .height + 1
+pub rest-first : (s : Shape) → 1 ≤ s .height → rest s A ≡ 40 * s .height + 1
 rest-first s tall = omega (arith, rest-first-cost s tall)

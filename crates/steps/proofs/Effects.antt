@@ -26,9 +26,9 @@ use Rattle.steps.specs.declared.Operation.the-variants.{Put, Take}
 use Rattle.steps.specs.declared.Visit.{Visit}
 use Rattle.steps.specs.declared.After.{After}
 use Rattle.steps.specs.declared.Built.{Built}
-use Rattle.steps.specs.Rules.{plusOperation, joined, built, blockOf}
-use Rattle.steps.proofs.Stages.{Hand, none, one, two, made, Stage, adding, advancing, building, HasEnd, Holds, above-empty, after-empty}
-use Rattle.steps.proofs.Turns.{Turn, rests, adds, supers, raises, starts, helps, endsLeft, endsRight, makes, finds, writes, meets, finishes}
+use Rattle.steps.specs.Rules.{plusOperation, built, blockOf}
+use Rattle.steps.proofs.Stages.{Tally, uncounted, countedBoth, Hand, none, one, two, made, Stage, adding, advancing, building, HasEnd, Holds, ends-stay, above-empty, after-empty}
+use Rattle.steps.proofs.Turns.{Turn, rests, adds, supers, raises, starts, helps, endsLeft, endsRight, counts, makes, finds, writes, meets, finishes}
 use Rattle.steps.proofs.Progress.{LeafOpen, OwnLeaf, Building, Carried}
 use Rattle.steps.proofs.Others.{LeafWrote, InnerWrote, Effect}
 
@@ -54,10 +54,10 @@ plus-follows : (o : Operation) (b : Block) → Follows b (plusOperation o b)
 plus-follows o b = record { rises = plus-rises o b; more = omega (arith, plus-one o b) }
 
 -- ends of the block that was made are those it was made of
-pub made-ends : (s : Shape) (m : Memory) (w : Visit) (l r : ℕ) (d : Side) (e : ℕ) → HasEnd d (made (built s m w l r)) e → HasEnd d (two l r) e
-unfolding built joined
-made-ends s m w l r onLeft e p = p
-made-ends s m w l r onRight e p = p
+pub made-ends : (v : ℕ) (old : Block) (l r puts takes : ℕ) (x : Tally) (d : Side) (e : ℕ) → HasEnd d (made (built v old l r puts takes)) e → HasEnd d (two l r x) e
+unfolding built
+made-ends v old l r puts takes x onLeft e p = p
+made-ends v old l r puts takes x onRight e p = p
 
 pub made-has : (n : Built) (d : Side) → HasEnd d (made n) (endOf d (blockOf n))
 unfolding blockOf
@@ -242,7 +242,7 @@ module _ (s : Shape) (k : ℕ) (o : Operation) (m : Memory) where
       gains-left w l f onLeft u h e q = inr (rw (← q .0) (sym (q .2) ∙ f))
       gains-left w l f onRight u h e q = absurd (q .2)
 
-      gains-right : (w : Visit) (l r : ℕ) → r ≡ headOf m (rightOf (w .node)) - 1 → (d : Side) (u h e : ℕ) → Holds d (building w (two l r)) u h e
+      gains-right : (w : Visit) (l r : ℕ) → r ≡ headOf m (rightOf (w .node)) - 1 → (d : Side) (u h e : ℕ) → Holds d (building w (two l r uncounted)) u h e
           → Holds d (building w (one l)) u h e ⊎ (e ≡ headOf m (childOf d u) - 1)
       gains-right w l r f onLeft u h e q = inl q
       gains-right w l r f onRight u h e q = inr (rw (← q .0) (sym (q .2) ∙ f))
@@ -259,8 +259,9 @@ module _ (s : Shape) (k : ℕ) (o : Operation) (m : Memory) where
       effect (helps w d c f) own p = still (λ d' u h e q. absurd q)
       effect (endsLeft w l f) own p = still (gains-left w l f)
       effect (endsRight w l r f) own p = still (gains-right w l r f)
-      effect (makes w l r f) own p = still (λ d u h e q. inl (q .0, q .1, made-ends s m w l r d e (q .2)))
-      effect (finds w l r f) own p = still (λ d u h e q. absurd (above-empty (w .node) d u h e q))
+      effect (counts w l r x y f) own p = still (λ d u h e q. inl (q .0, q .1, ends-stay l r y x d e (q .2)))
+      effect (makes w l r puts takes f) own p = still (λ d u h e q. inl (q .0, q .1, made-ends (w .node) (block s m (w .node) (w .head - 1)) l r puts takes (countedBoth puts takes) d e (q .2)))
+      effect (finds w l r puts takes f) own p = still (λ d u h e q. absurd (above-empty (w .node) d u h e q))
       effect (writes w c f) own p =
           writing sized (building w (made c)) _ (w .node) (w .head) (blockOf c) (inner-node s (w .node) (inner-of w (made c) p)) (w .head - 1) (omega (arith, p .refreshing .first))
           (absent-count (block s m (w .node) (w .head)) f) (build-fresh hold w c p (inner-of w (made c) p) f) (λ iv d. (refl, refl, made-has c d))

@@ -7,7 +7,7 @@ use Rattle.tree.specs.Shape.{Shape}
 use Rattle.tree.specs.Memory.{Memory}
 use Rattle.steps.specs.declared.Operation.{Operation}
 use Rattle.steps.specs.declared.Step.{Step}
-use Rattle.steps.specs.declared.Step.the-variants.{A, V1, V2, V3, R1, R2, R3, R4, R5, C1, C2, C3, C4, Q}
+use Rattle.steps.specs.declared.Step.the-variants.{A, V1, V2, V3, R1, R2, R3, R4, R5, C1, C2, C3L, C3R, C3N, C4, Q}
 use Rattle.steps.specs.declared.Status.the-variants.{Idle, Busy}
 use Rattle.steps.specs.Rules.{go, step}
 use Rattle.steps.specs.Machine.{isIdle, isQ}
@@ -29,7 +29,9 @@ goes (R4 w) = inr (refl, λ s k o m. (_, refl))
 goes (R5 w c) = inr (refl, λ s k o m. (_, refl))
 goes (C1 w) = inr (refl, λ s k o m. (_, refl))
 goes (C2 w l) = inr (refl, λ s k o m. (_, refl))
-goes (C3 w l r) = inr (refl, λ s k o m. (_, refl))
+goes (C3L w l r) = inr (refl, λ s k o m. (_, refl))
+goes (C3R w l r puts takes) = inr (refl, λ s k o m. (_, refl))
+goes (C3N w l r puts takes) = inr (refl, λ s k o m. (_, refl))
 goes (C4 w n) = inr (refl, λ s k o m. (_, refl))
 goes Q = inl refl
 

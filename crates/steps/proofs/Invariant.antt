@@ -19,7 +19,7 @@ use Rattle.steps.specs.declared.Step.the-variants.{A}
 use Rattle.steps.specs.declared.Process.{Process}
 use Rattle.steps.specs.Machine.{Machine, processOf}
 use Rattle.steps.proofs.Stages.{Stage, resting, adding, advancing, starting, building, answering, stage, stageOf, Holds}
-use Rattle.steps.proofs.Turns.{Turn, rests, adds, supers, raises, starts, helps, endsLeft, endsRight, makes, finds, writes, meets, finishes}
+use Rattle.steps.proofs.Turns.{Turn, rests, adds, supers, raises, starts, helps, endsLeft, endsRight, counts, makes, finds, writes, meets, finishes}
 use Rattle.steps.proofs.Progress.{OwnLeaf, Refreshing, AfterAdvance, Carried}
 use Rattle.steps.proofs.Others.{Registers, hand-below}
 use Rattle.steps.proofs.Costs.{AfterNodes, StageNodes, StepNodes, rest, restOf}
@@ -91,8 +91,9 @@ module _ (s : Shape) (m : Memory) (hold : ℕ → Stage) (k : ℕ) (kp : k < pro
   turn-sized (helps w d c f) p sz = sz
   turn-sized (endsLeft w l f) p sz = sz
   turn-sized (endsRight w l r f) p sz = sz
-  turn-sized (makes w l r f) p sz = sz
-  turn-sized (finds w l r f) p sz = sz
+  turn-sized (counts w l r x y f) p sz = sz
+  turn-sized (makes w l r puts takes f) p sz = sz
+  turn-sized (finds w l r puts takes f) p sz = sz
   turn-sized (writes w c f) p sz = write-sized s m (w .node) (w .head) _ sz (inner-node s (w .node) (refresh-inner s m hold k kp b w (p .refreshing)))
   turn-sized (meets w c f) p sz = sz
   turn-sized finishes p sz = sz

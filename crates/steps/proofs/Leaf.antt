@@ -19,7 +19,7 @@ use Rattle.steps.specs.declared.After.the-variants.{Right, Ends, Again, 
 use Rattle.steps.specs.declared.Step.{Step}
 use Rattle.steps.specs.Rules.{above, resume}
 use Rattle.steps.proofs.Stages.{stage, aboveStage, Hand, made, Stage, resting, adding, advancing, starting, building, answering, afterStage}
-use Rattle.steps.proofs.Turns.{Turn, rests, adds, supers, raises, starts, helps, endsLeft, endsRight, makes, finds, writes, meets, finishes}
+use Rattle.steps.proofs.Turns.{Turn, rests, adds, supers, raises, starts, helps, endsLeft, endsRight, counts, makes, finds, writes, meets, finishes}
 use Rattle.steps.proofs.Progress.{LeafEnds, LeafDone, LeafOpen, LeafMoving, OwnLeaf, Carried}
 use Rattle.steps.proofs.Others.{LeafWrote, Effect}
 
@@ -150,8 +150,9 @@ module _ (s : Shape) (k : ℕ) (kp : k < processes s) (o : Operation) (m : Memor
   own-turn (helps w z c f) eff d p = moving d
   own-turn (endsLeft w l f) eff d p = d
   own-turn (endsRight w l r f) eff d p = d
-  own-turn (makes w l r f) eff d p = d
-  own-turn (finds w l r f) eff d p = own-above (w .node) d
+  own-turn (counts w l r x y f) eff d p = d
+  own-turn (makes w l r puts takes f) eff d p = d
+  own-turn (finds w l r puts takes f) eff d p = own-above (w .node) d
   own-turn (writes w c f) eff d p = moving (own-stable eff k kp b (λ e. not-adding′) (building w (made c)) d)
   own-turn (meets w c f) eff d p = moving d
   own-turn finishes eff d p = d

@@ -1,4 +1,4 @@
-pub mod Alike
+pub mod OwnWords
 pub mod Stages
 pub mod Turns
 pub mod Progress

@@ -4,10 +4,10 @@ use Prim.Native.Nat.{ℕ, zero, suc, _-_, _≤_, _<_}
 use native.Mathlib.Omega.{arith}
 use native.Mathlib.Decide.{ℕ-discrete}
 use native.Mathlib.Nat.{le-refl}
-use mathlib.Core.Path.{_≡_}
+use mathlib.Core.Path.{_≡_, sym, _∙_}
 use mathlib.Core.Logic.{_≢_, _⊎_, inl, inr}
 use mathlib.Core.Bool.{Bool}
-use Rattle.tree.specs.Shape.{Shape, processes, root, leafOf}
+use Rattle.tree.specs.Shape.{Shape, processes, root, leafOf, leftOf, rightOf}
 use Rattle.tree.specs.Memory.{Memory, headOf, block}
 use Rattle.tree.specs.Sides.{Side, onLeft, onRight, childOf, endOf}
 use Rattle.tree.specs.Contracts.Invariant.{Node, Inner, Present, Written, NodeSound, Sound}
@@ -21,8 +21,8 @@ use Rattle.steps.specs.declared.Visit.{Visit}
 use Rattle.steps.specs.declared.After.{After}
 use Rattle.steps.specs.declared.After.the-variants.{Right, Ends, Again, Up}
 use Rattle.steps.specs.Rules.{blockOf, plusOperation}
-use Rattle.steps.proofs.Stages.{Hand, none, one, two, made, Stage, resting, adding, advancing, starting, building, answering, HasEnd, Holds}
-use Rattle.steps.proofs.Progress.{Covered, Owed, Refreshing, Starting, AfterAdvance, EndOk, HandOk, Building, Rooted, Carried}
+use Rattle.steps.proofs.Stages.{Tally, uncounted, countedLeft, countedBoth, Hand, none, one, two, made, Stage, resting, adding, advancing, starting, building, answering, HasEnd, Holds}
+use Rattle.steps.proofs.Progress.{Covered, Owed, Refreshing, Starting, AfterAdvance, EndOk, Tallied, HandOk, Building, Rooted, Carried}
 
 -- a block in the leaf of process r after a turn of process a, in stage x: it was there, or a has just added it
 abbrev pub LeafWrote : Shape → ℕ → Operation → Memory → Stage → Memory → ℕ → ℕ → Type 0
@@ -51,11 +51,11 @@ pub hand-below : (s : Shape) (m : Memory) (w : Visit) (d : Side) (e : ℕ) (x : 
 unfolding blockOf
 hand-below s m w onLeft e none p q = absurd q
 hand-below s m w onLeft e (one l) p q = rw (← q) (p .below)
-hand-below s m w onLeft e (two l r) p q = rw (← q) (p .0 .below)
+hand-below s m w onLeft e (two l r x) p q = rw (← q) (p .0 .below)
 hand-below s m w onLeft e (made n) p q = rw (← q) (p .1 .below onLeft)
 hand-below s m w onRight e none p q = absurd q
 hand-below s m w onRight e (one l) p q = absurd q
-hand-below s m w onRight e (two l r) p q = rw (← q) (p .1 .below)
+hand-below s m w onRight e (two l r x) p q = rw (← q) (p .1 .below)
 hand-below s m w onRight e (made n) p q = rw (← q) (p .1 .below onRight)
 
 -- ---- a turn of process a: from memory m and stages hold to memory n and stages hold'
@@ -176,14 +176,26 @@ module _ (s : Shape) (m n : Memory) (sound : Sound s m) (hold hold' : ℕ → St
           let q = sound .node (w .node) (inner-node s (w .node) iv) in
           g .stays (w .node) (w .head - 1) (inner-node s (w .node) iv) (below-head q (w .head - 1) (omega (arith, q .head)))
 
+      at : (d : Side) (e : ℕ) → e < headOf m (childOf d (w .node)) → Same (block s n (childOf d (w .node)) e) (block s m (childOf d (w .node)) e)
+      at d e l = let nv = child-node s d (w .node) iv in g .stays (childOf d (w .node)) e nv (below-head (sound .node (childOf d (w .node)) nv) e l)
+
       end-stable : (d : Side) (e : ℕ) → EndOk s m w d e → EndOk s n w d e
       end-stable d e x =
           record { rises = rw (same-end d before) (x .rises); below = omega (arith, x .below, heads-rise g (childOf d (w .node)) (child-node s d (w .node) iv)) }
 
+      -- the blocks at the ends stand below heads, so their totals stay
+      tally-stable : (l r : ℕ) → l < headOf m (leftOf (w .node)) → r < headOf m (rightOf (w .node)) → (x : Tally) → Tallied s m w l r x → Tallied s n w l r x
+      tally-stable l r lo ro uncounted p = tt
+      tally-stable l r lo ro (countedLeft puts takes) p = (p .0 ∙ sym (at onLeft l lo .puts), p .1 ∙ sym (at onLeft l lo .takes))
+      tally-stable l r lo ro (countedBoth puts takes) p =
+          let x = at onLeft l lo in
+          let y = at onRight r ro in
+          (omega (arith, p .0, x .puts, y .puts), omega (arith, p .1, x .takes, y .takes))
+
       pub hand-stable : (x : Hand) → HandOk s m w x → HandOk s n w x
       hand-stable none p = tt
       hand-stable (one l) p = end-stable onLeft l p
-      hand-stable (two l r) p = (end-stable onLeft l (p .0), end-stable onRight r (p .1))
+      hand-stable (two l r x) p = (end-stable onLeft l (p .0), end-stable onRight r (p .1), tally-stable l r (p .0 .below) (p .1 .below) x (p .2))
       hand-stable (made c) p = (
         follows-same _ (blockOf c) _ (blockOf c) before (same-refl (blockOf c)) (p .0),
         joins-grows s m n sound g (w .node) iv _ (blockOf c) _ (blockOf c) before (same-refl (blockOf c)) (p .1),

@@ -9,6 +9,7 @@ use mathlib.Core.Bool.{Bool, true, false, false≢true}
 use lib.Dec.{eqb}
 use borrow.Author.Tests.{eqb-true, eqb-false}
 use Rattle.base.proofs.Cases.{cases}
+use Rattle.tree.specs.declared.Block.{Block}
 use Rattle.tree.specs.Shape.{Shape, processes, root, parentOf, leftOf, rightOf}
 use Rattle.tree.specs.Memory.{Memory, headOf, block}
 use Rattle.tree.specs.Sides.{Side, onLeft, onRight, childOf, endOf}
@@ -21,10 +22,10 @@ use Rattle.steps.specs.declared.Operation.{Operation}
 use Rattle.steps.specs.declared.Visit.{Visit}
 use Rattle.steps.specs.declared.After.{After}
 use Rattle.steps.specs.declared.After.the-variants.{Right, Ends, Again, Up}
-use Rattle.steps.specs.Rules.{above, resume, built, sameTotals}
+use Rattle.steps.specs.Rules.{above, resume, sameTotals, built}
 use Rattle.steps.specs.declared.Step.{Step}
-use Rattle.steps.proofs.Stages.{stage, Hand, none, one, two, made, Stage, aboveStage, afterStage, HasEnd, Holds}
-use Rattle.steps.proofs.Progress.{Covered, Owed, Refreshing, Starting, Passing, AfterAdvance, EndOk, HandOk, Building, Carried}
+use Rattle.steps.proofs.Stages.{stage, Tally, uncounted, countedBoth, Hand, none, one, two, made, Stage, aboveStage, afterStage, HasEnd, Holds, ends-stay}
+use Rattle.steps.proofs.Progress.{Covered, Owed, Refreshing, Starting, Passing, AfterAdvance, EndOk, Tallied, HandOk, Building, Carried}
 use Rattle.steps.proofs.Others.{Effect, Registers, owed-stable, make-building}
 use Rattle.steps.proofs.Builds.{built-follows, built-joins, same-ends}
 use Rattle.steps.proofs.Effects.{made-ends}
@@ -156,29 +157,37 @@ module _ (s : Shape) (m : Memory) (sound : Sound s m) (hold hold' : ℕ → Stag
           on onLeft de e q = read-mine onLeft de e (sym f ∙ q)
           on onRight de e q = absurd q
 
-    pub read-right : (w : Visit) (l r : ℕ) → r ≡ headOf m (rightOf (w .node)) - 1 → Building s m hold k b w (one l) → Building s m hold' k b w (two l r)
+    pub read-right : (w : Visit) (l r : ℕ) → r ≡ headOf m (rightOf (w .node)) - 1 → Building s m hold k b w (one l) → Building s m hold' k b w (two l r uncounted)
     read-right w l r f p =
-        keep w (two l r) (p .refreshing) (p .hand, subst (EndOk s m w onRight) (sym f) (read-end w (p .refreshing) onRight)) (on (sideAt s k (p .refreshing .level)) refl)
+        keep w (two l r uncounted) (p .refreshing) (p .hand, subst (EndOk s m w onRight) (sym f) (read-end w (p .refreshing) onRight), tt) (on (sideAt s k (p .refreshing .level)) refl)
       where
-        on : (d : Side) → sideAt s k (p .refreshing .level) ≡ d → (e : ℕ) → HasEnd d (two l r) e → b ≤ reach s m k (p .refreshing .level) e
+        on : (d : Side) → sideAt s k (p .refreshing .level) ≡ d → (e : ℕ) → HasEnd d (two l r uncounted) e → b ≤ reach s m k (p .refreshing .level) e
         on onLeft de e q = p .mine e (rw de q)
         on onRight de e q = read-mine w (p .refreshing) onRight de e (sym f ∙ q)
 
-    -- C3
-    module _ (w : Visit) (l r : ℕ) (p : Building s m hold k b w (two l r)) where
+    -- C3L, C3R
+    pub counted : (w : Visit) (l r : ℕ) (x y : Tally) → (Tallied s m w l r x → Tallied s m w l r y) → Building s m hold k b w (two l r x) → Building s m hold' k b w (two l r y)
+    counted w l r x y f p =
+        keep w (two l r y) (p .refreshing) (p .hand .0, p .hand .1, f (p .hand .2)) (λ e q. p .mine e (ends-stay l r y x (sideAt s k (p .refreshing .level)) e q))
+
+    -- C3N
+    module _ (w : Visit) (l r puts takes : ℕ) (p : Building s m hold k b w (two l r (countedBoth puts takes))) where
+      abbrev old : Block
+      old = block s m (w .node) (w .head - 1)
+
       abbrev re : Refreshing s m hold k b w
       re = p .refreshing
 
-      pub made-block : sameTotals (built s m w l r) (block s m (w .node) (w .head - 1)) ≡ false → Building s m hold' k b w (made (built s m w l r))
+      pub made-block : sameTotals puts takes old ≡ false → Building s m hold' k b w (made (built (w .node) old l r puts takes))
       made-block e =
-          keep w (made (built s m w l r)) re (
-            built-follows s m sound w (inner-of w re) (re .first) (re .last) l r (p .hand .0) (p .hand .1) e,
-            built-joins s m sound w (inner-of w re) (re .first) (re .last) l r (p .hand .0) (p .hand .1),
+          keep w (made (built (w .node) old l r puts takes)) re (
+            built-follows s m sound w (inner-of w re) (re .first) (re .last) l r (p .hand .0) (p .hand .1) puts takes (p .hand .2) e,
+            built-joins s m sound w (inner-of w re) (re .first) (re .last) l r (p .hand .0) (p .hand .1) puts takes (p .hand .2),
           )
-          (λ x q. p .mine x (made-ends s m w l r (sideAt s k (re .level)) x q))
+          (λ x q. p .mine x (made-ends (w .node) old l r puts takes (countedBoth puts takes) (sideAt s k (re .level)) x q))
 
       -- equal totals: the block before has these ends, so it reaches the operation
-      pub nothing-new : sameTotals (built s m w l r) (block s m (w .node) (w .head - 1)) ≡ true → Carried s m hold' k b (aboveStage (w .node))
+      pub nothing-new : sameTotals puts takes old ≡ true → Carried s m hold' k b (aboveStage (w .node))
       nothing-new e =
           go-up s m sound hold' k kp b w (w .node) (w .head - 1)
           (record {
@@ -190,9 +199,9 @@ module _ (s : Shape) (m : Memory) (sound : Sound s m) (hold hold' : ℕ → Stag
           })
           (omega (arith, re .first, re .last))
         where
-          ends : (block s m (w .node) (w .head - 1) .left ≡ l) × (block s m (w .node) (w .head - 1) .right ≡ r)
-          ends = same-ends s m sound w (inner-of w re) (re .first) (re .last) l r (p .hand .0) (p .hand .1) e
+          ends : (old .left ≡ l) × (old .right ≡ r)
+          ends = same-ends s m sound w (inner-of w re) (re .first) (re .last) l r (p .hand .0) (p .hand .1) puts takes (p .hand .2) e
 
           on : (d : Side) → sideAt s k (re .level) ≡ d → b ≤ reach s m k (re .level) (endOf d (block s m (ancestor s k (suc (re .level))) (w .head - 1)))
-          on onLeft de = rw (← re .node) (p .mine (block s m (w .node) (w .head - 1) .left) (rw de (sym (ends .0))))
-          on onRight de = rw (← re .node) (p .mine (block s m (w .node) (w .head - 1) .right) (rw de (sym (ends .1))))
+          on onLeft de = rw (← re .node) (p .mine (old .left) (rw de (sym (ends .0))))
+          on onRight de = rw (← re .node) (p .mine (old .right) (rw de (sym (ends .1))))

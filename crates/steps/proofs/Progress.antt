@@ -4,7 +4,7 @@ use Prim.Native.Nat.{ℕ, suc, _+_, _-_, _≤_, _<_}
 use mathlib.Core.Path.{_≡_}
 use mathlib.Core.Logic.{_⊎_}
 use mathlib.Core.Bool.{Bool, true, false}
-use Rattle.tree.specs.Shape.{Shape, processes, root, leafOf}
+use Rattle.tree.specs.Shape.{Shape, processes, root, leafOf, leftOf, rightOf}
 use Rattle.tree.specs.Memory.{Memory, headOf, block}
 use Rattle.tree.specs.Sides.{Side, onLeft, onRight, childOf, endOf}
 use Rattle.tree.specs.Contracts.Invariant.{Node, count, Present, Follows, Joins}
@@ -14,7 +14,7 @@ use Rattle.steps.specs.declared.Visit.{Visit}
 use Rattle.steps.specs.declared.After.{After}
 use Rattle.steps.specs.declared.After.the-variants.{Right, Ends, Again, Up}
 use Rattle.steps.specs.Rules.{blockOf}
-use Rattle.steps.proofs.Stages.{Hand, none, one, two, made, Stage, resting, adding, advancing, starting, building, answering, HasEnd, Holds}
+use Rattle.steps.proofs.Stages.{Tally, uncounted, countedLeft, countedBoth, Hand, none, one, two, made, Stage, resting, adding, advancing, starting, building, answering, HasEnd, Holds}
 
 -- ---- the own leaf
 
@@ -117,10 +117,19 @@ pub record EndOk (s : Shape) (m : Memory) (w : Visit) (d : Side) (e : ℕ) : Typ
   pub rises : endOf d (block s m (w .node) (w .head - 1)) ≤ e
   pub below : e < headOf m (childOf d (w .node))
 
+-- the totals in hand are those of the blocks at the ends l and r
+abbrev pub Tallied : Shape → Memory → Visit → ℕ → ℕ → Tally → Type 0
+Tallied s m w l r uncounted = Unit {0}
+Tallied s m w l r (countedLeft puts takes) = let x = block s m (leftOf (w .node)) l in (puts ≡ x .puts) × (takes ≡ x .takes)
+Tallied s m w l r (countedBoth puts takes) =
+    let x = block s m (leftOf (w .node)) l in
+    let y = block s m (rightOf (w .node)) r in
+    (puts ≡ x .puts + y .puts) × (takes ≡ x .takes + y .takes)
+
 abbrev pub HandOk : Shape → Memory → Visit → Hand → Type 0
 HandOk s m w none = Unit {0}
 HandOk s m w (one l) = EndOk s m w onLeft l
-HandOk s m w (two l r) = EndOk s m w onLeft l × EndOk s m w onRight r
+HandOk s m w (two l r x) = EndOk s m w onLeft l × EndOk s m w onRight r × Tallied s m w l r x
 HandOk s m w (made n) = Follows (block s m (w .node) (w .head - 1)) (blockOf n) × Joins s m (w .node) (block s m (w .node) (w .head - 1)) (blockOf n)
 
 pub record Building (s : Shape) (m : Memory) (hold : ℕ → Stage) (k b : ℕ) (w : Visit) (x : Hand) : Type 0 where

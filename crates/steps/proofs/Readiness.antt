@@ -23,17 +23,18 @@ use Rattle.steps.specs.declared.Operation.{Operation}
 use Rattle.steps.specs.declared.Visit.{Visit}
 use Rattle.steps.specs.declared.Built.{Built}
 use Rattle.steps.specs.declared.Step.{Step}
-use Rattle.steps.specs.declared.Step.the-variants.{A, V1, V2, V3, R1, R2, R3, R4, R5, C1, C2, C3, C4, Q}
+use Rattle.steps.specs.declared.Step.the-variants.{A, V1, V2, V3, R1, R2, R3, R4, R5, C1, C2, C3L, C3R, C3N, C4, Q}
 use Rattle.steps.specs.declared.Status.{Status}
 use Rattle.steps.specs.declared.Status.the-variants.{Busy}
-use Rattle.steps.specs.Rules.{blockOf}
+use Rattle.steps.specs.Rules.{built, blockOf}
 use Rattle.steps.specs.Machine.{Machine, processOf, isQ}
-use Rattle.steps.specs.Contracts.Ready.{Children, Adds, Builds, Ready}
+use Rattle.steps.specs.Contracts.Ready.{Children, Adds, Sums, Decides, Ready}
+use Rattle.tree.specs.Contracts.Access.{HasPlace}
 use Rattle.tree.specs.Contracts.SoundTree.{SoundTree}
 use Rattle.tree.proofs.Places.{processes-most, places-most, node-headed, node-part, node-place, node-reads, node-small, below-within, present-within}
-use Rattle.steps.proofs.Stages.{Stage, stage, stageOf, made}
-use Rattle.steps.proofs.Progress.{LeafOpen, EndOk, HandOk, OwnLeaf, Carried}
-use Rattle.steps.proofs.Builds.{new-sums, totals-grow}
+use Rattle.steps.proofs.Stages.{countedLeft, countedBoth, Stage, stage, stageOf, made}
+use Rattle.steps.proofs.Progress.{LeafOpen, EndOk, Tallied, HandOk, OwnLeaf, Carried}
+use Rattle.steps.proofs.Builds.{totals-grow}
 use Rattle.steps.proofs.Costs.{StepNodes}
 use Rattle.steps.proofs.Invariant.{Invariant, holding, step-nodes}
 
@@ -69,35 +70,47 @@ module _ (s : Shape) (m : Memory) (starts : List ℕ) (q : SoundTree s starts (m
         takes = omega arith;
       }
 
-  module _ (w : Visit) (iv : Inner s (w .node)) (first : 1 ≤ w .head) (last : w .head ≤ headOf m (w .node)) where
-    abbrev node : Node s (w .node)
-    node = inner-node s (w .node) iv
-
+  module _ (w : Visit) (iv : Inner s (w .node)) where
     abbrev left : Node s (2 * w .node)
     left = omega (arith, iv .first, iv .last)
 
     abbrev right : Node s (2 * w .node + 1)
     right = omega (arith, iv .first, iv .last)
 
-    builds : (l r : ℕ) → EndOk s m w onLeft l → EndOk s m w onRight r → Builds starts (m .table) w l r
-    unfolding leftOf rightOf total blockOf
-    builds l r lo ro =
-        let x = node-small q (2 * w .node) l left in
+    left-place : (l : ℕ) → EndOk s m w onLeft l → HasPlace starts (m .table) (2 * w .node) l
+    unfolding leftOf
+    left-place l lo = node-place q (2 * w .node) l left (below-within q (2 * w .node) l left (lo .below))
+
+    sums : (l r : ℕ) → EndOk s m w onRight r → (puts takes : ℕ) → Tallied s m w l r (countedLeft puts takes) → Sums starts (m .table) w r puts takes
+    unfolding leftOf rightOf
+    sums l r ro puts takes told =
+        let x = rw (node-reads q (2 * w .node) l left) at (node-small q (2 * w .node) l left) in
         let y = node-small q (2 * w .node + 1) r right in
-        let z = node-small q (w .node) (w .head - 1) node in
-        let rise = totals-grow s m sound w iv first last l r lo ro in
-        let sums = new-sums s m sound w iv first last l r lo ro in
+        record {
+          place = node-place q (2 * w .node + 1) r right (below-within q (2 * w .node + 1) r right (ro .below));
+          putsLow = omega (arith, told .0);
+          takesLow = omega (arith, told .1);
+        }
+
+  module _ (w : Visit) (iv : Inner s (w .node)) (first : 1 ≤ w .head) (last : w .head ≤ headOf m (w .node)) where
+    abbrev node : Node s (w .node)
+    node = inner-node s (w .node) iv
+
+    decides : (l r : ℕ) → EndOk s m w onLeft l → EndOk s m w onRight r → (puts takes : ℕ) → Tallied s m w l r (countedBoth puts takes)
+        → Decides starts (m .table) w puts takes
+    unfolding leftOf rightOf total built blockOf
+    decides l r lo ro puts takes told =
+        let x = rw (node-reads q (2 * w .node) l (left w iv)) at (node-small q (2 * w .node) l (left w iv)) in
+        let y = rw (node-reads q (2 * w .node + 1) r (right w iv)) at (node-small q (2 * w .node + 1) r (right w iv)) in
+        let rise = totals-grow s m sound w iv first last l r lo ro puts takes told in
         let sized = size-most s m sound (w .node) iv (w .head - 1) (below-head (sound .node (w .node) node) (w .head - 1) (omega arith)) in
         record {
           head = first;
-          before = node-place q (w .node) (w .head - 1) node (below-within q (w .node) (w .head - 1) node (omega arith));
-          left = node-place q (2 * w .node) l left (below-within q (2 * w .node) l left (lo .below));
-          right = node-place q (2 * w .node + 1) r right (below-within q (2 * w .node + 1) r right (ro .below));
-          puts = omega arith;
-          takes = omega arith;
-          size = rw (node-reads q (w .node) (w .head - 1) node) (omega (arith, sized, sound .node (w .node) node .within (w .head - 1), places-most s (q .tall) (q .few) (w .node)));
-          putsRise = rw (node-reads q (w .node) (w .head - 1) node, node-reads q (2 * w .node) l left, node-reads q (2 * w .node + 1) r right) (omega (arith, rise Puts, sums Puts));
-          takesRise = rw (node-reads q (w .node) (w .head - 1) node, node-reads q (2 * w .node) l left, node-reads q (2 * w .node + 1) r right) (omega (arith, rise Takes, sums Takes));
+          place = node-place q (w .node) (w .head - 1) node (below-within q (w .node) (w .head - 1) node (omega arith));
+          putsLow = omega (arith, told .0);
+          putsRise = rw (node-reads q (w .node) (w .head - 1) node) (rise Puts);
+          takesRise = rw (node-reads q (w .node) (w .head - 1) node) (rise Takes);
+          sizeLow = λ _. rw (node-reads q (w .node) (w .head - 1) node) (omega (arith, sized, rise Puts, told .0));
         }
 
     made-place : (n : Built) → HandOk s m w (made n) → w .head ≤ lastPlace s (w .node)
@@ -129,8 +142,10 @@ module _ (s : Shape) (m : Memory) (starts : List ℕ) (q : SoundTree s starts (m
     next (R5 w c) more own carried nodes = (children w nodes, node-part q (2 * w .node + 1) (omega arith))
     next (C1 w) more own carried nodes = (children w nodes, sound .node (2 * w .node) (omega arith) .head)
     next (C2 w l) more own carried nodes = (children w nodes, sound .node (2 * w .node + 1) (omega arith) .head)
-    next (C3 w l r) more own carried nodes =
-        (children w nodes, builds w nodes (carried .refreshing .first) (carried .refreshing .last) l r (carried .hand .0) (carried .hand .1))
+    next (C3L w l r) more own carried nodes = (children w nodes, left-place w nodes l (carried .hand .0))
+    next (C3R w l r puts takes) more own carried nodes = (children w nodes, sums w nodes l r (carried .hand .1) puts takes (carried .hand .2))
+    next (C3N w l r puts takes) more own carried nodes =
+        (children w nodes, decides w nodes (carried .refreshing .first) (carried .refreshing .last) l r (carried .hand .0) (carried .hand .1) puts takes (carried .hand .2))
     next (C4 w n) more own carried nodes =
         let node = inner-node s (w .node) nodes in (
           node-headed q (w .node) node,

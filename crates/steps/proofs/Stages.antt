@@ -12,16 +12,22 @@ use Rattle.steps.specs.declared.After.{After}
 use Rattle.steps.specs.declared.After.the-variants.{Right, Ends, Again, Up}
 use Rattle.steps.specs.declared.Built.{Built}
 use Rattle.steps.specs.declared.Step.{Step}
-use Rattle.steps.specs.declared.Step.the-variants.{A, V1, V2, V3, R1, R2, R3, R4, R5, C1, C2, C3, C4, Q}
+use Rattle.steps.specs.declared.Step.the-variants.{A, V1, V2, V3, R1, R2, R3, R4, R5, C1, C2, C3L, C3R, C3N, C4, Q}
 use Rattle.steps.specs.declared.Status.{Status}
 use Rattle.steps.specs.declared.Status.the-variants.{Idle, Busy}
 use Rattle.steps.specs.Rules.{above, resume, advance}
 
--- the ends in hand: none, the left one, both, or the block made of them
+-- the totals in hand, once both ends are: none, those of the left child's block, or the sums of both children's
+pub data Tally : Type 0 where
+  uncounted : Tally
+  countedLeft : ℕ → ℕ → Tally
+  countedBoth : ℕ → ℕ → Tally
+
+-- the ends in hand: none, the left one, both with totals, or the block made of them
 pub data Hand : Type 0 where
   none : Hand
   one : ℕ → Hand
-  two : ℕ → ℕ → Hand
+  two : ℕ → ℕ → Tally → Hand
   made : Built → Hand
 
 pub data Stage : Type 0 where
@@ -44,7 +50,9 @@ stage (R4 w) = building w none
 stage (R5 w c) = building w none
 stage (C1 w) = building w none
 stage (C2 w l) = building w (one l)
-stage (C3 w l r) = building w (two l r)
+stage (C3L w l r) = building w (two l r uncounted)
+stage (C3R w l r puts takes) = building w (two l r (countedLeft puts takes))
+stage (C3N w l r puts takes) = building w (two l r (countedBoth puts takes))
 stage (C4 w n) = building w (made n)
 stage Q = answering
 
@@ -68,10 +76,15 @@ abbrev pub HasEnd : Side → Hand → ℕ → Type 0
 HasEnd d none e = ⊥
 HasEnd onLeft (one l) e = l ≡ e
 HasEnd onRight (one l) e = ⊥
-HasEnd onLeft (two l r) e = l ≡ e
-HasEnd onRight (two l r) e = r ≡ e
+HasEnd onLeft (two l r x) e = l ≡ e
+HasEnd onRight (two l r x) e = r ≡ e
 HasEnd onLeft (made n) e = n .left ≡ e
 HasEnd onRight (made n) e = n .right ≡ e
+
+-- whatever is counted, the ends are the same
+pub ends-stay : (l r : ℕ) (x y : Tally) (d : Side) (e : ℕ) → HasEnd d (two l r x) e → HasEnd d (two l r y) e
+ends-stay l r x y onLeft e p = p
+ends-stay l r x y onRight e p = p
 
 -- a process in that stage refreshes node u with head h, and has end e in hand on a side
 abbrev pub Holds : Side → Stage → ℕ → ℕ → ℕ → Type 0

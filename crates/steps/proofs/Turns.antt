@@ -1,6 +1,7 @@
--- Every step is one of thirteen turns: what it does to the memory and to the stage. This is where the named steps are
+-- Every step is one of fourteen turns: what it does to the memory and to the stage. This is where the named steps are
 -- read off the rules; the laws above go by turns. Used by proofs; no exported promise names it.
-use Prim.Native.Nat.{ℕ, _-_}
+use Prim.Native.Nat.{ℕ, _+_, _-_}
+use native.Mathlib.Omega.{arith}
 use mathlib.Core.Path.{_≡_, refl}
 use mathlib.Core.Bool.{Bool, true, false}
 use Rattle.base.proofs.Cases.{cases}
@@ -14,9 +15,11 @@ use Rattle.steps.specs.declared.After.{After}
 use Rattle.steps.specs.declared.After.the-variants.{Right, Ends, Up}
 use Rattle.steps.specs.declared.Built.{Built}
 use Rattle.steps.specs.declared.Step.{Step}
-use Rattle.steps.specs.declared.Step.the-variants.{A, V1, V2, V3, R1, R2, R3, R4, R5, C1, C2, C3, C4, Q}
-use Rattle.steps.specs.Rules.{resume, afterRefresh, help, plusOperation, built, sameTotals, blockOf, go, step}
-use Rattle.steps.proofs.Stages.{none, one, two, made, Stage, resting, adding, advancing, starting, building, answering, stage, stageOf, aboveStage, afterStage, stage-advance}
+use Rattle.steps.specs.declared.Step.the-variants.{A, V1, V2, V3, R1, R2, R3, R4, R5, C1, C2, C3L, C3R, C3N, C4, Q}
+use Rattle.steps.specs.Rules.{resume, afterRefresh, help, plusOperation, sameTotals, built, blockOf, go, step}
+use Rattle.steps.proofs.Stages.{Tally, uncounted, countedLeft, countedBoth, none, one, two, made}
+use Rattle.steps.proofs.Stages.{Stage, resting, adding, advancing, starting, building, answering, stage, stageOf, aboveStage, afterStage, stage-advance}
+use Rattle.steps.proofs.Progress.{Tallied}
 
 -- what follows a help on a side
 abbrev pub afterHelp : Side → After
@@ -42,12 +45,15 @@ pub data Turn (s : Shape) (k : ℕ) (o : Operation) (m : Memory) : Stage → Mem
       → Turn s k o m (building w none) m (advancing w (afterHelp d) (childOf d (w .node)) c)
   -- C1, C2: the end is the place before the child's head
   endsLeft : (w : Visit) (l : ℕ) → l ≡ headOf m (leftOf (w .node)) - 1 → Turn s k o m (building w none) m (building w (one l))
-  endsRight : (w : Visit) (l r : ℕ) → r ≡ headOf m (rightOf (w .node)) - 1 → Turn s k o m (building w (one l)) m (building w (two l r))
-  -- C3: other totals, or equal ones
-  makes : (w : Visit) (l r : ℕ) → sameTotals (built s m w l r) (block s m (w .node) (w .head - 1)) ≡ false
-      → Turn s k o m (building w (two l r)) m (building w (made (built s m w l r)))
-  finds : (w : Visit) (l r : ℕ) → sameTotals (built s m w l r) (block s m (w .node) (w .head - 1)) ≡ true
-      → Turn s k o m (building w (two l r)) m (aboveStage (w .node))
+  endsRight : (w : Visit) (l r : ℕ) → r ≡ headOf m (rightOf (w .node)) - 1 → Turn s k o m (building w (one l)) m (building w (two l r uncounted))
+  -- C3L, C3R: what is counted was right, and so is what then is
+  counts : (w : Visit) (l r : ℕ) (x y : Tally) → (Tallied s m w l r x → Tallied s m w l r y)
+      → Turn s k o m (building w (two l r x)) m (building w (two l r y))
+  -- C3N: other totals than those of the block before, or equal ones
+  makes : (w : Visit) (l r puts takes : ℕ) → sameTotals puts takes (block s m (w .node) (w .head - 1)) ≡ false
+      → Turn s k o m (building w (two l r (countedBoth puts takes))) m (building w (made (built (w .node) (block s m (w .node) (w .head - 1)) l r puts takes)))
+  finds : (w : Visit) (l r puts takes : ℕ) → sameTotals puts takes (block s m (w .node) (w .head - 1)) ≡ true
+      → Turn s k o m (building w (two l r (countedBoth puts takes))) m (aboveStage (w .node))
   -- C4: the place is absent, or taken
   writes : (w : Visit) (n : Built) → absent (block s m (w .node) (w .head)) ≡ true
       → Turn s k o m (building w (made n)) (write s m (w .node) (w .head) (blockOf n)) (advancing w (afterRefresh (w .second) true) (w .node) (w .head))
@@ -84,9 +90,14 @@ module _ (s : Shape) (k : ℕ) (o : Operation) (m : Memory) where
   turn (R5 w c) = help-turn w onRight c refl
   turn (C1 w) = endsLeft w _ refl
   turn (C2 w l) = endsRight w l _ refl
-  turn (C3 w l r) =
-      cases (λ (n : Step). Turn s k o m (building w (two l r)) m (stage n)) (sameTotals (built s m w l r) (block s m (w .node) (w .head - 1)))
-      (λ e. finds w l r e) (λ e. makes w l r e)
+  turn (C3L w l r) =
+      let x = block s m (leftOf (w .node)) l in counts w l r uncounted (countedLeft (x .puts) (x .takes)) (λ p. (refl, refl))
+  turn (C3R w l r puts takes) =
+      let y = block s m (rightOf (w .node)) r in
+      counts w l r (countedLeft puts takes) (countedBoth (puts + y .puts) (takes + y .takes)) (λ p. (omega (arith, p .0), omega (arith, p .1)))
+  turn (C3N w l r puts takes) =
+      cases (λ (n : Step). Turn s k o m (building w (two l r (countedBoth puts takes))) m (stage n)) (sameTotals puts takes (block s m (w .node) (w .head - 1)))
+      (λ e. finds w l r puts takes e) (λ e. makes w l r puts takes e)
   turn (C4 w n) =
       rw (stage-advance w (afterRefresh (w .second) (absent (block s m (w .node) (w .head)))) (w .node) (w .head))
       (write-turn w n (absent (block s m (w .node) (w .head))) refl)

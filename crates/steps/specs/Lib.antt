@@ -1,7 +1,7 @@
 pub mod Process
 pub mod Rules
 pub mod Machine
-pub mod Alike
+pub mod OwnWords
 pub mod All
 pub mod KnownPositions
 pub mod Contracts

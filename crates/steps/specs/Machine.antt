@@ -7,7 +7,7 @@ use Rattle.tree.specs.Shape.{Shape, processes}
 use Rattle.tree.specs.Layout.{wordsNeeded}
 use Rattle.steps.specs.declared.Operation.{Operation}
 use Rattle.steps.specs.declared.Step.{Step}
-use Rattle.steps.specs.declared.Step.the-variants.{A, V1, V2, V3, R1, R2, R3, R4, R5, C1, C2, C3, C4, Q}
+use Rattle.steps.specs.declared.Step.the-variants.{A, V1, V2, V3, R1, R2, R3, R4, R5, C1, C2, C3L, C3R, C3N, C4, Q}
 use Rattle.steps.specs.declared.Status.{Status}
 use Rattle.steps.specs.declared.Status.the-variants.{Idle, Busy}
 use Rattle.steps.specs.declared.Process.{Process}
@@ -51,7 +51,9 @@ isQ (R4 w) = false
 isQ (R5 w c) = false
 isQ (C1 w) = false
 isQ (C2 w l) = false
-isQ (C3 w l r) = false
+isQ (C3L w l r) = false
+isQ (C3R w l r puts takes) = false
+isQ (C3N w l r puts takes) = false
 isQ (C4 w n) = false
 isQ Q = true
 

@@ -13,7 +13,7 @@ use Rattle.steps.specs.declared.After.{After}
 use Rattle.steps.specs.declared.After.the-variants.{Right, Ends, Again, Up}
 use Rattle.steps.specs.declared.Built.{Built}
 use Rattle.steps.specs.declared.Step.{Step}
-use Rattle.steps.specs.declared.Step.the-variants.{A, V1, V2, V3, R1, R2, R3, R4, R5, C1, C2, C3, C4, Q}
+use Rattle.steps.specs.declared.Step.the-variants.{A, V1, V2, V3, R1, R2, R3, R4, R5, C1, C2, C3L, C3R, C3N, C4, Q}
 use Rattle.steps.specs.declared.Status.{Status}
 use Rattle.steps.specs.declared.Status.the-variants.{Idle, Busy}
 use Rattle.tree.specs.Memory.{Memory, headOf, block, write, writeIfAbsent, setSuper, raise}
@@ -52,24 +52,14 @@ unfoldable pub plusOperation : Operation → Block → Block
 plusOperation (Put x) b = record { puts = b .puts + 1; takes = b .takes; superblock = 0; left = x; right = 0; size = 0 }
 plusOperation Take b = record { puts = b .puts; takes = b .takes + 1; superblock = 0; left = 0; right = 0; size = 0 }
 
--- C3: totals = sums of the children's blocks x and y at the ends l and r; v's block before is old
-unfoldable pub joined : ℕ → Block → Block → Block → ℕ → ℕ → Built
-joined v old x y l r =
-    record {
-      puts = x .puts + y .puts;
-      takes = x .takes + y .takes;
-      left = l;
-      right = r;
-      size = if eqb v root then rootSize old (x .puts + y .puts) (x .takes + y .takes) else 0;
-    }
+-- C3N: whether the totals, sums of the two children's blocks, equal those of v's block before, which is old
+unfoldable pub sameTotals : ℕ → ℕ → Block → Bool
+sameTotals puts takes old = eqb puts (old .puts) && eqb takes (old .takes)
 
-unfoldable pub built : Shape → Memory → Visit → ℕ → ℕ → Built
-built s m w l r =
-    joined (w .node) (block s m (w .node) (w .head - 1)) (block s m (leftOf (w .node)) l) (block s m (rightOf (w .node)) r) l r
-
--- whether they equal those of v's block before
-unfoldable pub sameTotals : Built → Block → Bool
-sameTotals n old = eqb (n .puts) (old .puts) && eqb (n .takes) (old .takes)
+-- C3N: what C4 writes, with the ends l and r and these totals; only a root block has a size
+unfoldable pub built : ℕ → Block → ℕ → ℕ → ℕ → ℕ → Built
+built v old l r puts takes =
+    record { left = l; right = r; puts = puts; takes = takes; size = if eqb v root then rootSize old puts takes else 0 }
 
 -- C4: the block, with super 0
 unfoldable pub blockOf : Built → Block
@@ -103,10 +93,14 @@ module _ (s : Shape) (k : ℕ) (o : Operation) (m : Memory) where
   step (R4 w) = go m (R5 w (headOf m (rightOf (w .node))))
   step (R5 w c) = go m (help s m w Ends (rightOf (w .node)) c)
   step (C1 w) = go m (C2 w (headOf m (leftOf (w .node)) - 1))
-  step (C2 w l) = go m (C3 w l (headOf m (rightOf (w .node)) - 1))
-  step (C3 w l r) =
-      let n = built s m w l r in
-      go m (if sameTotals n (block s m (w .node) (w .head - 1)) then above (w .node) else C4 w n)
+  step (C2 w l) = go m (C3L w l (headOf m (rightOf (w .node)) - 1))
+  step (C3L w l r) = let x = block s m (leftOf (w .node)) l in go m (C3R w l r (x .puts) (x .takes))
+  step (C3R w l r puts takes) =
+      let y = block s m (rightOf (w .node)) r in go m (C3N w l r (puts + y .puts) (takes + y .takes))
+  step (C3N w l r puts takes) =
+      let v = w .node in
+      let old = block s m v (w .head - 1) in
+      go m (if sameTotals puts takes old then above v else C4 w (built v old l r puts takes))
   step (C4 w n) =
       let v = w .node in
       let h = w .head in

@@ -28,18 +28,21 @@ pub enum After {
     Up,
 }
 
-// What C3 makes for C4 to write: the block's totals, ends and size. Its super is 0.
+// What C3N makes for C4 to write: the block's ends, totals and size. Its super is 0. What C3N has in registers stays
+// where it is.
 pub struct Built {
-    pub puts: u32,
-    pub takes: u32,
     pub left: u32,
     pub right: u32,
+    pub puts: u32,
+    pub takes: u32,
     pub size: u32,
 }
 
 // The named steps, each with its own registers. An advance (node, place) keeps the visit that it is part of; `above` is
-// the head of the parent. `child` is the head of a child, `left` and `right` are the ends. A field of one byte stands
-// first, beside the tag, so that no step reads a word where another step wrote a byte, which is slow.
+// the head of the parent. `child` is the head of a child, `left` and `right` are the ends; `puts` and `takes` are the
+// totals of the left child's block, then the sums of both children's. A field of one byte stands first, beside the tag,
+// so that no step reads a word where another step wrote a byte, which is slow; a register stays where it is from step
+// to step, so that a step writes only what it adds.
 pub enum Step {
     A,
     V1 {
@@ -86,10 +89,24 @@ pub enum Step {
         visit: Visit,
         left: u32,
     },
-    C3 {
+    C3L {
         visit: Visit,
         left: u32,
         right: u32,
+    },
+    C3R {
+        visit: Visit,
+        left: u32,
+        right: u32,
+        puts: u32,
+        takes: u32,
+    },
+    C3N {
+        visit: Visit,
+        left: u32,
+        right: u32,
+        puts: u32,
+        takes: u32,
     },
     C4 {
         visit: Visit,

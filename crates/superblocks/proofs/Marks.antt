@@ -14,7 +14,7 @@ use Rattle.steps.specs.declared.Visit.{Visit}
 use Rattle.steps.specs.declared.After.{After}
 use Rattle.steps.specs.declared.After.the-variants.{Right, Ends, Again, Up}
 use Rattle.steps.specs.declared.Step.{Step}
-use Rattle.steps.specs.declared.Step.the-variants.{A, V1, V2, V3, R1, R2, R3, R4, R5, C1, C2, C3, C4, Q}
+use Rattle.steps.specs.declared.Step.the-variants.{A, V1, V2, V3, R1, R2, R3, R4, R5, C1, C2, C3L, C3R, C3N, C4, Q}
 use Rattle.steps.specs.declared.Status.{Status}
 use Rattle.steps.specs.declared.Status.the-variants.{Idle, Busy}
 use Rattle.steps.specs.Machine.{Machine, processOf}
@@ -61,7 +61,9 @@ ownSight (R5 w c) onLeft = headPast
 ownSight (R5 w c) onRight = looking c
 ownSight (C1 w) d = headPast
 ownSight (C2 w l) d = headPast
-ownSight (C3 w l r) d = headPast
+ownSight (C3L w l r) d = headPast
+ownSight (C3R w l r puts takes) d = headPast
+ownSight (C3N w l r puts takes) d = headPast
 ownSight (C4 w n) d = headPast
 ownSight Q d = unseen
 
@@ -70,8 +72,8 @@ abbrev pub handSight : Hand → Side → Sight → Sight
 handSight none d x = x
 handSight (one l) onLeft x = endRead l
 handSight (one l) onRight x = x
-handSight (two l r) onLeft x = endRead l
-handSight (two l r) onRight x = endRead r
+handSight (two l r y) onLeft x = endRead l
+handSight (two l r y) onRight x = endRead r
 handSight (made n) onLeft x = endRead (n .left)
 handSight (made n) onRight x = endRead (n .right)
 

@@ -27,8 +27,8 @@ hand-seen : (m : Memory) (d : Side) (u i e : ℕ) (x : Hand) (y : Sight) → Has
 hand-seen m d u i e none y q p = absurd q
 hand-seen m onLeft u i e (one l) y q p = omega arith
 hand-seen m onRight u i e (one l) y q p = absurd q
-hand-seen m onLeft u i e (two l r) y q p = omega arith
-hand-seen m onRight u i e (two l r) y q p = omega arith
+hand-seen m onLeft u i e (two l r x) y q p = omega arith
+hand-seen m onRight u i e (two l r x) y q p = omega arith
 hand-seen m onLeft u i e (made n) y q p = omega arith
 hand-seen m onRight u i e (made n) y q p = omega arith
 

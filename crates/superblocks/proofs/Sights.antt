@@ -21,9 +21,9 @@ use Rattle.steps.specs.declared.Visit.{Visit}
 use Rattle.steps.specs.declared.After.{After}
 use Rattle.steps.specs.declared.After.the-variants.{Right, Ends, Again, Up}
 use Rattle.steps.specs.declared.Step.{Step}
-use Rattle.steps.specs.declared.Step.the-variants.{A, V1, V2, V3, R1, R2, R3, R4, R5, C1, C2, C3, C4, Q}
+use Rattle.steps.specs.declared.Step.the-variants.{A, V1, V2, V3, R1, R2, R3, R4, R5, C1, C2, C3L, C3R, C3N, C4, Q}
 use Rattle.steps.specs.declared.Status.the-variants.{Busy}
-use Rattle.steps.specs.Rules.{above, resume, advance, afterRefresh, help, built, joined, sameTotals, go, step}
+use Rattle.steps.specs.Rules.{above, resume, advance, afterRefresh, help, sameTotals, built, go, step}
 use Rattle.steps.proofs.Stages.{Stage, stage}
 use Rattle.steps.proofs.Progress.{Carried}
 use Rattle.superblocks.proofs.Marks.{looking, advances, helpSight, Covers, covers-rises, Seen}
@@ -95,7 +95,7 @@ module _ (s : Shape) (m : Memory) (sound : Sound s m) (o : Operation) (u i z : �
     -- every step
     pub seen-turn : (n : Step) (d : Side) → Present s m (childOf d u) i → i ≤ headOf m (childOf d u) → Carried s m hold k b (stage n) → Seen m d u i z (Busy o n)
         → Seen (step s k o m n .memory) d u i z (step s k o m n .next)
-    unfolding step go resume setSuper write headOf built joined
+    unfolding step go resume setSuper write headOf built
     seen-turn A d here low carried q = seen-advance d _ _ Up (leafOf s k) (headOf m (leafOf s k)) (λ e l. tt)
     seen-turn (V1 a w v h) d here low carried q = q
     seen-turn (V2 a w v h x) d here low carried q = λ e l. covers-rises m (setSuper s m v h x) d u i (le-refl _) (helpSight a d v h) (q e l)
@@ -115,10 +115,14 @@ module _ (s : Shape) (m : Memory) (sound : Sound s m) (o : Operation) (u i z : �
     seen-turn (C1 w) onRight here low carried q = q
     seen-turn (C2 w x) onLeft here low carried q = q
     seen-turn (C2 w x) onRight here low carried q = λ e l. end-read onRight (w .node) e (q e l)
-    seen-turn (C3 w x y) d here low carried q =
-        both (λ (n : Step). Seen m d u i z (Busy o n)) (sameTotals (built s m w x y) (block s m (w .node) (w .head - 1))) (seen-above d m (w .node)) (seen-built d q)
+    seen-turn (C3L w x y) onLeft here low carried q = q
+    seen-turn (C3L w x y) onRight here low carried q = q
+    seen-turn (C3R w x y puts takes) onLeft here low carried q = q
+    seen-turn (C3R w x y puts takes) onRight here low carried q = q
+    seen-turn (C3N w x y puts takes) d here low carried q =
+        both (λ (n : Step). Seen m d u i z (Busy o n)) (sameTotals puts takes (block s m (w .node) (w .head - 1))) (seen-above d m (w .node)) (seen-built d q)
       where
-        seen-built : (d : Side) → Seen m d u i z (Busy o (C3 w x y)) → Seen m d u i z (Busy o (C4 w (built s m w x y)))
+        seen-built : (d : Side) → Seen m d u i z (Busy o (C3N w x y puts takes)) → Seen m d u i z (Busy o (C4 w (built (w .node) (block s m (w .node) (w .head - 1)) x y puts takes)))
         seen-built onLeft q = q
         seen-built onRight q = q
     seen-turn (C4 w n) d here low carried q =

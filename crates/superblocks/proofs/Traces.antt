@@ -23,10 +23,10 @@ use Rattle.steps.specs.declared.Visit.{Visit}
 use Rattle.steps.specs.declared.After.{After}
 use Rattle.steps.specs.declared.After.the-variants.{Right, Ends, Again, Up}
 use Rattle.steps.specs.declared.Step.{Step}
-use Rattle.steps.specs.declared.Step.the-variants.{A, V1, V2, V3, R1, R2, R3, R4, R5, C1, C2, C3, C4, Q}
+use Rattle.steps.specs.declared.Step.the-variants.{A, V1, V2, V3, R1, R2, R3, R4, R5, C1, C2, C3L, C3R, C3N, C4, Q}
 use Rattle.steps.specs.declared.Status.{Status}
 use Rattle.steps.specs.declared.Status.the-variants.{Busy}
-use Rattle.steps.specs.Rules.{above, resume, advance, afterRefresh, help, plusOperation, built, sameTotals, blockOf, go, step}
+use Rattle.steps.specs.Rules.{above, resume, advance, afterRefresh, help, plusOperation, sameTotals, blockOf, go, step}
 use Rattle.steps.proofs.Stages.{Stage, stage}
 use Rattle.steps.proofs.Progress.{OwnLeaf, Carried}
 use Rattle.steps.proofs.Invariant.{step-nodes}
@@ -191,9 +191,10 @@ module _ (s : Shape) (m : Memory) (sized : Sized s m) (sound : Sound s m) (hold 
   traces (R5 w c) own carried some set = quiet s m _ o _ (help-quiet o s m w Ends (rightOf (w .node)) c)
   traces (C1 w) own carried some set = quiet s m _ o _ (λ v i z. elim [ ], λ v i l. elim [ ])
   traces (C2 w l) own carried some set = quiet s m _ o _ (λ v i z. elim [ ], λ v i l. elim [ ])
-  traces (C3 w l r) own carried some set =
-      quiet s m _ o _
-      (both (Quiet o) (sameTotals (built s m w l r) (block s m (w .node) (w .head - 1))) (above-quiet o (w .node)) (λ v i z. elim [ ], λ v i l. elim [ ]))
+  traces (C3L w l r) own carried some set = quiet s m _ o _ (λ v i z. elim [ ], λ v i l. elim [ ])
+  traces (C3R w l r puts takes) own carried some set = quiet s m _ o _ (λ v i z. elim [ ], λ v i l. elim [ ])
+  traces (C3N w l r puts takes) own carried some set =
+      quiet s m _ o _ (both (Quiet o) (sameTotals puts takes (block s m (w .node) (w .head - 1))) (above-quiet o (w .node)) (λ v i z. elim [ ], λ v i l. elim [ ]))
   traces (C4 w n) own carried some set =
       let inner = step-nodes s m hold k kp b (C4 w n) carried in
       quiet-after s m _ _ o _ (advance-quiet o w (afterRefresh (w .second) (absent (block s m (w .node) (w .head)))) (w .node) (w .head))

@@ -33,17 +33,17 @@ superRow l records d z q near = record { most = l; records = records; side = d; 
 pub superRows : List SuperRow
 superRows =
     -- a put alone: at super
-    superRow 1 (beginPut 5 0 ++ steps 15 0) onLeft 1 1 true
+    superRow 1 (beginPut 5 0 ++ steps 17 0) onLeft 1 1 true
     -- process 1 has read where its root block ends on the left when process 0 adds there and reads the root's head: one
     -- place later
-    ∷ superRow 1 (beginPut 7 1 ++ steps 10 1 ++ beginPut 5 0 ++ steps 2 0 ++ steps 5 1 ++ steps 13 0) onLeft 1 2 true
+    ∷ superRow 1 (beginPut 7 1 ++ steps 10 1 ++ beginPut 5 0 ++ steps 2 0 ++ steps 7 1 ++ steps 15 0) onLeft 1 2 true
     -- a block that comes after two root blocks
-    ∷ superRow 2 (beginPut 5 0 ++ steps 15 0 ++ beginPut 6 0 ++ steps 15 0 ++ beginPut 7 1 ++ steps 15 1) onRight 3 3 true
+    ∷ superRow 2 (beginPut 5 0 ++ steps 17 0 ++ beginPut 6 0 ++ steps 17 0 ++ beginPut 7 1 ++ steps 17 1) onRight 3 3 true
     -- process 0 helps block 1 of process 1, and comes to set its super after the superblock is there: a set super stays
-    ∷ superRow 1 (beginPut 7 1 ++ steps 1 1 ++ beginPut 5 0 ++ steps 9 0 ++ steps 14 1 ++ steps 2 0) onRight 1 1 true
+    ∷ superRow 1 (beginPut 7 1 ++ steps 1 1 ++ beginPut 5 0 ++ steps 9 0 ++ steps 16 1 ++ steps 2 0) onRight 1 1 true
     -- process 1 stops before it raises its head, and process 0 helps it on the right; and the same on the left
-    ∷ superRow 2 (beginPut 7 1 ++ steps 3 1 ++ beginPut 5 0 ++ steps 18 0 ++ beginPut 6 0 ++ steps 15 0) onRight 1 1 true
-    ∷ superRow 2 (beginPut 7 0 ++ steps 3 0 ++ beginPut 5 1 ++ steps 18 1 ++ beginPut 6 1 ++ steps 15 1) onLeft 1 1 true
+    ∷ superRow 2 (beginPut 7 1 ++ steps 3 1 ++ beginPut 5 0 ++ steps 20 0 ++ beginPut 6 0 ++ steps 17 0) onRight 1 1 true
+    ∷ superRow 2 (beginPut 7 0 ++ steps 3 0 ++ beginPut 5 1 ++ steps 20 1 ++ beginPut 6 1 ++ steps 17 1) onLeft 1 1 true
     ∷ []
 
 -- a row with what the definitions give in the place of what it says

@@ -17,9 +17,11 @@ const R4: u32 = 8;
 const R5: u32 = 9;
 const C1: u32 = 10;
 const C2: u32 = 11;
-const C3: u32 = 12;
-const C4: u32 = 13;
-const Q: u32 = 14;
+const C3L: u32 = 12;
+const C3R: u32 = 13;
+const C3N: u32 = 14;
+const C4: u32 = 15;
+const Q: u32 = 16;
 
 #[derive(Clone, Copy, Default)]
 #[repr(C, align(64))]
@@ -36,10 +38,9 @@ struct Process {
     place: u32,
     /// What V1, R2, R4 and C1 read.
     read: u32,
-    /// The block that C4 writes, with `read` as its left end.
+    /// The block that C4 writes, with `read` as its left end. Its totals are from C3L and C3R.
+    totals: u64,
     right: u32,
-    puts: u32,
-    takes: u32,
     size: u32,
     /// 1 for a put, 2 for a take.
     kind: u32,
@@ -56,6 +57,13 @@ struct Memory {
     first: *const u32,
 }
 
+/// Puts and takes as one number, which x86-64 reads at once: puts in the low half. Totals are too
+/// small for a sum to carry into the other half.
+#[inline(always)]
+unsafe fn totals_of(block: *const u32) -> u64 {
+    block.cast::<u64>().read_unaligned()
+}
+
 impl Memory {
     #[inline(always)]
     unsafe fn head(self, node: u32) -> *mut u32 {
@@ -67,6 +75,11 @@ impl Memory {
         let first = *self.first.add(node as usize);
         self.table
             .add(first as usize + BLOCK_WORDS * place as usize)
+    }
+
+    #[inline(always)]
+    unsafe fn totals(self, node: u32, place: u32) -> u64 {
+        totals_of(self.block(node, place))
     }
 
     #[inline(always)]
@@ -217,7 +230,7 @@ impl Process {
         let end = memory
             .table
             .add(*memory.first.add(child as usize + 1) as usize);
-        if block < end && (*block | *block.add(TAKES)) != 0 {
+        if block < end && totals_of(block) != 0 {
             self.advance(child, self.read, after);
         } else {
             self.next = after;
@@ -280,21 +293,26 @@ impl Process {
             }
             C2 => {
                 self.right = *memory.head(2 * self.node + 1) - 1;
-                self.next = C3;
+                self.next = C3L;
             }
-            C3 => {
-                let left = memory.block(2 * self.node, self.read);
-                let right = memory.block(2 * self.node + 1, self.right);
+            C3L => {
+                self.totals = memory.totals(2 * self.node, self.read);
+                self.next = C3R;
+            }
+            C3R => {
+                self.totals += memory.totals(2 * self.node + 1, self.right);
+                self.next = C3N;
+            }
+            C3N => {
                 let old = memory.block(self.node, self.head - 1);
-                self.puts = *left + *right;
-                self.takes = *left.add(TAKES) + *right.add(TAKES);
-                if self.puts == *old && self.takes == *old.add(TAKES) {
+                let new = self.totals - totals_of(old);
+                if new == 0 {
                     self.go_up();
                 } else {
                     self.size = 0;
                     if self.node == 1 {
-                        let held = *old.add(SIZE) + (self.puts - *old);
-                        self.size = held.saturating_sub(self.takes - *old.add(TAKES));
+                        let held = *old.add(SIZE) + new as u32;
+                        self.size = held.saturating_sub((new >> 32) as u32);
                     }
                     self.next = C4;
                 }
@@ -302,9 +320,8 @@ impl Process {
             C4 => {
                 let block = memory.block(self.node, self.head);
                 let mut after = Q;
-                if (*block | *block.add(TAKES)) == 0 {
-                    *block = self.puts;
-                    *block.add(TAKES) = self.takes;
+                if totals_of(block) == 0 {
+                    block.cast::<u64>().write_unaligned(self.totals);
                     *block.add(LEFT) = self.read;
                     *block.add(RIGHT) = self.right;
                     *block.add(SIZE) = self.size;

@@ -36,6 +36,19 @@ struct Advance {
     after: After,
 }
 
+/// The places of the children's blocks that C1 and C2 found.
+#[derive(Clone, Copy)]
+struct Ends {
+    left: u32,
+    right: u32,
+}
+
+#[derive(Clone, Copy)]
+struct Totals {
+    puts: u32,
+    takes: u32,
+}
+
 #[derive(Clone, Copy)]
 enum Step {
     A,
@@ -49,7 +62,9 @@ enum Step {
     R5(Refresh, u32),
     C1(Refresh),
     C2(Refresh, u32),
-    C3(Refresh, u32, u32),
+    C3L(Refresh, Ends),
+    C3R(Refresh, Ends, Totals),
+    C3N(Refresh, Ends, Totals),
     C4(Refresh, Block),
     Q,
 }
@@ -90,6 +105,15 @@ impl Memory<'_> {
     #[inline]
     fn block_mut(&mut self, node: u32, place: u32) -> &mut Block {
         &mut self.blocks[self.first[node as usize] + place as usize]
+    }
+
+    #[inline]
+    fn totals(&self, node: u32, place: u32) -> Totals {
+        let block = self.block(node, place);
+        Totals {
+            puts: block[PUTS],
+            takes: block[TAKES],
+        }
     }
 
     /// One place past the node's end reads as absent.
@@ -135,9 +159,21 @@ impl Memory<'_> {
             }
             Step::C1(refresh) => *step = Step::C2(refresh, self.head(2 * refresh.node) - 1),
             Step::C2(refresh, left) => {
-                *step = Step::C3(refresh, left, self.head(2 * refresh.node + 1) - 1);
+                let right = self.head(2 * refresh.node + 1) - 1;
+                *step = Step::C3L(refresh, Ends { left, right });
             }
-            Step::C3(refresh, left, right) => *step = self.build(refresh, left, right),
+            Step::C3L(refresh, ends) => {
+                *step = Step::C3R(refresh, ends, self.totals(2 * refresh.node, ends.left));
+            }
+            Step::C3R(refresh, ends, left) => {
+                let right = self.totals(2 * refresh.node + 1, ends.right);
+                let sums = Totals {
+                    puts: left.puts + right.puts,
+                    takes: left.takes + right.takes,
+                };
+                *step = Step::C3N(refresh, ends, sums);
+            }
+            Step::C3N(refresh, ends, sums) => *step = self.build(refresh, ends, sums),
             Step::C4(refresh, new) => {
                 let block = self.block_mut(refresh.node, refresh.head);
                 let success = !present(block);
@@ -182,11 +218,10 @@ impl Memory<'_> {
     }
 
     #[inline]
-    fn build(&self, refresh: Refresh, left: u32, right: u32) -> Step {
+    fn build(&self, refresh: Refresh, ends: Ends, sums: Totals) -> Step {
         let node = refresh.node;
         let old = self.block(node, refresh.head - 1);
-        let (x, y) = (self.block(2 * node, left), self.block(2 * node + 1, right));
-        let (puts, takes) = (x[PUTS] + y[PUTS], x[TAKES] + y[TAKES]);
+        let (Ends { left, right }, Totals { puts, takes }) = (ends, sums);
         if puts == old[PUTS] && takes == old[TAKES] {
             return above(node);
         }

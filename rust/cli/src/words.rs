@@ -97,7 +97,7 @@ mod tests {
             (1, "1 word"),
             (999, "999 words"),
             (1_000, "1,000 words"),
-            (440_000, "440,000 words"),
+            (488_000, "488,000 words"),
             (1_234_567, "1,234,567 words"),
         ] {
             assert_eq!(amount(number, "word"), told);

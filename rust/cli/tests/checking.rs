@@ -27,7 +27,7 @@ differs at answer 4, byte 48 of the log
               by the rules   in the log
   process     0              0
   kind        2 value        2 value
-  own steps   18             18
+  own steps   20             20
   value       30             40             <
   serial      2              2
   root block  2              2
@@ -36,7 +36,7 @@ differs at answer 4, byte 48 of the log
 
 #[test]
 fn a_wrong_answer() {
-    let ended = "  the operation ended with record 82, byte 648: step 0 (00 00 00 00 00 00 00 00)";
+    let ended = "  the operation ended with record 92, byte 728: step 0 (00 00 00 00 00 00 00 00)";
     let lengths = "the log has 6 answers, the rules give 6 answers";
     let said = otq(&with_numbers("check", &[STEPS, WRONG]));
     let expected = format!("{DIFFERENCE}{ended}\n{lengths}; --all tells every difference\n");
@@ -52,7 +52,7 @@ fn a_wrong_answer() {
 #[test]
 fn json_of_a_wrong_answer() {
     let said = otq(&["check", TEXT, WRONG, "--json"]);
-    let rest = r#""own_steps": 18, "value": VALUE, "serial": 2, "root_block": 2}"#;
+    let rest = r#""own_steps": 20, "value": VALUE, "serial": 2, "root_block": 2}"#;
     let side = |value| {
         format!(
             r#"{{"process": 0, "kind": "value", {}"#,
@@ -60,7 +60,7 @@ fn json_of_a_wrong_answer() {
         )
     };
     let expected = format!(
-        r#"{{"verdict": "differs", "refusal": null, "answers_in_log": 6, "differences": [{{"index": 3, "byte": 52, "record": 82, "line": 16, "by_rules": {}, "in_log": {}}}], "count": null}}"#,
+        r#"{{"verdict": "differs", "refusal": null, "answers_in_log": 6, "differences": [{{"index": 3, "byte": 52, "record": 92, "line": 16, "by_rules": {}, "in_log": {}}}], "count": null}}"#,
         side("30"),
         side("40")
     );
@@ -81,7 +81,7 @@ fn every_answer_wrong() {
         .filter_map(|line| line.strip_prefix("  the operation ended with record "))
         .filter_map(|line| line.split(',').next())
         .collect();
-    assert_eq!(ended, ["23", "50", "66", "82", "95", "110"]);
+    assert_eq!(ended, ["25", "56", "74", "92", "107", "124"]);
     assert!(said
         .out
         .ends_with("\n6 differences; the log has 6 answers, the rules give 6 answers\n"));
@@ -106,13 +106,13 @@ fn shorter_and_longer_logs() {
         .starts_with("differs at answer 6, byte 80 of the log\n"));
     assert!(shorter
         .out
-        .contains("\n  own steps   15             -              <\n"));
+        .contains("\n  own steps   17             -              <\n"));
     assert!(shorter
         .out
         .contains("\n  the log ends at byte 80, before this answer\n"));
     assert!(shorter
         .out
-        .contains("\n  the operation ended with record 110, byte 872: step 0 "));
+        .contains("\n  the operation ended with record 124, byte 984: step 0 "));
     assert!(shorter
         .out
         .ends_with("\n1 difference; the log has 5 answers, the rules give 6 answers\n"));
@@ -123,7 +123,7 @@ fn shorter_and_longer_logs() {
         .starts_with("differs at answer 7, byte 96 of the log\n"));
     assert!(longer
         .out
-        .contains("\n  own steps   -              15             <\n"));
+        .contains("\n  own steps   -              17             <\n"));
     let none = "\n  the rules give no answer more; in the log one stands at byte 112\n  \
                 the list has no operation that ends here\n";
     assert!(longer.out.contains(none));
@@ -183,7 +183,7 @@ fn refused_lists() {
     let wrong_p = otq(&["check", "-p", "4", "-L", "3", STEPS, LOG]);
     assert_eq!(wrong_p.status, 3);
     assert!(
-        wrong_p.err.contains("\n  record 24, byte 184: take by 0 "),
+        wrong_p.err.contains("\n  record 26, byte 200: take by 0 "),
         "{wrong_p:?}"
     );
     assert!(

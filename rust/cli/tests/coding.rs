@@ -44,7 +44,7 @@ fn the_wrong_sort_of_file() {
     // A log is no text, and as step records its bytes are no lines but raw ones.
     let log = written(&with_numbers("decode", &[LOG]));
     assert!(
-        log.starts_with("processes 2\noperations 3\nraw 00 01 0f 00 "),
+        log.starts_with("processes 2\noperations 3\nraw 00 01 11 00 "),
         "{log}"
     );
 }
@@ -52,7 +52,7 @@ fn the_wrong_sort_of_file() {
 #[test]
 fn torn_and_empty_files() {
     let message =
-        format!("otq: {TORN}: byte 440: expected a record of 8 bytes, found 3; `otq show");
+        format!("otq: {TORN}: byte 488: expected a record of 8 bytes, found 3; `otq show");
     assert_fails(&with_numbers("decode", &[TORN]), 2, &message);
     let empty = file("coding.empty", b"");
     assert_eq!(bytes(&["encode", &empty]), b"");

@@ -6,7 +6,7 @@ use crate::support::{
 };
 use std::fs;
 
-const LINE: &str = "room for 12 operations: 1,770 words, 192 answer bytes, at most 888 records\n";
+const LINE: &str = "room for 12 operations: 1,770 words, 192 answer bytes, at most 984 records\n";
 
 #[test]
 fn text_and_records() {
@@ -36,7 +36,7 @@ fn few_begins() {
     assert_eq!(written(&words), none.replace("1,770", "90"));
     assert_eq!(
         told("one", "processes 2\noperations 1\ntake by 1\n"),
-        "room for 1 operation: 42 words, 16 answer bytes, at most 38 records\n"
+        "room for 1 operation: 42 words, 16 answer bytes, at most 42 records\n"
     );
 }
 
@@ -46,15 +46,15 @@ fn the_most_begins() {
     for (p, told_of_p) in [
         (
             2,
-            "1,000 operations: 12,018 words, 16,000 answer bytes, at most 38,000 records",
+            "1,000 operations: 12,018 words, 16,000 answer bytes, at most 42,000 records",
         ),
         (
             4,
-            "2,000 operations: 36,042 words, 32,000 answer bytes, at most 148,000 records",
+            "2,000 operations: 36,042 words, 32,000 answer bytes, at most 164,000 records",
         ),
         (
             8,
-            "4,000 operations: 96,090 words, 64,000 answer bytes, at most 440,000 records",
+            "4,000 operations: 96,090 words, 64,000 answer bytes, at most 488,000 records",
         ),
     ] {
         let begins: String = (0..p)
@@ -120,7 +120,7 @@ const REFUSED: [[&str; 3]; 9] = [
     ],
     [
         "step",
-        "processes 2\noperations 1\nput 1 by 0\n\nstep 0 x15\nput 2 by 0\n",
+        "processes 2\noperations 1\nput 1 by 0\n\nstep 0 x17\nput 2 by 0\n",
         "otq: refused with 12: a step record stands among begins\n  \
          record 2, byte 8: step 0 (00 00 00 00 00 00 00 00), FILE:5\n  \
          likely cause: it is a whole list, and a forecast is of its begins alone\n  \
@@ -157,12 +157,12 @@ fn torn_records() {
         &with_numbers("forecast", &[TORN]),
         3,
         "otq: refused with 4: the record bytes are not a multiple of 8\n  \
-         likely cause: 55 whole records, then 3 bytes at byte 440; --whole forecasts the 55\n  \
+         likely cause: 61 whole records, then 3 bytes at byte 488; --whole forecasts the 61\n  \
          `otq explain 4` says what to do\n",
     );
     let torn = file("forecast-torn.bin", &[0, 2, 0, 0, 0, 0, 0, 0, 1]);
     let whole = otq(&with_numbers("forecast", &[&torn, "--whole"]));
-    let line = "room for 1 operation: 90 words, 16 answer bytes, at most 38 records\n";
+    let line = "room for 1 operation: 90 words, 16 answer bytes, at most 42 records\n";
     assert_eq!((whole.status, whole.out.as_str()), (0, line));
     assert!(whole
         .err
@@ -214,7 +214,7 @@ fn whole_lists() {
 
 #[test]
 fn json() {
-    let line = r#"{"refusal": null, "operations": 12, "table_words": 1770, "answer_bytes": 192, "records": 888}"#;
+    let line = r#"{"refusal": null, "operations": 12, "table_words": 1770, "answer_bytes": 192, "records": 984}"#;
     assert_eq!(
         written(&["forecast", "--json", BEGINS]),
         format!("{line}\n")

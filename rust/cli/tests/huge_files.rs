@@ -66,7 +66,7 @@ fn a_huge_list_of_steps() {
     let said = otq_limited(&with_numbers("run", &[&huge]));
     assert_eq!(
         (said.status, said.out.as_str()),
-        (3, "put 0 1 15 1\nend 7 16\n")
+        (3, "put 0 1 17 1\nend 7 18\n")
     );
 }
 
@@ -122,11 +122,11 @@ fn huge_texts() {
     ]
     .concat();
     std::fs::write(&many_lines, &lines).expect("a file");
-    for (list, line) in [(&many_steps, 2), (&many_lines, 30)] {
+    for (list, line) in [(&many_steps, 2), (&many_lines, 34)] {
         let said = otq_limited(&["run", list]);
         assert_eq!(
             (said.status, said.out.as_str()),
-            (3, "put 0 1 27 1\nend 7 28\n"),
+            (3, "put 0 1 31 1\nend 7 32\n"),
             "{list}"
         );
         assert!(said.err.contains(&format!(", {list}:{line}\n")), "{said:?}");

@@ -31,7 +31,7 @@ fn refused_lists() {
     let said = otq(&["order", "-p", "4", "-L", "3", STEPS]);
     assert_eq!((said.status, said.out.as_str()), (3, ""));
     assert!(
-        said.err.contains("\n  record 24, byte 184: take by 0 "),
+        said.err.contains("\n  record 26, byte 200: take by 0 "),
         "{said:?}"
     );
     let whole = otq(&with_numbers("order", &[TORN, "--whole"]));
@@ -44,11 +44,11 @@ fn refused_lists() {
 /// List the order has no answer bytes, so that a heading that lends few does not stop it.
 #[test]
 fn answer_bytes_play_no_part() {
-    let text = "processes 2\noperations 1\nanswers 0\nput 1 by 0\nstep 0 x15\nput 1 by 0\n";
+    let text = "processes 2\noperations 1\nanswers 0\nput 1 by 0\nstep 0 x17\nput 1 by 0\n";
     let list = file("no-answers.txt", text.as_bytes());
     let said = otq(&["order", &list]);
     assert!(said.err.starts_with("otq: refused with 8: "), "{said:?}");
-    assert!(said.err.contains("\n  record 17, byte 128: "), "{said:?}");
+    assert!(said.err.contains("\n  record 19, byte 144: "), "{said:?}");
     assert_eq!(written(&["order", "examples/known/M10.txt"]), "put 0 1 1\n");
     assert_fails(
         &["order", "examples/known/M11.txt"],

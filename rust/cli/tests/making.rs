@@ -38,7 +38,8 @@ fn every_pace() {
 #[test]
 fn every_step_can_stall() {
     for step in [
-        "A", "V1", "V2", "V3", "R1", "R2", "R3", "R4", "R5", "C1", "C2", "C3", "C4", "Q",
+        "A", "V1", "V2", "V3", "R1", "R2", "R3", "R4", "R5", "C1", "C2", "C3L", "C3R", "C3N", "C4",
+        "Q",
     ] {
         written(&words("2", "2", &format!("stall:{step}")));
     }
@@ -89,6 +90,7 @@ fn mistakes() {
         "stall",
         "stall:",
         "stall:c4",
+        "stall:C3",
         "stall:X",
         "one:1",
         "uniform:",
@@ -118,5 +120,5 @@ fn the_most_operations() {
         "make", "-p", "8", "-L", "500", "--pace", "one", "--seed", "1", "-o", &out,
     ]);
     let print = written(&["run", &out]);
-    assert!(print.ends_with("\nend 0 160000\n"));
+    assert!(print.ends_with("\nend 0 184000\n"));
 }

@@ -5,8 +5,8 @@ use crate::support::{
 };
 use std::fs;
 
-const PRINT: &str = "put 0 1 15 1\nput 1 1 28 2\ntake 1 2 15 3 40\ntake 0 2 18 2 30\n\
-                     take 1 3 13 4 none\nput 0 3 15 5\nend 0 110\n";
+const PRINT: &str = "put 0 1 17 1\nput 1 1 32 2\ntake 1 2 17 3 40\ntake 0 2 20 2 30\n\
+                     take 1 3 15 4 none\nput 0 3 17 5\nend 0 124\n";
 
 #[test]
 fn text_and_records_play_alike() {
@@ -38,16 +38,16 @@ fn a_torn_list() {
     assert_eq!(
         said.err,
         "otq: refused with 4: the record bytes are not a multiple of 8\n  \
-         likely cause: 55 whole records, then 3 bytes at byte 440; --whole plays the 55\n  \
+         likely cause: 61 whole records, then 3 bytes at byte 488; --whole plays the 61\n  \
          `otq explain 4` says what to do\n"
     );
     assert!(fs::metadata(&log).is_err());
     let whole = otq(&with_numbers("run", &[TORN, "--whole"]));
     assert_eq!(
         (whole.status, whole.out.as_str()),
-        (0, "put 0 1 15 1\nput 1 1 28 2\nend 0 55\n")
+        (0, "put 0 1 17 1\nput 1 1 32 2\nend 0 61\n")
     );
-    let message = format!("otq: {TORN}: left out the last 3 bytes, from byte 440 on\n");
+    let message = format!("otq: {TORN}: left out the last 3 bytes, from byte 488 on\n");
     assert_eq!(whole.err, message);
 }
 
@@ -55,14 +55,14 @@ fn a_torn_list() {
 const REFUSED: [[&str; 4]; 10] = [
     [
         "processes",
-        "processes 3\nput 1 by 0\nstep 0 x15\n",
+        "processes 3\nput 1 by 0\nstep 0 x17\n",
         "end 1 0\n",
         "otq: refused with 1: the number of processes is not 2, 4 or 8\n  p is 3, FILE:1\n  \
          likely cause: with `processes 2` or `processes 4` or `processes 8` the whole list is taken\n",
     ],
     [
         "operations",
-        "processes 2\noperations 0\nput 1 by 0\nstep 0 x15\n",
+        "processes 2\noperations 0\nput 1 by 0\nstep 0 x17\n",
         "end 2 0\n",
         "otq: refused with 2: the most operations of a process are not 1 to 500\n  L is 0, FILE:2\n  \
          likely cause: with `operations 1` the whole list is taken\n",
@@ -92,11 +92,11 @@ const REFUSED: [[&str; 4]; 10] = [
     ],
     [
         "step-while-idle",
-        "processes 2\nput 1 by 0\nstep 0 x15\nstep 0\n",
-        "put 0 1 15 1\nend 7 16\n",
+        "processes 2\nput 1 by 0\nstep 0 x17\nstep 0\n",
+        "put 0 1 17 1\nend 7 18\n",
         "otq: refused with 7: a process steps while it is inside no operation\n  \
-         record 17, byte 128: step 0 (00 00 00 00 00 00 00 00), FILE:4\n  \
-         the last operation of process 0 ended with record 16\n  \
+         record 19, byte 144: step 0 (00 00 00 00 00 00 00 00), FILE:4\n  \
+         the last operation of process 0 ended with record 18\n  \
          likely cause: with `processes 4` or `processes 8` the whole list is taken\n",
     ],
     [
@@ -109,28 +109,28 @@ const REFUSED: [[&str; 4]; 10] = [
     ],
     [
         "begun-all",
-        "processes 2\noperations 1\nput 1 by 0\nstep 0 x15\nput 2 by 0\n",
-        "put 0 1 15 1\nend 8 16\n",
+        "processes 2\noperations 1\nput 1 by 0\nstep 0 x17\nput 2 by 0\n",
+        "put 0 1 17 1\nend 8 18\n",
         "otq: refused with 8: a process begins more operations than it may\n  \
-         record 17, byte 128: put 2 by 0 (00 01 00 00 02 00 00 00), FILE:5\n  \
+         record 19, byte 144: put 2 by 0 (00 01 00 00 02 00 00 00), FILE:5\n  \
          process 0 has begun 1 operation, and L is 1\n  \
          likely cause: with `operations 2` the whole list is taken\n",
     ],
     [
         "begun-all-and-busy",
-        "processes 2\noperations 1\nput 1 by 0\nstep 0 x14\nput 2 by 0\n",
-        "end 8 15\n",
+        "processes 2\noperations 1\nput 1 by 0\nstep 0 x16\nput 2 by 0\n",
+        "end 8 17\n",
         "otq: refused with 8: a process begins more operations than it may\n  \
-         record 16, byte 120: put 2 by 0 (00 01 00 00 02 00 00 00), FILE:5\n  \
+         record 18, byte 136: put 2 by 0 (00 01 00 00 02 00 00 00), FILE:5\n  \
          process 0 has begun 1 operation, and L is 1; it is still inside the one that record 1 began\n  \
          `otq explain 8`",
     ],
     [
         "answers-full",
-        "processes 2\nanswers 15\nput 1 by 0\nstep 0 x15\n",
-        "end 9 15\n",
+        "processes 2\nanswers 15\nput 1 by 0\nstep 0 x17\n",
+        "end 9 17\n",
         "otq: refused with 9: an operation ends with fewer than 16 answer bytes left\n  \
-         record 16, byte 120: step 0 (00 00 00 00 00 00 00 00), FILE:4\n  \
+         record 18, byte 136: step 0 (00 00 00 00 00 00 00 00), FILE:4\n  \
          likely cause: the heading lends 15 answer bytes, which have room for 0 answers\n",
     ],
 ];
@@ -227,8 +227,8 @@ fn a_log_in_the_place_of_the_steps() {
 #[test]
 fn json() {
     let words = with_numbers("run", &[TORN, "--json", "--whole"]);
-    let answers = r#"{"process": 0, "kind": "put done", "own_steps": 15, "value": 0, "serial": 1, "root_block": 1}, {"process": 1, "kind": "put done", "own_steps": 28, "value": 0, "serial": 1, "root_block": 2}"#;
-    let expected = format!(r#"{{"refusal": null, "taken": 55, "answers": [{answers}]}}"#);
+    let answers = r#"{"process": 0, "kind": "put done", "own_steps": 17, "value": 0, "serial": 1, "root_block": 1}, {"process": 1, "kind": "put done", "own_steps": 32, "value": 0, "serial": 1, "root_block": 2}"#;
+    let expected = format!(r#"{{"refusal": null, "taken": 61, "answers": [{answers}]}}"#);
     assert_eq!(otq(&words).out, format!("{expected}\n"));
     let refused = otq(&["run", "--json", "examples/known/M9.txt"]);
     assert_eq!(refused.status, 3);

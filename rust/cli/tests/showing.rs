@@ -6,13 +6,13 @@ use crate::support::{assert_fails, file, otq, path, written, LOG, STEPS, TEXT, T
 fn steps_log_and_order() {
     let steps = written(&["show", "--as", "steps", STEPS]);
     assert!(steps.starts_with("1 put 30 by 0\n2 step 0\n"), "{steps}");
-    assert!(steps.ends_with("\n110 step 0\n"), "{steps}");
+    assert!(steps.ends_with("\n124 step 0\n"), "{steps}");
     let log = written(&["show", "--as", "log", LOG]);
     assert!(
-        log.starts_with("1 put 0 1 15 1\n2 put 1 1 28 2\n3 take 1 2 15 3 40\n"),
+        log.starts_with("1 put 0 1 17 1\n2 put 1 1 32 2\n3 take 1 2 17 3 40\n"),
         "{log}"
     );
-    assert!(log.contains("\n5 take 1 3 13 4 none\n"), "{log}");
+    assert!(log.contains("\n5 take 1 3 15 4 none\n"), "{log}");
     let order = path("shown-order.bin");
     written(&["order", TEXT, "--raw", &order]);
     let order = written(&["show", "--as", "order", &order]);
@@ -40,8 +40,8 @@ fn other_bytes() {
 fn torn_files() {
     let said = otq(&["show", "--as", "steps", TORN]);
     assert_eq!(said.status, 2);
-    assert!(said.out.ends_with("\n55 step 1\n"), "{said:?}");
-    let message = "torn: 55 whole records, then 3 bytes at byte 440: 01 00 00\n";
+    assert!(said.out.ends_with("\n61 step 1\n"), "{said:?}");
+    let message = "torn: 61 whole records, then 3 bytes at byte 488: 01 00 00\n";
     assert_eq!(said.err, format!("otq: {TORN}: {message}"));
     let one = file("one-byte.bin", &[0]);
     let said = otq(&["show", "--as", "log", &one]);

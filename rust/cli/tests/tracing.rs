@@ -15,9 +15,9 @@ fn traced(words: &[&str]) -> (String, Vec<String>) {
 fn a_line_a_record() {
     let (compared, lines) = traced(&["trace", TEXT]);
     let expected =
-        "# After each of records 1 to 110 the proved library has the same table and answers.";
+        "# After each of records 1 to 124 the proved library has the same table and answers.";
     assert_eq!(compared, expected);
-    assert_eq!(lines.len(), 110);
+    assert_eq!(lines.len(), 124);
     for (index, line) in lines.iter().enumerate() {
         assert_eq!(
             line.trim_start().split(' ').next(),
@@ -40,10 +40,26 @@ fn help_in_words() {
         "    13  process 1  V3     raises the head of leaf 0 from 1 to 2",
         "    15  process 1  R5     looks at block 2 of leaf 1: absent",
         "    16  process 1  C1     reads the head of leaf 0: 2, so the end left is 1",
-        "    19  process 1  C4     writes block 1 of the root: 2 puts, 0 takes, ends 1 and 1, size 2",
-        "    21  process 1  Q      operation 1 is done, in root block 1, after 18 steps",
-        "    23  process 0  V2     finds super of block 1 of leaf 0 at 1 already, and leaves it",
-        "    24  process 0  V3     finds the head of leaf 0 at 2 and not 1, and leaves it",
+        "    18  process 1  C3L    reads block 1 of leaf 0, the left child: 1 put, 0 takes",
+        "    19  process 1  C3R    reads block 1 of leaf 1, the right child: 1 put, 0 takes; together 2 puts, 0 takes",
+        "    20  process 1  C3N    reads block 0 of the root: 0 puts, 0 takes, size 0; there is more, so it builds a block: 2 puts, 0 takes, ends 1 and 1, size 2",
+        "    21  process 1  C4     writes block 1 of the root: 2 puts, 0 takes, ends 1 and 1, size 2",
+        "    23  process 1  Q      operation 1 is done, in root block 1, after 20 steps",
+        "    25  process 0  V2     finds super of block 1 of leaf 0 at 1 already, and leaves it",
+        "    26  process 0  V3     finds the head of leaf 0 at 2 and not 1, and leaves it",
+        "    36  process 0  C3N    reads block 1 of the root: 2 puts, 0 takes, size 2; there is no more, so the refresh has succeeded",
+    ] {
+        assert!(lines.iter().any(|found| found == line), "{line}");
+    }
+}
+
+/// A take alone, whose block has other ends on the left and on the right.
+#[test]
+fn ends_that_differ() {
+    let (_, lines) = traced(&["trace", "examples/known/M4.txt"]);
+    for line in [
+        "    13  process 0  C3L    reads block 1 of leaf 0, the left child: 0 puts, 1 take",
+        "    14  process 0  C3R    reads block 0 of leaf 1, the right child: 0 puts, 0 takes; together 0 puts, 1 take",
     ] {
         assert!(lines.iter().any(|found| found == line), "{line}");
     }
@@ -75,8 +91,8 @@ fn a_part_of_the_records() {
         compared.contains("After each of records 20 to 25 the proved library"),
         "{compared}"
     );
-    let (_, end) = traced(&["trace", TEXT, "--from", "110", "--to", "200"]);
-    assert_eq!(end, all[109..]);
+    let (_, end) = traced(&["trace", TEXT, "--from", "124", "--to", "200"]);
+    assert_eq!(end, all[123..]);
     let (_, one) = traced(&["trace", TEXT, "--to", "1"]);
     assert_eq!(one, all[..1]);
 }
@@ -87,12 +103,12 @@ fn wrong_parts() {
     assert_fails(
         &["trace", TEXT, "--from", "0"],
         2,
-        &format!("otq: --from 0 --to 110: {order}"),
+        &format!("otq: --from 0 --to 124: {order}"),
     );
     let words = ["trace", TEXT, "--from", "5", "--to", "4"];
     assert_fails(&words, 2, &format!("otq: --from 5 --to 4: {order}"));
-    let message = "otq: --from 111: the library takes 110 records\n";
-    assert_fails(&["trace", TEXT, "--from", "111"], 2, message);
+    let message = "otq: --from 125: the library takes 124 records\n";
+    assert_fails(&["trace", TEXT, "--from", "125"], 2, message);
     let (compared, lines) = traced(&["trace", &file("tracing.empty", b"")]);
     assert!(
         compared.ends_with("There was no record to compare."),
@@ -105,7 +121,7 @@ fn wrong_parts() {
 fn refused_lists() {
     assert_fails(&with_numbers("trace", &[TORN]), 3, "otq: refused with 4: ");
     let said = otq(&with_numbers("trace", &[TORN, "--whole"]));
-    assert_eq!((said.status, said.out.lines().count()), (0, 57));
+    assert_eq!((said.status, said.out.lines().count()), (0, 63));
     let m9 = "examples/known/M9.txt";
     let said = otq(&["trace", m9]);
     assert_eq!((said.status, said.out.lines().count()), (3, 3), "{said:?}");
@@ -118,7 +134,7 @@ fn refused_lists() {
         "otq: refused with 3: ",
     );
     let full = otq(&["trace", "examples/known/M10.txt"]);
-    assert_eq!((full.status, full.out.lines().count()), (3, 17), "{full:?}");
+    assert_eq!((full.status, full.out.lines().count()), (3, 19), "{full:?}");
 }
 
 /// A list too long to compare both versions after every record.

@@ -133,15 +133,15 @@ fn p_and_l() {
         written(&["run", TEXT])
     );
     // A heading that says nothing leaves them to the command line, and they are 4 and 24 else.
-    let list = b"put 7 by 1\nstep 1 x15\n";
+    let list = b"put 7 by 1\nstep 1 x17\n";
     assert_eq!(
         otq_on(&["run", "-p", "2", "-"], list).out,
-        "put 1 1 15 1\nend 0 16\n"
+        "put 1 1 17 1\nend 0 18\n"
     );
-    assert_eq!(otq_on(&["run", "-"], list).out, "end 0 16\n");
+    assert_eq!(otq_on(&["run", "-"], list).out, "end 0 18\n");
     assert_eq!(
         otq_on(&["forecast", "-p", "2", "-"], b"put 7 by 1\n").out,
-        "room for 1 operation: 594 words, 16 answer bytes, at most 38 records\n"
+        "room for 1 operation: 594 words, 16 answer bytes, at most 42 records\n"
     );
 }
 

@@ -3,10 +3,8 @@
 
 use crate::calls::Input;
 use reference::begin_lists::BeginList;
-use reference::demand3::step_limit;
 use reference::forecast::{begins_of, record_limit, ForecastResult};
 use reference::random::Random;
-use reference::records::{Answer, ANSWER_RECORD_BYTES};
 use reference::run::RunResult;
 use reference::tree::Shape;
 use std::fmt;
@@ -22,17 +20,8 @@ const HOSTILE: u32 = 8;
 pub struct Forecasts {
     /// By number; entry 0 counts the forecasts that refused nothing.
     refusals: [u64; 13],
-    /// For p = 2, 4, 8.
-    nearest: [Nearest; 3],
-}
-
-/// How near the runs of one p came to their limit.
-#[derive(Clone, Copy, Default, Debug)]
-struct Nearest {
-    /// Records taken for each begin, in the list that took most.
-    records: f64,
-    /// Own steps of the longest operation that finished.
-    steps: u16,
+    /// For p = 2, 4, 8, the records taken for each begin, in the list that took most.
+    nearest: [f64; 3],
 }
 
 impl Forecasts {
@@ -53,7 +42,11 @@ impl Forecasts {
             let (words, bytes) = (foreseen.words as usize, foreseen.answer_bytes as usize);
             assert_eq!(input.run(words, bytes).0, ran, "p {p}, l {l}: not enough");
         }
-        self.nearest[height(p) - 1].count(ran.taken, begins.len() / 8, log);
+        if !begins.is_empty() {
+            let each = ran.taken as f64 / (begins.len() / 8) as f64;
+            let most = &mut self.nearest[height(p) - 1];
+            *most = most.max(each);
+        }
     }
 
     /// Forecasts of begins that are mostly refused.
@@ -85,18 +78,6 @@ impl Forecasts {
     }
 }
 
-impl Nearest {
-    fn count(&mut self, taken: u64, begins: usize, log: &[u8]) {
-        if begins > 0 {
-            self.records = self.records.max(taken as f64 / begins as f64);
-        }
-        for record in log.chunks_exact(ANSWER_RECORD_BYTES) {
-            let answer = Answer::read(record).expect("a log that Run wrote");
-            self.steps = self.steps.max(answer.steps);
-        }
-    }
-}
-
 fn height(p: u32) -> usize {
     p.ilog2() as usize
 }
@@ -110,11 +91,9 @@ impl fmt::Display for Forecasts {
         )?;
         for p in [2, 4, 8] {
             let shape = Shape::new(p, 1).expect("a proper p and L");
-            let Nearest { records, steps } = self.nearest[height(p) - 1];
-            let (most_records, most_steps) = (record_limit(shape), step_limit(shape));
-            write!(out, "\nnearest to the limits at H = {}: ", height(p))?;
-            write!(out, "{records:.1} of {most_records} records an operation, ")?;
-            write!(out, "{steps} of {most_steps} steps")?;
+            let (records, limit) = (self.nearest[height(p) - 1], record_limit(shape));
+            write!(out, "\nnearest to the limit at p = {p}: ")?;
+            write!(out, "{records:.1} of {limit} records an operation")?;
         }
         Ok(())
     }

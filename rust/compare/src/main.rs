@@ -43,6 +43,7 @@ fn compare_records(records: u64, seed: u64) -> ExitCode {
     );
     println!("calls by refusal number, from 0: {:?}", tally.refusals);
     println!("verdicts same, differs, refused: {:?}", tally.verdicts);
+    println!("{}", tally.most_own_steps());
     println!("{}", tally.forecasts);
     let never = tally.never_met();
     if !never.is_empty() {

@@ -3,10 +3,13 @@
 use crate::calls::Input;
 use crate::forecasts::Forecasts;
 use otq::{most_answer_bytes, most_order_bytes, table_words};
+use reference::demand3::step_limit;
 use reference::hostile::{below, harm_list, harm_log};
 use reference::process::STEP_NAMES;
 use reference::random::Random;
+use reference::records::{Answer, ANSWER_RECORD_BYTES};
 use reference::schedules::{schedule, Ending, Pace, Plan};
+use reference::tree::Shape;
 
 /// How much was compared, and how often each refusal and verdict came up.
 #[derive(Clone, Default, Debug)]
@@ -18,6 +21,8 @@ pub struct Tally {
     pub refusals: [u64; 12],
     /// Same, differs, refused.
     pub verdicts: [u64; 3],
+    /// For p = 2, 4, 8, the own steps of the longest operation that finished.
+    pub most_steps: [u16; 3],
     pub forecasts: Forecasts,
 }
 
@@ -68,6 +73,7 @@ impl Tally {
         let (ran, log) = input.run(needed(input), most);
         self.records += ran.taken;
         self.count(ran.refusal);
+        self.count_steps(input.p, &log);
         self.forecasts.compare_run(random, input, ran, &log);
         let (ran, _) = input.run(table(random, input), near(random, log.len()));
         self.count(ran.refusal);
@@ -90,6 +96,29 @@ impl Tally {
     fn count(&mut self, refusal: u32) {
         self.refusals[refusal as usize] += 1;
     }
+
+    /// The own steps of a run's answers; a p that is turned down has none.
+    fn count_steps(&mut self, p: u32, log: &[u8]) {
+        for record in log.chunks_exact(ANSWER_RECORD_BYTES) {
+            let answer = Answer::read(record).expect("a log that Run wrote");
+            let most = &mut self.most_steps[p.ilog2() as usize - 1];
+            *most = answer.steps.max(*most);
+        }
+    }
+
+    /// The most own steps that were met, for each p beside the limit.
+    pub fn most_own_steps(&self) -> String {
+        let told = |(p, most)| {
+            let limit = step_limit(Shape::new(p, 1).expect("a proper p and L"));
+            format!("p = {p}: {most} of {limit}")
+        };
+        let of_p: Vec<String> = [2, 4, 8]
+            .into_iter()
+            .zip(self.most_steps)
+            .map(told)
+            .collect();
+        format!("most own steps: {}", of_p.join(", "))
+    }
 }
 
 fn random_plan(random: &mut Random) -> Plan {
@@ -100,7 +129,7 @@ fn random_plan(random: &mut Random) -> Plan {
         6 => 1 + random.below(150),
         _ => random.pick(&[499, 500]),
     };
-    // A whole list at the largest p and L has some 200,000 records, so most are cut.
+    // A whole list at the largest p and L has some 230,000 records, so most are cut.
     let cut = Ending::Cut(1 + random.below(20_000) as usize);
     let ending = match random.below(4) {
         0 if p * l <= 400 => Ending::AllFinish,

@@ -1,14 +1,15 @@
-//! The compiled C3 takes only the words that it needs: with all others random while it is played,
-//! a run leaves the same. With one more in a needed word it leaves what the reference then leaves.
+//! The compiled C3L, C3R and C3N take only the words that each needs: with all others random while
+//! one is played, a run leaves the same. With one more in a needed word it leaves what the reference
+//! then leaves.
 
 use crate::guarded::{self, Changes, Other};
 use crate::support::needed;
 use compare::calls::Input;
 use otq::most_answer_bytes;
-use reference::c3_words::{random_words, AtC3, MetC3};
+use reference::c3_words::{paces, random_words, AtC3, MetC3};
 use reference::machine::Machine;
 use reference::memory::Memory;
-use reference::process::{Step, StepName};
+use reference::process::Step;
 use reference::random::Random;
 use reference::records::{Act, StepRecord};
 use reference::run::play_record;
@@ -17,8 +18,8 @@ use reference::tree::Shape;
 use std::collections::BTreeMap;
 use std::mem::replace;
 
-/// Plays a list on the reference and hands on the index of each record that does C3, with what it
-/// meets.
+/// Plays a list on the reference and hands on the index of each record that does one of the three
+/// steps, with what it meets.
 fn each_c3(plan: &Plan, list: &[u8], mut does: impl FnMut(usize, &Machine, AtC3)) {
     let mut machine = Machine::start(Shape::new(plan.p, plan.l).unwrap());
     for (index, bytes) in list.chunks_exact(8).enumerate() {
@@ -30,7 +31,7 @@ fn each_c3(plan: &Plan, list: &[u8], mut does: impl FnMut(usize, &Machine, AtC3)
     }
 }
 
-/// A list in which every C3 meets random words.
+/// A list in which each of the three steps meets random words.
 fn compare_list(plan: &Plan, met: &mut MetC3) {
     let Plan { p, l, seed, .. } = *plan;
     let (mut random, mut others) = (Random::new(seed), BTreeMap::new());
@@ -56,12 +57,6 @@ fn compare_list(plan: &Plan, met: &mut MetC3) {
     });
 }
 
-fn paces() -> [Pace; 4] {
-    let (step, after) = (StepName::C3, false);
-    let stalls = Pace::Stalls { step, after };
-    [Pace::Uniform, Pace::Lockstep, Pace::Bursts(9), stalls]
-}
-
 #[test]
 fn all_other_words_random() {
     let mut met = MetC3::default();
@@ -80,39 +75,49 @@ fn all_other_words_random() {
     assert!(steps.iter().all(|&times| times > 100), "{met:?}");
 }
 
-/// A list that ends with the step after a C3.
+/// A list that goes on after one of the three steps until C4 is done, which shows what was read.
 struct LastC3<'a> {
     records: Vec<u8>,
-    /// The record that does C3, and what it meets by the rules.
+    /// The record that does the step, and what it meets by the rules.
     index: usize,
     machine: &'a Machine,
     at: &'a AtC3,
+    /// The steps after it.
+    later: usize,
 }
 
 impl LastC3<'_> {
     fn of<'a>(list: &[u8], index: usize, machine: &'a Machine, at: &'a AtC3) -> LastC3<'a> {
         let (process, act) = (at.process, Act::Step);
-        let step = StepRecord { process, act }.bytes();
+        let later = match at.step {
+            Step::C3L { .. } => 3,
+            Step::C3R { .. } => 2,
+            _ => 1,
+        };
+        let steps = StepRecord { process, act }.bytes().repeat(later);
         LastC3 {
-            records: [&list[..8 * (index + 1)], &step].concat(),
+            records: [&list[..8 * (index + 1)], &steps].concat(),
             index,
             machine,
             at,
+            later,
         }
     }
 
-    /// The table that the reference leaves if C3 alone meets another memory.
+    /// The table that the reference leaves if the step alone meets another memory.
     fn expected(&self, met: Memory) -> Vec<u32> {
         let (mut played, process) = (self.machine.clone(), self.at.process);
         let own = replace(&mut played.memory, met);
         played.step(process);
         played.memory = own;
-        played.step(process);
+        for _ in 0..self.later {
+            played.step(process);
+        }
         played.memory.tree.words()
     }
 
-    /// The table that the library leaves if C3 alone meets this value of a needed word, while all
-    /// words that it does not need are random.
+    /// The table that the library leaves if the step alone meets this value of a needed word, while
+    /// all words that it does not need are random.
     fn found(&self, word: usize, value: u32) -> Vec<u32> {
         let shape = self.machine.shape();
         let (p, l, records) = (shape.p(), shape.l(), &self.records[..]);
@@ -161,8 +166,8 @@ fn each_needed_word_plays_a_part() {
         let list = schedule(&plan.ending(Ending::Cut(250)));
         each_c3(&plan, &list, |index, machine, at| {
             let run = LastC3::of(&list, index, machine, &at);
-            for (changed, &word) in changed.iter_mut().zip(&at.words) {
-                *changed += u64::from(run.compare(word));
+            for (number, word) in at.numbered_words() {
+                changed[number] += u64::from(run.compare(word));
             }
         });
     }

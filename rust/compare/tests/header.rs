@@ -159,7 +159,7 @@ int main(void)
 
 #[test]
 fn forecasts() {
-    let foreseen = "0 42 32 76\n0 1770 32 148\n0 96090 0 0\n";
+    let foreseen = "0 42 32 84\n0 1770 32 164\n0 96090 0 0\n";
     let refused = [1, 2, 4, 5, 12, 8].map(|number| format!("{number} 0 0 0\n"));
     let expected = format!("{foreseen}{}", refused.concat());
     assert_writes("forecaster.c", FORECASTER, &expected);

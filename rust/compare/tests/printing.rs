@@ -50,12 +50,12 @@ fn assert_ends(input: &[u8], end: &str) {
 }
 
 fn worked() -> List {
-    List::new().put(0, 7).steps(0, 27).take(1).steps(1, 27)
+    List::new().put(0, 7).steps(0, 31).take(1).steps(1, 31)
 }
 
 #[test]
 fn worked_run() {
-    let print = "put 0 1 27 1\ntake 1 1 27 2 7\nend 0 56\n";
+    let print = "put 0 1 31 1\ntake 1 1 31 2 7\nend 0 64\n";
     assert_eq!(program(&worked().bytes()), print);
 }
 
@@ -90,10 +90,10 @@ fn examples_are_played_by_the_program() {
 fn every_refusal_number() {
     assert_ends(&[], "end 0 0\n");
     assert_ends(&[0; 7], "end 4 0\n");
-    assert_ends(&worked().bytes()[..447], "end 4 0\n");
-    assert_ends(&worked().put(4, 0).bytes(), "end 5 56\n");
-    assert_ends(&worked().put(2, 1).put(2, 1).bytes(), "end 6 57\n");
-    assert_ends(&worked().steps(3, 1).bytes(), "end 7 56\n");
+    assert_ends(&worked().bytes()[..511], "end 4 0\n");
+    assert_ends(&worked().put(4, 0).bytes(), "end 5 64\n");
+    assert_ends(&worked().put(2, 1).put(2, 1).bytes(), "end 6 65\n");
+    assert_ends(&worked().steps(3, 1).bytes(), "end 7 64\n");
     let all = mixed_list(P, L, 6);
     let end = format!("end 0 {}\n", all.len() / 8);
     assert_ends(&all, &end);
@@ -106,7 +106,7 @@ fn every_refusal_number() {
 fn long_input() {
     let mut list = worked().bytes();
     list.resize(RECORD_BYTES, 0);
-    assert_ends(&list, "end 7 56\n");
+    assert_ends(&list, "end 7 64\n");
     list.push(0);
     assert_eq!(program(&list), "long\n");
     list.resize(4 * RECORD_BYTES, 0);
@@ -121,15 +121,15 @@ fn values_of_every_length() {
     for digits in 0..10 {
         let value = 10_u32.pow(digits);
         for value in [value - 1, value] {
-            list = list.put(1, value).steps(1, 27).take(2).steps(2, 27);
+            list = list.put(1, value).steps(1, 31).take(2).steps(2, 31);
         }
     }
     assert_print(
         &list
             .put(0, u32::MAX)
-            .steps(0, 27)
+            .steps(0, 31)
             .take(3)
-            .steps(3, 27)
+            .steps(3, 31)
             .bytes(),
     );
 }

@@ -38,8 +38,8 @@ fn begins_inside_the_last_operation() {
         (500, 499, 6),
         (500, 500, 8),
     ] {
-        let ended = List::new().whole_puts(0, begun - 1, 15);
-        for steps in [0, 14] {
+        let ended = List::new().whole_puts(0, begun - 1, 17);
+        for steps in [0, 16] {
             let inside = ended.clone().put(0, 7).steps(0, steps);
             for list in [inside.clone().put(0, 8), inside.take(0)] {
                 let list = list.bytes();

@@ -10,9 +10,9 @@ use reference::schedules::{schedule, Ending, Pace, Plan};
 
 /// The terms on lists of the known runs, and their like.
 pub fn rows() -> Vec<Row> {
-    let unfinished = List::new().put(0, WIDE).steps(0, 15).take(1).steps(1, 14);
+    let unfinished = List::new().put(0, WIDE).steps(0, 17).take(1).steps(1, 16);
     let unfinished = unfinished.put(0, 6).steps(0, 2);
-    let of_eight = List::new().take(7).steps(7, 39).put(0, 1).steps(0, 1);
+    let of_eight = List::new().take(7).steps(7, 45).put(0, 1).steps(0, 1);
     let lists = [
         ("no records", 2, 1, List::new()),
         ("M3: a put and a take in one block", 2, 2, m3()),
@@ -30,8 +30,8 @@ pub fn rows() -> Vec<Row> {
 
 /// Two puts and two takes of p = 2, one after the other: root blocks 1 to 4.
 fn one_by_one() -> List {
-    let puts = List::new().put(0, 5).steps(0, 15).put(1, 6).steps(1, 15);
-    puts.take(0).steps(0, 15).take(1).steps(1, 15)
+    let puts = List::new().put(0, 5).steps(0, 17).put(1, 6).steps(1, 17);
+    puts.take(0).steps(0, 17).take(1).steps(1, 17)
 }
 
 /// The terms on lists that go through the paces, the endings and the shapes.

@@ -23,10 +23,10 @@ pub fn rows() -> Vec<Row> {
         }));
     }
     for (outcome, steps, serial, root_block) in [
-        (Outcome::PutDone, 109, 500, 4000),
+        (Outcome::PutDone, 121, 500, 4000),
         (Outcome::Value(WIDE), 0x0201, WIDE + 1, WIDE + 2),
         (Outcome::Value(u32::MAX), 0x0100, 0x0100, 0x0100),
-        (Outcome::Value(0), 15, 1, 1),
+        (Outcome::Value(0), 17, 1, 1),
         (Outcome::Nothing, u16::MAX, u32::MAX, u32::MAX),
     ] {
         rows.push(answer_row(Answer {

@@ -3,11 +3,12 @@
 use crate::call::{kept_bytes, kept_words, Call};
 use crate::row::Row;
 use crate::{fixed_bytes, fixed_logs, fixed_records, late_begins};
+use reference::between_reads::between_reads;
 use reference::lists::List;
 use reference::tree::Shape;
 
-/// Calls that meet every number and verdict, each edge of a test, and the order of the tests; and
-/// records whose bytes are all in use.
+/// Calls that meet every number and verdict, each edge of a test, and the order of the tests; records
+/// whose bytes are all in use; and operations that come between the reads of another.
 pub fn rows() -> Vec<Row> {
     [
         wrong_processes(),
@@ -19,6 +20,7 @@ pub fn rows() -> Vec<Row> {
         late_begins::rows(),
         fixed_logs::rows(),
         fixed_bytes::rows(),
+        between(),
     ]
     .into_iter()
     .flatten()
@@ -123,6 +125,12 @@ fn short_tables() -> Vec<Row> {
         rows.extend(with_faults(&short, &about, 2));
     }
     rows
+}
+
+/// Heads that rise between the reads of a refresh.
+pub fn between() -> Vec<Row> {
+    let row = |(about, list): (&str, List)| Call::ample(2, 1, list.bytes()).row(about);
+    between_reads().map(row).into()
 }
 
 /// Number 4: every number of bytes up to two records.

@@ -80,7 +80,7 @@ fn lengths() -> Vec<Row> {
     ];
     let row = |(about, log): (&str, &[&[u8]])| call.with(|call| call.log = log.concat()).row(about);
     let mut rows: Vec<Row> = logs.map(row).into();
-    let none = Call::ample(2, 1, List::new().put(0, 1).steps(0, 14).bytes());
+    let none = Call::ample(2, 1, List::new().put(0, 1).steps(0, 16).bytes());
     rows.push(none.row("no answer, and no log"));
     let one = none.with(|call| call.log = first.to_vec());
     rows.push(one.row("no answer, and a log of one"));

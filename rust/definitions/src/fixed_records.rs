@@ -29,12 +29,12 @@ fn then(list: List, record: [u8; 8]) -> Vec<u8> {
 
 /// A put alone, whole at p = 2, of a value whose bytes differ.
 pub fn one_put() -> List {
-    List::new().put(0, WIDE).steps(0, 15)
+    List::new().put(0, WIDE).steps(0, 17)
 }
 
 /// Two operations, one after the other, whole at p = 2.
 pub fn put_and_take() -> List {
-    one_put().take(1).steps(1, 15)
+    one_put().take(1).steps(1, 17)
 }
 
 /// Number 5 after a begin of process 0: each byte that must be zero, each kind and each process.
@@ -70,7 +70,7 @@ fn ill_formed_first() -> Vec<Row> {
     let bad_take = [0, 2, 0, 0, 1, 0, 0, 0];
     let kind_3 = [0, 3, 0, 0, 0, 0, 0, 0];
     let bad_step = [0, 0, 0, 0, 0, 0, 0, 1];
-    let no_room = Call::ample(2, 1, then(List::new().put(0, 1).steps(0, 14), bad_step));
+    let no_room = Call::ample(2, 1, then(List::new().put(0, 1).steps(0, 16), bad_step));
     let no_room = no_room.with(|call| call.answers.truncate(15));
     vec![
         Call::ample(2, 2, then(List::new().put(0, 7), bad_put)).row("5 before 6"),
@@ -86,7 +86,7 @@ fn ill_formed_first() -> Vec<Row> {
 /// Number 6: by a put and by a take, at each stage.
 fn begins_while_busy() -> Vec<Row> {
     let mut rows = Vec::new();
-    for steps in [0, 1, 14] {
+    for steps in [0, 1, 16] {
         let busy = List::new().put(0, 7).steps(0, steps);
         let again = Call::ample(2, 2, busy.clone().put(0, 8).bytes());
         rows.push(again.row(format!("a put after {steps} steps")));
@@ -118,8 +118,8 @@ fn steps_while_idle() -> Vec<Row> {
 
 /// Number 8: by a put and by a take; the other process may still begin.
 fn begun_all() -> Vec<Row> {
-    let twice = one_put().take(0).steps(0, 15);
-    let of_four = List::new().take(3).steps(3, 27).put(3, 1);
+    let twice = one_put().take(0).steps(0, 17);
+    let of_four = List::new().take(3).steps(3, 31).put(3, 1);
     vec![
         Call::ample(2, 1, one_put().put(0, 2).bytes()).row("L = 1, a second put"),
         Call::ample(2, 1, one_put().take(0).bytes()).row("L = 1, a second take"),
@@ -133,7 +133,7 @@ fn begun_all() -> Vec<Row> {
 /// 8 before 6: a begin inside the last operation of L, by a put and by a take, at each stage.
 fn begun_all_first() -> Vec<Row> {
     let mut rows = Vec::new();
-    for steps in [0, 1, 14] {
+    for steps in [0, 1, 16] {
         let busy = List::new().put(0, 7).steps(0, steps);
         let lists = [("put", busy.clone().put(0, 8)), ("take", busy.take(0))];
         for (kind, list) in lists {
@@ -152,7 +152,7 @@ fn begun_all_first() -> Vec<Row> {
 
 /// The same after many operations, which takes the prover long.
 pub fn many_begun_first() -> Row {
-    let list = List::new().whole_puts(0, 23, 15).put(0, 7).put(0, 8);
+    let list = List::new().whole_puts(0, 23, 17).put(0, 7).put(0, 8);
     Call::ample(2, 24, list.bytes()).row("8 before 6: L = 24")
 }
 
@@ -183,7 +183,7 @@ fn no_room() -> Vec<Row> {
 fn short_output() -> Vec<Row> {
     let lists = [
         ("no operation", List::new().put(0, 1).steps(0, 10)),
-        ("one, not finished", List::new().put(0, 1).steps(0, 14)),
+        ("one, not finished", List::new().put(0, 1).steps(0, 16)),
         ("two", put_and_take()),
     ];
     let mut rows = Vec::new();
@@ -209,7 +209,7 @@ fn output_last() -> Vec<Row> {
             .with(|call| call.table.truncate(41))
             .row("3 before 10"),
         whole
-            .with(|call| call.records.truncate(127))
+            .with(|call| call.records.truncate(143))
             .row("4 before 10"),
         none(then(one_put(), [9; 8])).row("5 before 10"),
         none_of(2, one_put().put(1, 1).put(1, 2).bytes()).row("6 before 10"),

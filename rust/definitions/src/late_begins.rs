@@ -17,9 +17,9 @@ use reference::tree::Shape;
 pub fn rows() -> Vec<Row> {
     let mut rows = Vec::new();
     for l in [1, 2, 500] {
-        let begun = |count| List::new().whole_puts(0, count - 1, 15).put(0, 7);
+        let begun = |count| List::new().whole_puts(0, count - 1, 17).put(0, 7);
         rows.push(row(l, begun(l).put(0, 8)));
-        rows.push(row(l, begun(l).steps(0, 15).take(0)));
+        rows.push(row(l, begun(l).steps(0, 17).take(0)));
         if l > 1 {
             rows.push(row(l, begun(l - 1).take(0)));
         }

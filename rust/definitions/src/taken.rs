@@ -13,7 +13,7 @@ use reference::run::run;
 use reference::tree::{Shape, Tree, ROOT};
 
 /// Bytes of a list whose events are computed from it too: each event plays the list anew.
-const SHORT: usize = 8 * 96;
+const SHORT: usize = 8 * 108;
 
 /// What the plain queue holds at first when it is fed an order of the row's own.
 const HELD: [u32; 2] = [41, 42];

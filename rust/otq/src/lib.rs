@@ -6,14 +6,14 @@
 //! have buffers of their own; [`run`], [`list_order`] and [`check_log`] are lent theirs. [`forecast`]
 //! tells from begin records alone what a run will need.
 //!
-//! A put of 7 by process 0, then a take by process 1, 15 steps each:
+//! A put of 7 by process 0, then a take by process 1, 17 steps each:
 //!
 //! ```
 //! use otq::{Act, Answer, Kind, Order, Outcome, Step};
 //! let mut list = vec![Step { process: 0, act: Act::Put(7) }];
-//! list.extend([Step { process: 0, act: Act::Step }; 15]);
+//! list.extend([Step { process: 0, act: Act::Step }; 17]);
 //! list.push(Step { process: 1, act: Act::Take });
-//! list.extend([Step { process: 1, act: Act::Step }; 15]);
+//! list.extend([Step { process: 1, act: Act::Step }; 17]);
 //! let records = otq::bytes_of(list);
 //!
 //! let played = otq::play(2, 24, &records);
@@ -125,7 +125,7 @@ pub fn run(p: u32, l: u32, records: &[u8], table: &mut [u32], answers: &mut [u8]
 ///
 /// ```
 /// let mut records = vec![0, 1, 0, 0, 7, 0, 0, 0];
-/// records.extend([0; 8].repeat(15));
+/// records.extend([0; 8].repeat(17));
 /// let mut table = vec![0; otq::table_words(2, 1).unwrap()];
 /// let mut output = [0; 9];
 /// let length = otq::list_order(2, 1, &records, &mut table, &mut output);
@@ -135,7 +135,7 @@ pub fn run(p: u32, l: u32, records: &[u8], table: &mut [u32], answers: &mut [u8]
 /// assert_eq!(refused, Err(otq::Refusal::OutputShort));
 ///
 /// records.extend([1, 2, 0, 0, 0, 0, 0, 0]);
-/// records.extend([1, 0, 0, 0, 0, 0, 0, 0].repeat(15));
+/// records.extend([1, 0, 0, 0, 0, 0, 0, 0].repeat(17));
 /// let mut longer = [0; 16];
 /// let length = otq::list_order(2, 1, &records, &mut table, &mut longer);
 /// assert_eq!(length, Ok(16));
@@ -163,7 +163,7 @@ pub fn list_order(
 /// ```
 /// use otq::Verdict;
 /// let mut records = vec![0, 1, 0, 0, 7, 0, 0, 0];
-/// records.extend([0; 8].repeat(15));
+/// records.extend([0; 8].repeat(17));
 /// let mut log = otq::play(2, 1, &records).answers;
 /// let mut table = vec![0; otq::table_words(2, 1).unwrap()];
 /// assert_eq!(otq::check_log(2, 1, &records, &log, &mut table), Verdict::Same);
@@ -201,9 +201,9 @@ pub fn check_log(p: u32, l: u32, records: &[u8], log: &[u8], table: &mut [u32]) 
 /// use otq::{Act, Forecast, Refusal, Step};
 /// let (put, take) = (Step { process: 0, act: Act::Put(7) }, Step { process: 1, act: Act::Take });
 /// let foreseen = otq::forecast(2, 1, &otq::bytes_of([put, take])).unwrap();
-/// assert_eq!(foreseen, Forecast { words: 42, answer_bytes: 32, records: 76 });
+/// assert_eq!(foreseen, Forecast { words: 42, answer_bytes: 32, records: 84 });
 ///
-/// let steps = |process| [Step { process, act: Act::Step }; 15];
+/// let steps = |process| [Step { process, act: Act::Step }; 17];
 /// let list = [&[put][..], &steps(0), &[take], &steps(1)].concat();
 /// let mut table = vec![0; foreseen.words as usize];
 /// let mut answers = vec![0; foreseen.answer_bytes as usize];
@@ -256,7 +256,7 @@ pub fn play(p: u32, l: u32, records: &[u8]) -> Played {
 ///
 /// ```
 /// let mut records = vec![0, 1, 0, 0, 7, 0, 0, 0];
-/// records.extend([0; 8].repeat(15));
+/// records.extend([0; 8].repeat(17));
 /// assert_eq!(otq::list(2, 24, &records), Ok(vec![0, 1, 1, 0, 1, 0, 0, 0]));
 /// assert_eq!(otq::list(2, 501, &records), Err(otq::Refusal::Operations));
 /// ```

@@ -47,7 +47,7 @@ pub enum Outcome {
 pub struct Answer {
     pub process: u8,
     pub outcome: Outcome,
-    /// Own steps of the operation, A to Q.
+    /// Own steps of the operation, A to Q: at most 41, 81 or 121 with p = 2, 4 or 8.
     pub steps: u16,
     /// The operation's number among those of its process, from 1.
     pub serial: u32,
@@ -139,10 +139,10 @@ impl From<Step> for [u8; Step::BYTES] {
 
 /// ```
 /// use otq::{Answer, Outcome};
-/// let bytes = [1, 2, 15, 0, 7, 0, 0, 0, 1, 0, 0, 0, 2, 0, 0, 0];
+/// let bytes = [1, 2, 17, 0, 7, 0, 0, 0, 1, 0, 0, 0, 2, 0, 0, 0];
 /// let answer: Answer = bytes.try_into().unwrap();
 /// assert_eq!(answer.outcome, Outcome::Value(7));
-/// assert_eq!((answer.process, answer.steps), (1, 15));
+/// assert_eq!((answer.process, answer.steps), (1, 17));
 /// assert_eq!((answer.serial, answer.root_block), (1, 2));
 /// assert_eq!(<[u8; 16]>::from(answer), bytes);
 /// ```
@@ -232,7 +232,7 @@ impl From<Order> for [u8; Order::BYTES] {
 /// let put = Step { process: 0, act: Act::Put(7) };
 /// let step = Step { process: 0, act: Act::Step };
 /// let mut list = vec![put];
-/// list.extend([step; 15]);
+/// list.extend([step; 17]);
 /// let played = otq::play(2, 24, &otq::bytes_of(list));
 /// assert_eq!(played.run.answers, 1);
 /// ```

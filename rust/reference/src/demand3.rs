@@ -21,7 +21,7 @@ pub enum Violation {
     Call(Refusal),
     /// A record that Run doesn't take.
     NotTaken { record: usize, refusal: Refusal },
-    /// More own steps than 36H + 1.
+    /// More own steps than 40H + 1.
     TooManySteps(Name),
     /// A finished operation outside the root order.
     Missing(Name),
@@ -69,9 +69,9 @@ struct Root {
     block: Vec<Option<u32>>,
 }
 
-/// Most own steps of an operation, 36H + 1.
+/// Most own steps of an operation, 40H + 1.
 pub fn step_limit(shape: Shape) -> u32 {
-    36 * shape.root_height() + 1
+    40 * shape.root_height() + 1
 }
 
 /// Checks demand 3. The records are those that Run took.

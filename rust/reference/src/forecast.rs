@@ -29,7 +29,7 @@ pub fn forecast(p: u32, l: u32, begins: &[u8]) -> ForecastResult {
     }
 }
 
-/// Most records of one operation, 36H + 2: its begin and its own steps.
+/// Most records of one operation, 40H + 2: its begin and its own steps.
 pub fn record_limit(shape: Shape) -> u32 {
     1 + step_limit(shape)
 }

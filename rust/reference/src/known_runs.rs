@@ -71,66 +71,66 @@ impl KnownRun {
 
 pub fn m3() -> List {
     let begun = List::new().put(0, 5).take(1);
-    begun.steps(0, 4).steps(1, 4).steps(0, 11).steps(1, 9)
+    begun.steps(0, 4).steps(1, 4).steps(0, 13).steps(1, 11)
 }
 
 pub fn m4() -> List {
-    List::new().take(0).steps(0, 15)
+    List::new().take(0).steps(0, 17)
 }
 
 pub fn m5() -> List {
-    let puts = List::new().put(1, 10).steps(1, 16).put(0, 20).steps(0, 27);
-    puts.steps(1, 9).take(2).steps(2, 27)
+    let puts = List::new().put(1, 10).steps(1, 18).put(0, 20).steps(0, 31);
+    puts.steps(1, 11).take(2).steps(2, 31)
 }
 
 /// M6 by these processes in the place of 0 and 1.
 pub fn m6(helped: u32, helper: u32) -> List {
     let begun = List::new().put(helped, 9).steps(helped, 1);
-    begun.put(helper, 8).steps(helper, 18).steps(helped, 12)
+    begun.put(helper, 8).steps(helper, 20).steps(helped, 14)
 }
 
-/// A put by 0 and 15 steps: whole at p = 2.
+/// A put by 0 and 17 steps: whole at p = 2.
 fn one_put() -> List {
-    List::new().put(0, 1).steps(0, 15)
+    List::new().put(0, 1).steps(0, 17)
 }
 
 /// M1 to M11; M10 and M11 on either side of their edge.
 pub fn known_runs() -> Vec<KnownRun> {
     use Outcome::{Nothing, PutDone, Value};
-    let m2 = List::new().put(0, 7).steps(0, 27).take(1).steps(1, 27);
+    let m2 = List::new().put(0, 7).steps(0, 31).take(1).steps(1, 31);
     let twice = List::new().put(0, 1).put(0, 2);
     vec![
         KnownRun::new("M1", 2, 24, List::new()),
         KnownRun::new("M2", 4, 24, m2)
-            .answer(0, PutDone, 27, 1)
-            .answer(1, Value(7), 27, 2),
+            .answer(0, PutDone, 31, 1)
+            .answer(1, Value(7), 31, 2),
         KnownRun::new("M3", 2, 24, m3())
-            .answer(0, PutDone, 15, 1)
-            .answer(1, Value(5), 13, 1),
-        KnownRun::new("M4", 2, 24, m4()).answer(0, Nothing, 15, 1),
+            .answer(0, PutDone, 17, 1)
+            .answer(1, Value(5), 15, 1),
+        KnownRun::new("M4", 2, 24, m4()).answer(0, Nothing, 17, 1),
         KnownRun::new("M5", 4, 24, m5())
-            .answer(0, PutDone, 27, 1)
-            .answer(1, PutDone, 25, 1)
-            .answer(2, Value(10), 27, 2),
+            .answer(0, PutDone, 31, 1)
+            .answer(1, PutDone, 29, 1)
+            .answer(2, Value(10), 31, 2),
         KnownRun::new("M6", 2, 24, m6(0, 1))
-            .answer(1, PutDone, 18, 1)
-            .answer(0, PutDone, 13, 1),
+            .answer(1, PutDone, 20, 1)
+            .answer(0, PutDone, 15, 1),
         KnownRun::new("M7", 2, 1, one_put().put(0, 2))
-            .answer(0, PutDone, 15, 1)
-            .refused(8, 16),
+            .answer(0, PutDone, 17, 1)
+            .refused(8, 18),
         KnownRun::new("M8", 2, 24, List::new().steps(0, 1)).refused(7, 0),
         KnownRun::new("M9", 2, 2, twice).refused(6, 1),
         KnownRun::new("M10, 15 bytes", 2, 24, one_put())
             .bytes(15)
-            .refused(9, 15),
+            .refused(9, 17),
         KnownRun::new("M10, 16 bytes", 2, 24, one_put())
             .bytes(16)
-            .answer(0, PutDone, 15, 1),
+            .answer(0, PutDone, 17, 1),
         KnownRun::new("M11, 41 words", 2, 1, one_put())
             .words(41)
             .refused(3, 0),
         KnownRun::new("M11, 42 words", 2, 1, one_put())
             .words(42)
-            .answer(0, PutDone, 15, 1),
+            .answer(0, PutDone, 17, 1),
     ]
 }

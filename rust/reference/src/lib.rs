@@ -2,6 +2,7 @@
 
 pub mod account;
 pub mod begin_lists;
+pub mod between_reads;
 pub mod c3_words;
 pub mod check;
 pub mod demand3;

@@ -1,7 +1,7 @@
 //! A process: idle, or inside an operation at one named step with its registers.
 
 use crate::records::Operation;
-use crate::tree::Block;
+use crate::tree::{Block, Totals};
 
 #[derive(Clone, Copy, PartialEq, Eq, Hash, Debug)]
 pub enum Attempt {
@@ -35,6 +35,13 @@ pub struct Advance {
     pub node: u32,
     pub place: u32,
     pub then: Then,
+}
+
+/// The children's places that C1 and C2 found.
+#[derive(Clone, Copy, PartialEq, Eq, Hash, Debug)]
+pub struct Ends {
+    pub left: u32,
+    pub right: u32,
 }
 
 /// The step that a busy process does next, with that step's own registers.
@@ -81,11 +88,24 @@ pub enum Step {
         h: u32,
         end_left: u32,
     },
-    C3 {
+    C3L {
         refresh: Refresh,
         h: u32,
-        end_left: u32,
-        end_right: u32,
+        ends: Ends,
+    },
+    C3R {
+        refresh: Refresh,
+        h: u32,
+        ends: Ends,
+        /// Those of the left child's block.
+        left: Totals,
+    },
+    C3N {
+        refresh: Refresh,
+        h: u32,
+        ends: Ends,
+        /// The sums of both children's.
+        totals: Totals,
     },
     C4 {
         refresh: Refresh,
@@ -136,12 +156,14 @@ pub enum StepName {
     R5,
     C1,
     C2,
-    C3,
+    C3L,
+    C3R,
+    C3N,
     C4,
     Q,
 }
 
-pub const STEP_NAMES: [StepName; 14] = [
+pub const STEP_NAMES: [StepName; 16] = [
     StepName::A,
     StepName::V1,
     StepName::V2,
@@ -153,7 +175,9 @@ pub const STEP_NAMES: [StepName; 14] = [
     StepName::R5,
     StepName::C1,
     StepName::C2,
-    StepName::C3,
+    StepName::C3L,
+    StepName::C3R,
+    StepName::C3N,
     StepName::C4,
     StepName::Q,
 ];
@@ -172,7 +196,9 @@ impl Step {
             Step::R5 { .. } => StepName::R5,
             Step::C1 { .. } => StepName::C1,
             Step::C2 { .. } => StepName::C2,
-            Step::C3 { .. } => StepName::C3,
+            Step::C3L { .. } => StepName::C3L,
+            Step::C3R { .. } => StepName::C3R,
+            Step::C3N { .. } => StepName::C3N,
             Step::C4 { .. } => StepName::C4,
             Step::Q => StepName::Q,
         }

@@ -1,9 +1,9 @@
 //! The step rules: what each named step does and which step follows it.
 
 use crate::memory::Memory;
-use crate::process::{Advance, Attempt, Refresh, Step, Then};
+use crate::process::{Advance, Attempt, Ends, Refresh, Step, Then};
 use crate::records::Operation;
-use crate::tree::{left_child, parent, right_child, Block, Totals, ROOT};
+use crate::tree::{left_child, parent, right_child, Block, Totals, Tree, ROOT};
 
 /// The first step of an advance; at the root V3 only.
 fn begin_advance(node: u32, place: u32, then: Then) -> Step {
@@ -123,7 +123,7 @@ fn help(memory: &Memory, child: u32, c: u32, then: Then) -> Step {
     }
 }
 
-/// C1 to C4.
+/// C1, C2 and C4.
 fn create_step(memory: &mut Memory, step: Step) -> Step {
     match step {
         Step::C1 { refresh, h } => {
@@ -139,52 +139,78 @@ fn create_step(memory: &mut Memory, step: Step) -> Step {
             h,
             end_left,
         } => {
-            let end_right = memory.head(right_child(refresh.node)) - 1;
-            Step::C3 {
-                refresh,
-                h,
-                end_left,
-                end_right,
-            }
+            let ends = Ends {
+                left: end_left,
+                right: memory.head(right_child(refresh.node)) - 1,
+            };
+            Step::C3L { refresh, h, ends }
         }
-        Step::C3 {
-            refresh,
-            h,
-            end_left,
-            end_right,
-        } => build(memory, refresh, h, end_left, end_right),
         Step::C4 { refresh, h, block } => {
             let node = refresh.node;
             let success = memory.write_if_absent(node, h, block);
             begin_advance(node, h, Then::EndRefresh { refresh, success })
         }
+        summing => sum_step(&memory.tree, summing),
+    }
+}
+
+/// C3L, C3R and C3N. Of the table each takes the puts and takes of one block, C3N in the root also
+/// its size; no other word.
+fn sum_step(tree: &Tree, step: Step) -> Step {
+    match step {
+        // The left child's block at the left end.
+        Step::C3L { refresh, h, ends } => {
+            let left = tree.totals(left_child(refresh.node), ends.left);
+            Step::C3R {
+                refresh,
+                h,
+                ends,
+                left,
+            }
+        }
+        // The right child's block at the right end, added to the left one.
+        Step::C3R {
+            refresh,
+            h,
+            ends,
+            left,
+        } => {
+            let totals = left.plus(tree.totals(right_child(refresh.node), ends.right));
+            Step::C3N {
+                refresh,
+                h,
+                ends,
+                totals,
+            }
+        }
+        // The node's own block h - 1, and what follows from it.
+        Step::C3N {
+            refresh,
+            h,
+            ends,
+            totals,
+        } => decide(tree, refresh, h, ends, totals),
         other => unreachable!("{other:?} is done elsewhere"),
     }
 }
 
-/// C3: the block from the totals of the children's blocks at the ends; equal totals end the
-/// refresh with success, without C4 and without an advance. Of the table it takes the totals of
-/// three blocks and, in the root, a size; no other word.
-fn build(memory: &Memory, refresh: Refresh, h: u32, end_left: u32, end_right: u32) -> Step {
-    let (tree, node) = (&memory.tree, refresh.node);
-    let left = tree.totals(left_child(node), end_left);
-    let right = tree.totals(right_child(node), end_right);
-    let before = tree.totals(node, h - 1);
-    let (puts, takes) = (left.puts + right.puts, left.takes + right.takes);
-    let totals = Totals { puts, takes };
+/// The block with these totals; if those of block h - 1 are equal, the refresh ends with success,
+/// without C4 and without an advance.
+fn decide(tree: &Tree, refresh: Refresh, h: u32, ends: Ends, totals: Totals) -> Step {
+    let before = tree.totals(refresh.node, h - 1);
     if totals == before {
         return end_refresh(refresh, true);
     }
-    let size = match node {
+    let size = match refresh.node {
         ROOT => size_after(tree.root_size(h - 1), before, totals),
         _ => 0,
     };
     let block = Block {
-        puts,
-        takes,
+        puts: totals.puts,
+        takes: totals.takes,
         superblock: 0,
-        end_left,
-        end_right,
+        end_left: ends.left,
+        end_right: ends.right,
         size,
     };
     Step::C4 { refresh, h, block }

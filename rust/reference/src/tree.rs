@@ -62,6 +62,15 @@ pub struct Totals {
     pub takes: u32,
 }
 
+impl Totals {
+    pub fn plus(self, other: Totals) -> Totals {
+        Totals {
+            puts: self.puts + other.puts,
+            takes: self.takes + other.takes,
+        }
+    }
+}
+
 /// p processes, height H of the root, and L operations a process.
 #[derive(Clone, Copy, PartialEq, Eq, Hash, Debug)]
 pub struct Shape {

@@ -16,10 +16,10 @@ fn name(process: u32, serial: u32) -> Name {
     Name { process, serial }
 }
 
-/// A put by 0 that finishes, then a take by 1 that does 14 steps and has only its Q to do, then a
+/// A put by 0 that finishes, then a take by 1 that does 16 steps and has only its Q to do, then a
 /// put by 0 that does 2 steps; with the table and the log that Run leaves.
 fn small() -> (Account, Tree, Vec<u8>) {
-    let list = List::new().put(0, 5).steps(0, 15).take(1).steps(1, 14);
+    let list = List::new().put(0, 5).steps(0, 17).take(1).steps(1, 16);
     let list = list.put(0, 6).steps(0, 2).bytes();
     let shape = Shape::new(2, 2).unwrap();
     let after = run_amply(2, 2, &list);
@@ -39,8 +39,8 @@ fn begins_ends_and_steps() {
             account.own_steps(x)
         )),
         [
-            (true, true, 15),
-            (true, false, 14),
+            (true, true, 17),
+            (true, false, 16),
             (true, false, 2),
             (false, false, 0),
             (false, false, 0)
@@ -76,14 +76,14 @@ fn what_finished_before_what() {
 fn what_each_record_does() {
     let (account, ..) = small();
     let events = account.events();
-    assert_eq!(events.len(), 34);
+    assert_eq!(events.len(), 38);
     assert_eq!(events[0], Event::Opens(name(0, 1), Operation::Put(5)));
-    assert_eq!(events[1..15], [Event::Moves(name(0, 1)); 14]);
-    assert_eq!(events[15], Event::Finishes(name(0, 1)));
-    assert_eq!(events[16], Event::Opens(name(1, 1), Operation::Take));
-    assert_eq!(events[17..31], [Event::Moves(name(1, 1)); 14]);
-    assert_eq!(events[31], Event::Opens(name(0, 2), Operation::Put(6)));
-    assert_eq!(events[32..], [Event::Moves(name(0, 2)); 2]);
+    assert_eq!(events[1..17], [Event::Moves(name(0, 1)); 16]);
+    assert_eq!(events[17], Event::Finishes(name(0, 1)));
+    assert_eq!(events[18], Event::Opens(name(1, 1), Operation::Take));
+    assert_eq!(events[19..35], [Event::Moves(name(1, 1)); 16]);
+    assert_eq!(events[35], Event::Opens(name(0, 2), Operation::Put(6)));
+    assert_eq!(events[36..], [Event::Moves(name(0, 2)); 2]);
 }
 
 #[test]

@@ -24,9 +24,9 @@ const CASES: [&str; 23] = [
     "R3 finds the block present",
     "R5 finds the block absent",
     "R5 finds the block present",
-    "C3 First finds equal totals",
-    "C3 Second finds equal totals",
-    "C3 keeps the size from falling below 0",
+    "C3N First finds equal totals",
+    "C3N Second finds equal totals",
+    "C3N keeps the size from falling below 0",
     "C4 First writes",
     "C4 First finds it present",
     "C4 Second writes",
@@ -56,7 +56,7 @@ fn case(memory: &Memory, step: Step, next: Option<Step>) -> Option<String> {
         Step::V3 { advance } => raise_case(memory, advance),
         Step::R3 { refresh, c, .. } => help_case("R3", present(left_child(refresh.node), c)),
         Step::R5 { refresh, c, .. } => help_case("R5", present(right_child(refresh.node), c)),
-        Step::C3 { refresh, h, .. } => return build_case(memory, refresh.attempt, h, next),
+        Step::C3N { refresh, h, .. } => return build_case(memory, refresh.attempt, h, next),
         Step::C4 { refresh, h, .. } => {
             let lost = present(refresh.node, h);
             let how = if lost { "finds it present" } else { "writes" };
@@ -84,13 +84,13 @@ fn help_case(step: &str, present: bool) -> String {
 
 fn build_case(memory: &Memory, attempt: Attempt, h: u32, next: Option<Step>) -> Option<String> {
     let Some(Step::C4 { refresh, block, .. }) = next else {
-        return Some(format!("C3 {attempt:?} finds equal totals"));
+        return Some(format!("C3N {attempt:?} finds equal totals"));
     };
     let before = memory.tree.block(refresh.node, h - 1);
     let held = i64::from(before.size) + i64::from(block.puts - before.puts);
     let takes = i64::from(block.takes - before.takes);
     let below = refresh.node == ROOT && held < takes;
-    below.then(|| "C3 keeps the size from falling below 0".into())
+    below.then(|| "C3N keeps the size from falling below 0".into())
 }
 
 /// Plays a list and counts the cases.

@@ -1,10 +1,10 @@
-//! C3 takes six words of the table, in the root seven, and no head: with all others random it
-//! leads to the same step with the same registers. Each of these words plays a part.
+//! C3L, C3R and C3N take two words of the table each, C3N in the root three, and no head: with all
+//! others random each leads to the same step with the same registers. Each of these words plays a
+//! part.
 
-use reference::c3_words::{random_words, size_word, AtC3, MetC3};
+use reference::c3_words::{paces, random_words, size_word, AtC3, MetC3};
 use reference::machine::Machine;
 use reference::memory::Memory;
-use reference::process::StepName;
 use reference::random::Random;
 use reference::records::StepRecord;
 use reference::run::play_record;
@@ -50,8 +50,8 @@ impl Met {
             let other = at.with_one_more(memory, word);
             other.is_some_and(|other| at.next_on(machine, &other) != next)
         };
-        for (changed, &word) in self.changed.iter_mut().zip(&at.words) {
-            *changed += u64::from(changes(word));
+        for (number, word) in at.numbered_words() {
+            self.changed[number] += u64::from(changes(word));
         }
         self.steps.count(at, next);
         if at.node != ROOT {
@@ -61,7 +61,7 @@ impl Met {
     }
 }
 
-/// Plays a list. Each C3 is compared at every record from when its process comes to it.
+/// Plays a list. Each such step is compared at every record from when its process comes to it.
 fn compare_list(plan: &Plan, met: &mut Met) {
     let mut random = Random::new(plan.seed);
     let mut machine = Machine::start(Shape::new(plan.p, plan.l).unwrap());
@@ -79,9 +79,7 @@ fn compare_list(plan: &Plan, met: &mut Met) {
 
 fn compare_lists(p: u32) -> Met {
     let mut met = Met::default();
-    let (step, after) = (StepName::C3, false);
-    let stalls = Pace::Stalls { step, after };
-    for pace in [Pace::Uniform, Pace::Lockstep, Pace::Bursts(9), stalls] {
+    for pace in paces() {
         for (l, seed) in [(1, 0), (1, 1), (2, 2), (3, 3), (5, 4)] {
             compare_list(&Plan::new(p, l, pace, seed), &mut met);
         }

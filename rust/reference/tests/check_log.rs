@@ -84,7 +84,7 @@ fn records_lacking_in_one_log() {
 
 #[test]
 fn an_empty_log_of_an_unfinished_list_is_the_same() {
-    let list = List::new().put(0, 1).steps(0, 14).bytes();
+    let list = List::new().put(0, 1).steps(0, 16).bytes();
     assert_check(2, 1, &list, &[], SAME);
     assert_check(2, 1, &list, &[0; 16], differs(0));
     assert_check(2, 1, &[], &[], SAME);

@@ -90,12 +90,12 @@ fn a_put_answered_as_a_take() {
 #[test]
 fn a_changed_step_count() {
     let mut left = Left::good();
-    left.answer(1)[2] = 14;
+    left.answer(1)[2] = 16;
     assert_violation(
         &left,
         Violation::AnswerSteps {
             answer: 1,
-            counted: 15,
+            counted: 17,
         },
     );
 }
@@ -231,7 +231,7 @@ fn records_that_run_does_not_take() {
     assert_violation(
         &left,
         Violation::NotTaken {
-            record: 64,
+            record: 72,
             refusal,
         },
     );
@@ -241,10 +241,10 @@ fn records_that_run_does_not_take() {
 
 #[test]
 fn an_unfinished_operation_may_stand_once_or_not_at_all() {
-    // The last operation stops after C4, its 13th step, or just before it.
+    // The last operation stops after C4, its 15th step, or just before it.
     for (dropped, standing) in [(2, true), (3, false)] {
         let mut left = Left::good();
-        left.records.truncate(8 * (64 - dropped));
+        left.records.truncate(8 * (72 - dropped));
         left.answers.truncate(48);
         let table = run_amply(P, L, &left.records).table;
         assert_eq!(table == left.table, standing);
@@ -256,7 +256,7 @@ fn an_unfinished_operation_may_stand_once_or_not_at_all() {
 #[test]
 fn more_own_steps_than_the_limit() {
     let limit_of = |p| step_limit(Shape::new(p, 1).unwrap());
-    assert_eq!([2, 4, 8].map(limit_of), [37, 73, 109]);
+    assert_eq!([2, 4, 8].map(limit_of), [41, 81, 121]);
     let shape = Shape::new(P, L).unwrap();
     let within = |left: &Left, most| {
         let Left {
@@ -267,8 +267,8 @@ fn more_own_steps_than_the_limit() {
         check_within(shape, records, answers, table, most)
     };
     let mut left = Left::good();
-    assert_eq!(within(&left, 15), Ok(()));
-    assert_eq!(within(&left, 14), Err(Violation::TooManySteps(name(0, 1))));
+    assert_eq!(within(&left, 17), Ok(()));
+    assert_eq!(within(&left, 16), Err(Violation::TooManySteps(name(0, 1))));
     // Own steps of an operation without its Q count too.
     left.records = left.records[..8 * 12].to_vec();
     left.answers.clear();

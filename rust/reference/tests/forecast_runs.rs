@@ -161,7 +161,7 @@ fn the_known_runs() {
 /// Any list at all: the limits of p·L begins, and more room than for p·L answers changes nothing.
 fn assert_limits_of_any_run(p: u32, l: u32, list: &[u8]) {
     let operations = (p * l) as usize;
-    let most = [38, 74, 110][p.ilog2() as usize - 1] * operations;
+    let most = [42, 82, 122][p.ilog2() as usize - 1] * operations;
     let played = play(shape(p, l), list, Room::Unlimited);
     assert!(played.taken <= most && played.answers.len() <= operations);
     let room = Room::Bytes(16 * operations);

@@ -9,9 +9,9 @@ use reference::tree::{Shape, ROOT};
 const P: u32 = 2;
 const L: u32 = 4;
 
-/// The past of so many operations, 16 records each.
+/// The past of so many operations, 18 records each.
 fn past_of(operations: usize) -> Past {
-    past(P, L, &one_by_one()[..8 * 16 * operations])
+    past(P, L, &one_by_one()[..8 * 18 * operations])
 }
 
 /// The past of all four, changed, as what follows that of the first three.

@@ -207,7 +207,7 @@ fn assert_distant_pair(p: u32, taker: usize) {
     // Below the node where they meet each has its nodes alone.
     let met = taker.ilog2() as usize..p.ilog2() as usize;
     assert_states(&search, 3000, met);
-    let limit = 36 * p.ilog2() as u16 + 1;
+    let limit = 40 * p.ilog2() as u16 + 1;
     assert!(search.most_steps <= limit);
 }
 

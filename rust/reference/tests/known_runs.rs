@@ -90,7 +90,7 @@ fn m6_words_of_the_table() {
 /// A help's V1 reads the head anew: it differs here from the one R1 has read.
 #[test]
 fn a_help_reads_the_head_of_its_own_time() {
-    let list = List::new().put(1, 1).steps(1, 5).put(0, 2).steps(0, 15);
+    let list = List::new().put(1, 1).steps(1, 5).put(0, 2).steps(0, 17);
     let list = list.put(0, 3).steps(0, 1).steps(1, 5);
     let memory = played(2, 2, list).machine.memory;
     assert_eq!(memory.tree.block(2, 2), block([2, 0, 2, 3, 0, 0]));
@@ -115,6 +115,6 @@ fn m6_exchanged() {
     let answers: Vec<_> = answers
         .map(|a| (a.process, a.steps, a.root_block))
         .collect();
-    assert_eq!(answers, [(0, 18, 1), (1, 13, 1)]);
+    assert_eq!(answers, [(0, 20, 1), (1, 15, 1)]);
     assert_eq!(played.machine.memory.head(3), 2);
 }

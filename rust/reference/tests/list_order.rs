@@ -19,7 +19,7 @@ fn puts_come_before_takes_in_a_block() {
         .put(1, 5)
         .steps(0, 4)
         .steps(1, 4)
-        .steps(1, 11);
+        .steps(1, 13);
     let order = order_of(2, 24, &list.bytes());
     let put = [1, 1, 1, 0, 1, 0, 0, 0];
     let take = [0, 2, 1, 0, 1, 0, 0, 0];
@@ -31,9 +31,9 @@ fn place_order_below_comes_before_process_order() {
     // M5's two puts.
     let list = List::new()
         .put(1, 10)
-        .steps(1, 16)
+        .steps(1, 18)
         .put(0, 20)
-        .steps(0, 27)
+        .steps(0, 31)
         .bytes();
     let order = order_of(4, 24, &list);
     assert_eq!(
@@ -44,10 +44,10 @@ fn place_order_below_comes_before_process_order() {
 
 #[test]
 fn unfinished_operations_are_listed_from_c4_on() {
-    // A put of p = 2 writes its root block at its 13th step, C4.
-    for steps in 0..=15 {
+    // A put of p = 2 writes its root block at its 15th step, C4.
+    for steps in 0..=17 {
         let list = List::new().put(1, 3).steps(1, steps).bytes();
-        let expected = if steps < 13 {
+        let expected = if steps < 15 {
             vec![]
         } else {
             vec![1, 1, 1, 0, 1, 0, 0, 0]
@@ -60,9 +60,9 @@ fn unfinished_operations_are_listed_from_c4_on() {
 fn a_put_of_0_is_a_put() {
     let list = List::new()
         .put(0, 0)
-        .steps(0, 15)
+        .steps(0, 17)
         .take(0)
-        .steps(0, 15)
+        .steps(0, 17)
         .bytes();
     let expected = [[0, 1, 1, 0, 1, 0, 0, 0], [0, 2, 2, 0, 2, 0, 0, 0]].concat();
     assert_eq!(order_of(2, 2, &list), expected);
@@ -72,7 +72,7 @@ fn a_put_of_0_is_a_put() {
 fn serials_above_a_byte() {
     let mut list = List::new();
     for _ in 0..300 {
-        list = list.take(1).steps(1, 15);
+        list = list.take(1).steps(1, 17);
     }
     let order = order_of(2, 300, &list.bytes());
     assert_eq!(order.len(), 2400);
@@ -113,8 +113,8 @@ fn the_empty_list_needs_no_output() {
 
 #[test]
 fn a_record_refusal_comes_before_10() {
-    let list = List::new().put(0, 1).steps(0, 16).bytes();
+    let list = List::new().put(0, 1).steps(0, 18).bytes();
     assert_eq!(list_with(2, 1, &list, 42, 0).result, listed(7, 0));
-    let whole = &list[..8 * 16];
+    let whole = &list[..8 * 18];
     assert_eq!(list_with(2, 1, whole, 42, 0).result, listed(10, 0));
 }

@@ -28,14 +28,14 @@ fn assert_print(input: &[u8], print: &str) {
 }
 
 fn worked() -> List {
-    List::new().put(0, 7).steps(0, 27).take(1).steps(1, 27)
+    List::new().put(0, 7).steps(0, 31).take(1).steps(1, 31)
 }
 
 #[test]
 fn worked_print() {
     assert_print(
         &worked().bytes(),
-        "put 0 1 27 1\ntake 1 1 27 2 7\nend 0 56\n",
+        "put 0 1 31 1\ntake 1 1 31 2 7\nend 0 64\n",
     );
 }
 
@@ -43,11 +43,11 @@ fn worked_print() {
 fn a_take_of_nothing_and_a_large_value() {
     let list = List::new()
         .take(3)
-        .steps(3, 27)
+        .steps(3, 31)
         .put(3, u32::MAX)
-        .steps(3, 27);
-    let list = list.take(0).steps(0, 27).bytes();
-    let print = "take 3 1 27 1 none\nput 3 2 27 2\ntake 0 1 27 3 4294967295\nend 0 84\n";
+        .steps(3, 31);
+    let list = list.take(0).steps(0, 31).bytes();
+    let print = "take 3 1 31 1 none\nput 3 2 31 2\ntake 0 1 31 3 4294967295\nend 0 96\n";
     assert_print(&list, print);
 }
 
@@ -57,7 +57,7 @@ fn refusals_end_the_print() {
     assert_print(&[0; 7], "end 4 0\n");
     assert_print(
         &worked().steps(1, 1).bytes(),
-        "put 0 1 27 1\ntake 1 1 27 2 7\nend 7 56\n",
+        "put 0 1 31 1\ntake 1 1 31 2 7\nend 7 64\n",
     );
     assert_print(&List::new().put(4, 0).bytes(), "end 5 0\n");
     assert_print(&List::new().put(1, 0).put(1, 0).bytes(), "end 6 1\n");
@@ -67,21 +67,21 @@ fn refusals_end_the_print() {
 fn all_operations_have_room() {
     let mut list = List::new();
     for operation in 0..P * L {
-        list = list.put(operation % P, operation).steps(operation % P, 27);
+        list = list.put(operation % P, operation).steps(operation % P, 31);
     }
     let list = list.bytes();
     let print = print_run(&list);
     assert_eq!(print.lines().count(), 97);
-    assert!(print.ends_with("put 3 24 27 96\nend 0 2688\n"));
+    assert!(print.ends_with("put 3 24 31 96\nend 0 3072\n"));
     let one_more = [list, List::new().put(0, 0).bytes()].concat();
-    assert!(print_run(&one_more).ends_with("put 3 24 27 96\nend 8 2688\n"));
+    assert!(print_run(&one_more).ends_with("put 3 24 31 96\nend 8 3072\n"));
 }
 
 #[test]
 fn input_as_long_as_the_buffer_and_longer() {
     let mut list = worked().bytes();
     list.resize(RECORD_BYTES, 0);
-    assert_print(&list, "put 0 1 27 1\ntake 1 1 27 2 7\nend 7 56\n");
+    assert_print(&list, "put 0 1 31 1\ntake 1 1 31 2 7\nend 7 64\n");
     list.push(0);
     assert_print(&list, "long\n");
     list.resize(4 * RECORD_BYTES, 0);

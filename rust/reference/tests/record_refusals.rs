@@ -123,10 +123,10 @@ fn ill_formed_comes_before_the_other_numbers() {
 #[test]
 fn begun_all_comes_before_not_idle() {
     for l in [1, 2, 24, 500] {
-        for steps in [0, 1, 14] {
-            let ended = List::new().whole_puts(0, l - 1, 15);
+        for steps in [0, 1, 16] {
+            let ended = List::new().whole_puts(0, l - 1, 17);
             let inside = ended.put(0, 1).steps(0, steps);
-            let place = 16 * (l as usize - 1) + 1 + steps;
+            let place = 18 * (l as usize - 1) + 1 + steps;
             for list in [inside.clone().put(0, 2), inside.take(0)] {
                 let list = list.bytes();
                 assert_refused_at(2, l, &list, place, 8);

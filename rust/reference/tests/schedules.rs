@@ -124,9 +124,9 @@ fn the_mix_follows_the_plan() {
 }
 
 #[test]
-fn names_are_those_of_the_paper() {
+fn names_are_in_the_order_of_the_paper() {
     let names: Vec<String> = STEP_NAMES.iter().map(|name| format!("{name:?}")).collect();
-    let paper = "A V1 V2 V3 R1 R2 R3 R4 R5 C1 C2 C3 C4 Q";
-    assert_eq!(names.join(" "), paper);
-    assert_eq!(STEP_NAMES[13], StepName::Q);
+    let order = "A V1 V2 V3 R1 R2 R3 R4 R5 C1 C2 C3L C3R C3N C4 Q";
+    assert_eq!(names.join(" "), order);
+    assert_eq!(STEP_NAMES[15], StepName::Q);
 }

@@ -5,7 +5,7 @@ use reference::process::{Step, STEP_NAMES};
 use reference::records::{Act, Operation, StepRecord};
 use reference::run::play_record;
 use reference::schedules::{schedule, Ending, Pace, Plan};
-use reference::tree::{left_child, parent, right_child, Block, Shape, ROOT};
+use reference::tree::{left_child, parent, right_child, Block, Shape, Totals, ROOT};
 
 /// A block that is not what it was: node, place, and what stands there now.
 type BlockChange = (u32, u32, Block);
@@ -72,24 +72,86 @@ fn expected(
     }
 }
 
-/// What the step must have read into a register, and what is there.
-fn read(before: &Machine, step: Step, next: Step) -> Option<(u32, u32)> {
-    let head = |node| before.memory.head(node);
+/// What the step must have read into registers, and what is there.
+fn read(before: &Machine, step: Step, next: Step) -> Option<(Vec<u32>, Vec<u32>)> {
+    let head = |node| vec![before.memory.head(node)];
+    let totals = |node, place| before.memory.tree.block(node, place).words()[..2].to_vec();
     Some(match (step, next) {
         (Step::V1 { advance }, Step::V2 { parent_head, .. }) => {
-            (head(parent(advance.node)), parent_head)
+            (head(parent(advance.node)), vec![parent_head])
         }
-        (Step::R1 { refresh }, Step::R2 { h, .. }) => (head(refresh.node), h),
-        (Step::R2 { refresh, .. }, Step::R3 { c, .. }) => (head(left_child(refresh.node)), c),
-        (Step::R4 { refresh, .. }, Step::R5 { c, .. }) => (head(right_child(refresh.node)), c),
+        (Step::R1 { refresh }, Step::R2 { h, .. }) => (head(refresh.node), vec![h]),
+        (Step::R2 { refresh, .. }, Step::R3 { c, .. }) => (head(left_child(refresh.node)), vec![c]),
+        (Step::R4 { refresh, .. }, Step::R5 { c, .. }) => {
+            (head(right_child(refresh.node)), vec![c])
+        }
         (Step::C1 { refresh, .. }, Step::C2 { end_left, .. }) => {
-            (head(left_child(refresh.node)), end_left + 1)
+            (head(left_child(refresh.node)), vec![end_left + 1])
         }
-        (Step::C2 { refresh, .. }, Step::C3 { end_right, .. }) => {
-            (head(right_child(refresh.node)), end_right + 1)
+        (
+            Step::C2 {
+                refresh, end_left, ..
+            },
+            Step::C3L { ends, .. },
+        ) => {
+            let met = [head(right_child(refresh.node)), vec![end_left]].concat();
+            (met, vec![ends.right + 1, ends.left])
+        }
+        (
+            Step::C3L { refresh, ends, .. },
+            Step::C3R {
+                ends: kept, left, ..
+            },
+        ) => {
+            let read = totals(left_child(refresh.node), ends.left);
+            let met = [read, vec![ends.left, ends.right]].concat();
+            (met, vec![left.puts, left.takes, kept.left, kept.right])
+        }
+        (
+            Step::C3R {
+                refresh,
+                ends,
+                left,
+                ..
+            },
+            Step::C3N {
+                ends: kept,
+                totals: sums,
+                ..
+            },
+        ) => {
+            let read = totals(right_child(refresh.node), ends.right);
+            let met = [read, vec![ends.left, ends.right]].concat();
+            let added = [sums.puts - left.puts, sums.takes - left.takes];
+            (met, [added, [kept.left, kept.right]].concat())
         }
         _ => return None,
     })
+}
+
+/// C3N: C4 follows with the sums and the ends, unless block h - 1 has the same totals.
+fn assert_decision(before: &Machine, step: Step, next: Step) {
+    let Step::C3N {
+        refresh,
+        h,
+        ends,
+        totals: Totals { puts, takes },
+    } = step
+    else {
+        return;
+    };
+    let old = before.memory.tree.block(refresh.node, h - 1);
+    let built = match next {
+        Step::C4 {
+            h: place, block, ..
+        } => {
+            let words = [puts, takes, 0, ends.left, ends.right];
+            assert_eq!((place, &block.words()[..5]), (h, &words[..]));
+            true
+        }
+        _ => false,
+    };
+    assert_eq!(built, (old.puts, old.takes) != (puts, takes), "{step:?}");
 }
 
 /// One record: its effect on the memory, its reads, and nothing in other processes.
@@ -104,9 +166,13 @@ fn assert_effect(before: &Machine, after: &Machine, operation: Operation, record
     };
     let effect = expected(before, process, operation, step);
     assert_eq!(changes(before, after), effect, "{step:?}");
-    if let Some((head, register)) = after.next_step(process).and_then(|n| read(before, step, n)) {
-        assert_eq!(register, head, "{step:?}");
+    let Some(next) = after.next_step(process) else {
+        return;
+    };
+    if let Some((read, registers)) = read(before, step, next) {
+        assert_eq!(registers, read, "{step:?}");
     }
+    assert_decision(before, step, next);
 }
 
 fn assert_effects(plan: &Plan) {

@@ -1,6 +1,7 @@
 //! All tests of the reference version, one file for each topic.
 
 mod account;
+mod between_reads;
 mod branches;
 mod c3_words;
 mod call_refusals;

@@ -32,9 +32,9 @@ impl Left {
     /// Root blocks 1 to 4 hold a block each: of leaf 2, leaf 3, leaf 2 and leaf 3. The third
     /// has its super from before root block 2.
     fn good() -> Left {
-        let first = List::new().put(0, 5).steps(0, 15);
+        let first = List::new().put(0, 5).steps(0, 17);
         let begun = first.put(1, 7).steps(1, 10).put(0, 6).steps(0, 2);
-        let records = begun.steps(1, 5).steps(0, 13).take(1).steps(1, 15).bytes();
+        let records = begun.steps(1, 7).steps(0, 15).take(1).steps(1, 17).bytes();
         Left::of(P, L, &records)
     }
 
@@ -200,7 +200,7 @@ fn a_subblock_that_is_absent() {
 #[test]
 fn a_subblock_past_the_last_place() {
     for end in [2, 3, u32::MAX] {
-        let mut left = Left::of(2, 1, &List::new().put(0, 5).steps(0, 15).bytes());
+        let mut left = Left::of(2, 1, &List::new().put(0, 5).steps(0, 17).bytes());
         *left.word(ROOT, 1, END_LEFT) = end;
         assert_eq!(left.check(), Err(subblock_at(2, 2, 1, 0)));
     }

@@ -21,7 +21,7 @@ fn by_hand(list: List) -> (Vec<u32>, Vec<Subblock>) {
 
 #[test]
 fn the_superblock_at_super() {
-    let (table, found) = by_hand(List::new().put(0, 5).steps(0, 15));
+    let (table, found) = by_hand(List::new().put(0, 5).steps(0, 17));
     assert_eq!(found, [subblock_at(2, 1, 1, 1)]);
     let root = [[0; 6], [1, 0, 0, 1, 0, 1], [0; 6]].concat();
     let leaf_of_0 = [[0; 6], [1, 0, 1, 5, 0, 0]].concat();
@@ -32,7 +32,7 @@ fn the_superblock_at_super() {
 #[test]
 fn the_superblock_one_later() {
     let begun = List::new().put(1, 7).steps(1, 10).put(0, 5).steps(0, 2);
-    let (table, found) = by_hand(begun.steps(1, 5).steps(0, 13));
+    let (table, found) = by_hand(begun.steps(1, 7).steps(0, 15));
     assert_eq!(found, [subblock_at(2, 1, 2, 1), subblock_at(3, 1, 1, 1)]);
     let root = [[0; 6], [1, 0, 0, 0, 1, 1], [2, 0, 0, 1, 1, 2]].concat();
     let leaf_of_0 = [[0; 6], [1, 0, 1, 5, 0, 0]].concat();

@@ -152,10 +152,10 @@ impl Met {
     }
 }
 
-/// Two puts and two takes of p = 2, 16 records each, one after the other: root blocks 1 to 4.
+/// Two puts and two takes of p = 2, 18 records each, one after the other: root blocks 1 to 4.
 pub fn one_by_one() -> Vec<u8> {
-    let puts = List::new().put(0, 5).steps(0, 15).put(1, 6).steps(1, 15);
-    puts.take(0).steps(0, 15).take(1).steps(1, 15).bytes()
+    let puts = List::new().put(0, 5).steps(0, 17).put(1, 6).steps(1, 17);
+    puts.take(0).steps(0, 17).take(1).steps(1, 17).bytes()
 }
 
 /// A mixed list in which all operations finish.

@@ -82,8 +82,8 @@ fn table_by(spoil: Spoil, shape: Shape, list: List) -> Vec<u32> {
 /// A process that stops after its V2 while the other makes two root blocks.
 fn stopped(slow: u32, other: u32) -> List {
     let list = List::new().put(slow, 7).steps(slow, 3);
-    let list = list.put(other, 5).steps(other, 15);
-    list.put(other, 6).steps(other, 15).steps(slow, 12)
+    let list = list.put(other, 5).steps(other, 17);
+    list.put(other, 6).steps(other, 17).steps(slow, 14)
 }
 
 #[test]
@@ -98,8 +98,8 @@ fn without_help_the_superblock_comes_two_later() {
 #[test]
 fn with_its_own_head_as_super_the_superblock_comes_later() {
     let shape = Shape::new(2, 2).unwrap();
-    let two_before = List::new().put(0, 5).steps(0, 15).put(0, 6).steps(0, 15);
-    let list = two_before.put(1, 7).steps(1, 15);
+    let two_before = List::new().put(0, 5).steps(0, 17).put(0, 6).steps(0, 17);
+    let list = two_before.put(1, 7).steps(1, 17);
     let near = |spoil| supers_near(shape, &table_by(spoil, shape, list.clone()));
     assert_eq!(near(RIGHT), Ok(()));
     assert_eq!(near(OWN_HEAD), Err(subblock_at(3, 1, 3, 1)));
@@ -118,7 +118,7 @@ fn with_super_set_again_the_superblock_comes_before_it() {
 fn with_a_block_written_over_the_past_changes() {
     let shape = Shape::new(2, 1).unwrap();
     let past = |spoil, last_steps| {
-        let list = List::new().put(1, 7).steps(1, 12).put(0, 5).steps(0, 15);
+        let list = List::new().put(1, 7).steps(1, 14).put(0, 5).steps(0, 17);
         let table = table_by(spoil, shape, list.steps(1, last_steps));
         Past::left(shape, &table, &[])
     };

@@ -1,18 +1,20 @@
 -- What the code of a named step promises: the memory that it leaves and the step that its process comes to are those of
 -- the rules, whatever it does not look at.
-use Prim.Native.Nat.{ℕ, _+_, _*_, _<_}
+use Prim.Native.Nat.{ℕ, _+_, _*_, _-_, _<_}
 use mathlib.Core.Path.{_≡_}
+use mathlib.Core.Bool.{Bool, true}
 use mathlib.Core.List.{List}
 use Rattle.tree.specs.Shape.{Shape, processes, leafOf}
 use Rattle.steps.specs.declared.Operation.{Operation}
 use Rattle.steps.specs.declared.Operation.the-variants.{Take}
+use Rattle.steps.specs.declared.Visit.{Visit}
 use Rattle.steps.specs.declared.Process.{Process}
 use Rattle.steps.specs.declared.Status.{Status}
 use Rattle.steps.specs.declared.Status.the-variants.{Idle, Busy}
 use Rattle.steps.specs.declared.Step.{Step}
-use Rattle.steps.specs.declared.Step.the-variants.{A, V1, V2, V3, R1, R2, R3, R4, R5, C1, C2, C3, C4, Q}
-use Rattle.steps.specs.Rules.{step, go}
-use Rattle.tree.specs.Contracts.Access.{Begins}
+use Rattle.steps.specs.declared.Step.the-variants.{A, V1, V2, V3, R1, R2, R3, R4, R5, C1, C2, C3L, C3R, C3N, C4, Q}
+use Rattle.steps.specs.Rules.{sameTotals, step, go}
+use Rattle.tree.specs.Contracts.Access.{Begins, nodeBlock}
 use Rattle.tree.specs.Memory.{memoryOf}
 
 -- the parts of the nodes whose blocks a step looks at begin and end where they do in a tree of shape s; A, which knows
@@ -29,7 +31,9 @@ PartsBegin s starts (R4 w) = Unit {0}
 PartsBegin s starts (R5 w c) = Begins s starts (2 * w .node + 1)
 PartsBegin s starts (C1 w) = Unit {0}
 PartsBegin s starts (C2 w l) = Unit {0}
-PartsBegin s starts (C3 w l r) = Begins s starts (w .node) × Begins s starts (2 * w .node) × Begins s starts (2 * w .node + 1)
+PartsBegin s starts (C3L w l r) = Begins s starts (2 * w .node)
+PartsBegin s starts (C3R w l r puts takes) = Begins s starts (2 * w .node + 1)
+PartsBegin s starts (C3N w l r puts takes) = Begins s starts (w .node)
 PartsBegin s starts (C4 w n) = Begins s starts (w .node)
 PartsBegin s starts Q = Unit {0}
 
@@ -86,3 +90,18 @@ StepsByHeads Each heads heads' q r = AtName Each q (NextByHeads heads heads' q r
 
 abbrev pub StepsByTable : ((Step → Type 0) → Type 0) → List ℕ → List ℕ → List ℕ → Process → Process → Type 0
 StepsByTable Each starts table table' q r = AtName Each q (NextByTable starts table table' q r) ((r ≡ q) × (table' ≡ table))
+
+-- C3N has three functions: one decides, and one an outcome gives the process. Where process q is at C3N, P holds of its
+-- registers; at another step, Same does.
+abbrev pub AtC3N : Process → (Visit → ℕ → ℕ → ℕ → ℕ → Type 0) → Type 0 → Type 0
+AtC3N q P Same =
+    ((w : Visit) (l r puts takes : ℕ) → stepIn (q .status) ≡ C3N w l r puts takes → P w l r puts takes)
+    × (((w : Visit) (l r puts takes : ℕ) → stepIn (q .status) ≡ C3N w l r puts takes → ⊥) → Same)
+
+-- whether its totals are those of the block before the head; at another step nothing is added
+abbrev pub Decided : List ℕ → List ℕ → Process → Bool → Type 0
+Decided starts table q b = AtC3N q (λ w l r puts takes. b ≡ sameTotals puts takes (nodeBlock starts table (w .node) (w .head - 1))) (b ≡ true)
+
+-- it becomes z, with step n of its registers next; at another step it stays
+abbrev pub GoesFromC3N : (Visit → ℕ → ℕ → ℕ → ℕ → Step) → Process → Process → Type 0
+GoesFromC3N n q z = AtC3N q (λ w l r puts takes. z ≡ moved q (operationIn (q .status)) (n w l r puts takes)) (z ≡ q)

@@ -7,7 +7,7 @@
 //! answers 32      # answer bytes lent, as many as are needed if it is not said
 //! table 906       # table words lent, as many as are needed if it is not said
 //! put 7 by 0      # process 0 begins a put of 7
-//! step 0 x15      # and does 15 steps
+//! step 0 x17      # and does 17 steps
 //! take by 1
 //! step 1          # one step
 //! raw 00 03 00 00 00 00 00 00   # the 8 bytes of a record that no other line can say

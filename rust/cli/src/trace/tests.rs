@@ -7,11 +7,11 @@ fn list(text: &str) -> List {
     List::of_text(text)
 }
 
-const TEXT: &str = "processes 2\nput 7 by 0\nstep 0 x15\n";
+const TEXT: &str = "processes 2\nput 7 by 0\nstep 0 x17\n";
 
 #[test]
 fn both_agree() {
-    assert_eq!(compare(&list(TEXT), 1, 16), Ok(1));
+    assert_eq!(compare(&list(TEXT), 1, 18), Ok(1));
 }
 
 #[test]
@@ -33,7 +33,7 @@ fn another_table() {
 fn other_answers() {
     let list = list(TEXT);
     let mut traced = Traced::start(&list).unwrap();
-    (0..16).for_each(|_| drop(traced.next().unwrap()));
+    (0..18).for_each(|_| drop(traced.next().unwrap()));
     assert_eq!(traced.compare(), Ok(()));
     traced.answers[0].steps += 1;
     let failure = traced.compare().unwrap_err();

@@ -33,11 +33,14 @@ pub fn play(machine: &mut Machine, record: StepRecord) -> Told {
     let did = match (step, answer, machine.next_step(process)) {
         (Step::A, ..) => written(machine, process),
         (_, Some(answer), _) => ended(answer),
-        (Step::C3 { .. }, _, Some(Step::C4 { refresh, block, .. })) => {
-            let content = content(refresh.node, block);
-            format!("there is more, so it builds a block: {content}")
+        (_, _, Some(Step::C3N { totals: sums, .. })) => {
+            format!("; together {}", totals(sums.puts, sums.takes))
         }
-        (Step::C3 { .. }, ..) => "there is no more, so the refresh has succeeded".to_string(),
+        (Step::C3N { .. }, _, Some(Step::C4 { refresh, block, .. })) => {
+            let content = content(refresh.node, block);
+            format!("; there is more, so it builds a block: {content}")
+        }
+        (Step::C3N { .. }, ..) => "; there is no more, so the refresh has succeeded".to_string(),
         _ => String::new(),
     };
     Told {
@@ -73,7 +76,10 @@ fn written(machine: &Machine, process: u32) -> String {
         } => format!(", value {value}"),
         _ => String::new(),
     };
-    format!("writes block {place} there: {}{value}", totals(block))
+    format!(
+        "writes block {place} there: {}{value}",
+        totals(block.puts, block.takes)
+    )
 }
 
 fn ended(answer: Answer) -> String {
@@ -164,19 +170,17 @@ impl Seen<'_> {
         match step {
             Step::C1 { refresh, .. } => self.end("left", left_child(refresh.node)),
             Step::C2 { refresh, .. } => self.end("right", right_child(refresh.node)),
-            Step::C3 {
-                refresh,
-                h,
-                end_left,
-                end_right,
-            } => {
-                let node = refresh.node;
-                let left = self.block(left_child(node), end_left);
-                let right = self.block(right_child(node), end_right);
-                format!(
-                    "adds up {left} and {right}, looks at {}; ",
-                    self.block(node, h - 1)
-                )
+            Step::C3L { refresh, ends, .. } => {
+                self.child_block("left", left_child(refresh.node), ends.left)
+            }
+            Step::C3R { refresh, ends, .. } => {
+                self.child_block("right", right_child(refresh.node), ends.right)
+            }
+            Step::C3N { refresh, h, .. } => {
+                let block = self.memory.tree.block(refresh.node, h - 1);
+                let place = self.place(refresh.node, h - 1);
+                let size = size(refresh.node, block);
+                format!("reads {place}: {}{size}", totals(block.puts, block.takes))
             }
             Step::C4 { refresh, h, block } => {
                 let place = self.place(refresh.node, h);
@@ -225,7 +229,11 @@ impl Seen<'_> {
     /// A block with its totals.
     fn block(&self, node: u32, place: u32) -> String {
         let block = self.memory.tree.block(node, place);
-        format!("{} ({})", self.place(node, place), totals(block))
+        format!(
+            "{} ({})",
+            self.place(node, place),
+            totals(block.puts, block.takes)
+        )
     }
 
     /// R3 and R5.
@@ -237,6 +245,16 @@ impl Seen<'_> {
         }
     }
 
+    /// C3L and C3R.
+    fn child_block(&self, side: &str, child: u32, place: u32) -> String {
+        let block = self.memory.tree.block(child, place);
+        let place = self.place(child, place);
+        format!(
+            "reads {place}, the {side} child: {}",
+            totals(block.puts, block.takes)
+        )
+    }
+
     /// C1 and C2.
     fn end(&self, side: &str, child: u32) -> String {
         let end = self.memory.head(child) - 1;
@@ -244,25 +262,27 @@ impl Seen<'_> {
     }
 }
 
-fn totals(block: Block) -> String {
-    format!(
-        "{}, {}",
-        count(block.puts as usize, "put"),
-        count(block.takes as usize, "take")
-    )
+fn totals(puts: u32, takes: u32) -> String {
+    let (puts, takes) = (puts as usize, takes as usize);
+    format!("{}, {}", count(puts, "put"), count(takes, "take"))
 }
 
-/// A block of a node that is no leaf; only those of the root have a size.
+/// Only blocks of the root have a size.
+fn size(node: u32, block: Block) -> String {
+    match node {
+        ROOT => format!(", size {}", block.size),
+        _ => String::new(),
+    }
+}
+
+/// A block of a node that is no leaf.
 fn content(node: u32, block: Block) -> String {
+    let totals = totals(block.puts, block.takes);
     let Block {
         end_left,
         end_right,
-        size,
         ..
     } = block;
-    let size = match node {
-        ROOT => format!(", size {size}"),
-        _ => String::new(),
-    };
-    format!("{}, ends {end_left} and {end_right}{size}", totals(block))
+    let size = size(node, block);
+    format!("{totals}, ends {end_left} and {end_right}{size}")
 }

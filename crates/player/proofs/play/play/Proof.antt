@@ -24,7 +24,7 @@ unfolding idle
 refused-idle c = rw (c .ended .ensures) (step-idle (step-at (c .before .before .before .before)) (c .before .enum-told .given .1))
 
 refused-ill : tie.Need-returns-3 Inv-loop μ-loop
-refused-ill c = rw (c .ended3 .ensures) (other-ill (other-at (c .before .before .before)) (sym (c .before .before .ill-formed .ensures) ∙ c .before .if4 .taken))
+refused-ill c = rw (c .ended3 .ensures) (other-ill (other-at (c .before .before .before)) (sym (c .before .before .ill-formed .ensures) ∙ c .before .if5 .taken))
 
 refused-begin : tie.Need-returns-4 Inv-loop μ-loop
 unfolding idle
@@ -32,7 +32,7 @@ refused-begin c =
     let w = c .before .before .before .before .before in
     rw (c .ended4 .ensures)
     (begin-refused (other-at (w .before .before .before)) (well (w .before)) (w .as-index2 .ensures) (c .before .before .before .begin-refusal .ensures)
-    (sym (c .before .before .accepted .ensures) ∙ not-true _ (c .before .if5 .taken)))
+    (sym (c .before .before .accepted .ensures) ∙ not-true _ (c .before .if6 .taken)))
 
 entered-requires : tie.Need-entered-requires Inv-loop μ-loop
 unfolding idle
@@ -40,13 +40,13 @@ entered-requires c κs =
     let w = c .before .before .before .before .before in
     omega (arith, begin-few (other-at (w .before .before .before)) (well (w .before)) (w .as-index2 .ensures))
 
-again-begin : tie.Need-loop-again-15 Inv-loop μ-loop
+again-begin : tie.Need-loop-again-18 Inv-loop μ-loop
 unfolding idle
 again-begin c =
     let w = c .before .before .before .before .before .before in
     rw (c .entered .ensures, c .before .operation-of .ensures)
     (begin-moves (other-at (w .before .before .before)) (well (w .before)) (w .as-index2 .ensures) (c .before .before .before .before .begin-refusal .ensures)
-    (sym (c .before .before .before .accepted .ensures) ∙ not-false _ (c .before .before .if5 .left)))
+    (sym (c .before .before .before .accepted .ensures) ∙ not-false _ (c .before .before .if6 .left)))
 
 ends : tie.Need-returns-5 Inv-loop μ-loop
 ends c = rw (c .ended5 .ensures) (loop-ends (c .before .before .loop .inv) (c .before .loop-test .left))
@@ -189,16 +189,43 @@ play-spec =
     (λ c. record { fits = few (recordOf (c .before .before .before .before .before)) })
     (λ c. search needs)
     arms.again-c2
-    -- C3
+    -- C3L
     (λ c. search needs)
     (λ c. record { fits = omega (arith, slot (c .before .before)) })
     (λ c. slot (c .before .before))
-    arms.ready-c3
+    arms.ready-c3l
     (λ c. record { fits = omega (arith, slot (c .before .before .before .before .before)) })
     (λ c. slot (c .before .before .before .before .before))
     (λ c. record { fits = few (recordOf (c .before .before .before .before .before)) })
     (λ c. search needs)
-    arms.again-c3
+    arms.again-c3l
+    -- C3R
+    (λ c. search needs)
+    (λ c. record { fits = omega (arith, slot (c .before .before)) })
+    (λ c. slot (c .before .before))
+    arms.ready-c3r
+    (λ c. record { fits = omega (arith, slot (c .before .before .before .before .before)) })
+    (λ c. slot (c .before .before .before .before .before))
+    (λ c. record { fits = few (recordOf (c .before .before .before .before .before)) })
+    (λ c. search needs)
+    arms.again-c3r
+    -- C3N
+    (λ c. search needs)
+    (λ c. record { fits = omega (arith, slot (c .before .before)) })
+    (λ c. slot (c .before .before))
+    arms.ready-c3n
+    arms.ready-c3n-up
+    (λ c. record { fits = omega (arith, slot (c .before .before .before .before .before .before .before)) })
+    (λ c. slot (c .before .before .before .before .before .before .before))
+    (λ c. record { fits = few (recordOf (c .before .before .before .before .before .before .before)) })
+    (λ c. search needs)
+    arms.again-c3n-up
+    arms.ready-c3n-on
+    (λ c. record { fits = omega (arith, slot (c .before .before .before .before .before .before .before .before)) })
+    (λ c. slot (c .before .before .before .before .before .before .before .before))
+    (λ c. record { fits = few (recordOf (c .before .before .before .before .before .before .before .before)) })
+    (λ c. search needs)
+    arms.again-c3n-on
     -- C4
     (λ c. search needs)
     (λ c. record { fits = omega (arith, slot (c .before .before)) })

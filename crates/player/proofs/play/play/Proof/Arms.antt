@@ -1,10 +1,11 @@
 -- The arms of `play`'s loop, one a named step: what the step needs, and that the loop's invariant holds after it. Used
 -- by its proof alone.
 use mathlib.Core.Path.{refl, ap, sym}
+use mathlib.Core.Bool.{true, false}
 use Rattle.steps.specs.Process.{idle}
 use Rattle.steps.specs.Machine.{isIdle, isQ}
-use Rattle.stepping.proofs.Taken.{builds-alike}
-use Rattle.player.proofs.StepLoop.{step-named, step-busy, step-leaf, step-begins, step-playing, step-ready, step-fits, step-fits-leaf, step-moves, finish-full, finish-moves}
+use Rattle.stepping.proofs.Decision.{decided-next}
+use Rattle.player.proofs.StepLoop.{q, step-named, step-busy, step-leaf, step-begins, step-playing, step-ready, step-fits, step-fits-leaf, step-moves, finish-full, finish-moves}
 use Rattle.player.proofs.play.play.Proof.Places.{Inv-loop, μ-loop, found, few-steps}
 use Rattle.player.proofs.play.play.Tie as tie
 
@@ -154,20 +155,72 @@ again-c2 c =
     step-moves f (b .before .status .given .1) (c .before .before .before .enum-told12 .given .1) refl _ _ _ refl refl
     (λ is _ _. let e = c .step-c2 .ensures .0 _ _ is in (e .0, e .1 _ _ _ _))
 
-pub ready-c3 : tie.Need-step-c3-requires Inv-loop μ-loop
+pub ready-c3l : tie.Need-step-c3l-requires Inv-loop μ-loop
 unfolding idle isQ
-ready-c3 c κs =
+ready-c3l c κs =
     let b = c .before .before .before .before in
     let busy = b .before .status .given .1 in
-    (few-steps b, λ _ _ _ e. (builds-alike ((step-ready (found b) busy e refl) .1), step-fits (found b) busy e refl))
+    (few-steps b, λ _ _ _ e. ((step-ready (found b) busy e refl) .1, step-fits (found b) busy e refl))
 
-pub again-c3 : tie.Need-loop-again-12 Inv-loop μ-loop
+pub again-c3l : tie.Need-loop-again-12 Inv-loop μ-loop
 unfolding idle isQ
-again-c3 c =
+again-c3l c =
     let b = c .before .before .before .before .before in
     let f = found b in
     step-moves f (b .before .status .given .1) (c .before .before .before .enum-told13 .given .1) refl _ _ _ refl refl
-    (λ is _ placed. let e = c .step-c3 .ensures .0 _ _ _ is in (e .0, e .1 _ _ _ _ placed))
+    (λ is _ placed. let e = c .step-c3l .ensures .0 _ _ _ is in (e .0, e .1 _ _ _ _ placed))
+
+pub ready-c3r : tie.Need-step-c3r-requires Inv-loop μ-loop
+unfolding idle isQ
+ready-c3r c κs =
+    let b = c .before .before .before .before in
+    let busy = b .before .status .given .1 in
+    (few-steps b, λ _ _ _ _ _ e. ((step-ready (found b) busy e refl) .1, step-fits (found b) busy e refl))
+
+pub again-c3r : tie.Need-loop-again-13 Inv-loop μ-loop
+unfolding idle isQ
+again-c3r c =
+    let b = c .before .before .before .before .before in
+    let f = found b in
+    step-moves f (b .before .status .given .1) (c .before .before .before .enum-told14 .given .1) refl _ _ _ refl refl
+    (λ is _ placed. let e = c .step-c3r .ensures .0 _ _ _ _ _ is in (e .0, e .1 _ _ _ _ placed))
+
+pub ready-c3n : tie.Need-adds-nothing-requires Inv-loop μ-loop
+unfolding idle isQ
+ready-c3n c κs = let b = c .before .before .before .before in λ _ _ _ _ _ e. (step-ready (found b) (b .before .status .given .1) e refl) .1
+
+pub ready-c3n-up : tie.Need-step-c3n-up-requires Inv-loop μ-loop
+unfolding idle
+ready-c3n-up c κs = few-steps (c .before .before .before .before .before .before)
+
+pub again-c3n-up : tie.Need-loop-again-14 Inv-loop μ-loop
+unfolding idle isQ
+again-c3n-up c =
+    let b = c .before .before .before .before .before .before .before in
+    let f = found b in
+    let decided = rw (c .before .if3 .taken) at (c .before .before .adds-nothing .ensures) in
+    step-moves f (b .before .status .given .1) (c .before .before .before .before .before .enum-told15 .given .1) refl _ _ _ refl refl
+    (λ is _ placed.
+    let e = decided-next _ _ (q f) _ _ _ _ _ _ is true (decided .0 _ _ _ _ _ is) (c .step-c3n-up .ensures .0 _ _ _ _ _ is) in
+    (e .0, e .1 _ _ _ _ placed))
+
+pub ready-c3n-on : tie.Need-step-c3n-on-requires Inv-loop μ-loop
+unfolding idle isQ
+ready-c3n-on c κs =
+    let b = c .before .before .before .before .before .before .before in
+    let busy = b .before .status .given .1 in
+    (few-steps b, λ _ _ _ _ _ e. (step-ready (found b) busy e refl) .1)
+
+pub again-c3n-on : tie.Need-loop-again-15 Inv-loop μ-loop
+unfolding idle isQ
+again-c3n-on c =
+    let b = c .before .before .before .before .before .before .before .before in
+    let f = found b in
+    let decided = rw (c .before .before .if3 .left) at (c .before .before .before .adds-nothing .ensures) in
+    step-moves f (b .before .status .given .1) (c .before .before .before .before .before .before .enum-told15 .given .1) refl _ _ _ refl refl
+    (λ is _ placed.
+    let e = decided-next _ _ (q f) _ _ _ _ _ _ is false (decided .0 _ _ _ _ _ is) (c .step-c3n-on .ensures .0 _ _ _ _ _ is) in
+    (e .0, e .1 _ _ _ _ placed))
 
 pub ready-c4 : tie.Need-step-c4-requires Inv-loop μ-loop
 unfolding idle isQ
@@ -176,12 +229,12 @@ ready-c4 c κs =
     let busy = b .before .status .given .1 in
     (few-steps b, λ _ _ e. ((step-ready (found b) busy e refl) .1, step-fits (found b) busy e refl))
 
-pub again-c4 : tie.Need-loop-again-13 Inv-loop μ-loop
+pub again-c4 : tie.Need-loop-again-16 Inv-loop μ-loop
 unfolding idle isQ
 again-c4 c =
     let b = c .before .before .before .before .before .before .before in
     let f = found b in
-    step-moves f (b .before .status .given .1) (c .before .before .before .before .before .enum-told14 .given .1) refl _ _ _ refl (c .before .before .step-c4 .kept .0)
+    step-moves f (b .before .status .given .1) (c .before .before .before .before .before .enum-told16 .given .1) refl _ _ _ refl (c .before .before .step-c4 .kept .0)
     (λ is _ placed. let e = c .before .before .step-c4 .ensures .0 _ _ is in (e .0, e .1 _ _ _ _ placed))
 
 pub full-q : tie.Need-returns-2 Inv-loop μ-loop
@@ -190,7 +243,7 @@ full-q c =
     let b = c .before .before .before .before in
     let f = found b in
     let busy = b .before .status .given .1 in
-    rw (c .ended2 .ensures) (finish-full f (step-busy f busy refl (step-named f busy (c .before .before .enum-told15 .given .1))) (c .before .if3 .taken))
+    rw (c .ended2 .ensures) (finish-full f (step-busy f busy refl (step-named f busy (c .before .before .enum-told17 .given .1))) (c .before .if4 .taken))
 
 pub busy-q : tie.Need-operation-in-requires Inv-loop μ-loop
 unfolding idle isIdle
@@ -202,9 +255,9 @@ ready-q c κs =
     let b = c .before .before .before .before .before .before .before in
     let f = found b in
     let busy = b .before .status .given .1 in
-    (step-playing f, step-busy f busy (c .operation-in .ensures) (step-named f busy (c .before .before .before .before .before .enum-told15 .given .1)))
+    (step-playing f, step-busy f busy (c .operation-in .ensures) (step-named f busy (c .before .before .before .before .before .enum-told17 .given .1)))
 
-pub again-q : tie.Need-loop-again-14 Inv-loop μ-loop
+pub again-q : tie.Need-loop-again-17 Inv-loop μ-loop
 unfolding idle
 again-q c =
     let w = c .before .before .before in
@@ -214,5 +267,5 @@ again-q c =
     let f = found b in
     let busy = b .before .status .given .1 in
     rw (c .rested .ensures)
-    (finish-moves f (step-busy f busy (a .before .operation-in .ensures) (step-named f busy (e .before .enum-told15 .given .1))) (e .if3 .left) _ _ _ (w .write-answer .kept .0)
+    (finish-moves f (step-busy f busy (a .before .operation-in .ensures) (step-named f busy (e .before .enum-told17 .given .1))) (e .if4 .left) _ _ _ (w .write-answer .kept .0)
     (a .answer-of .ensures .0) (w .before .before .equal-after .ensures) (w .write-answer .ensures))

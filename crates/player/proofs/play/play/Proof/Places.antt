@@ -97,10 +97,10 @@ unfolding idle
 few-steps b = omega (arith, steps-small _ _ _ _ _ _ _ (step-plays (found b)))
 
 -- where there is room for an answer
-pub few-answers : (c : tie.Else3 Inv-loop μ-loop) → 16 * stateAt (recordOf (c .before .before .before)) .answers + 16 < 18446744073709551616
+pub few-answers : (c : tie.Else4 Inv-loop μ-loop) → 16 * stateAt (recordOf (c .before .before .before)) .answers + 16 < 18446744073709551616
 few-answers c =
     let g = recordOf (c .before .before .before) .before in
-    omega (arith, c .if3 .left, g .loop .inv .so-far .spare, g .before .before .before .before .before .before .before .fits .room)
+    omega (arith, c .if4 .left, g .loop .inv .so-far .spare, g .before .before .before .before .before .before .before .fits .room)
 
 -- ---- at another record
 
@@ -121,8 +121,8 @@ other-at c =
     }
 
 -- where it is well-formed
-pub well : (c : tie.Else4 Inv-loop μ-loop) → illFormed (callAt (c .before .before .before .before .before .before) .p) (c .before .before .step-record .result) ≡ false
-well c = sym (c .before .ill-formed .ensures) ∙ c .if4 .left
+pub well : (c : tie.Else5 Inv-loop μ-loop) → illFormed (callAt (c .before .before .before .before .before .before) .p) (c .before .before .step-record .result) ≡ false
+well c = sym (c .before .ill-formed .ensures) ∙ c .if5 .left
 
 -- after its process was found
 abbrev pub AtBegin : Type 0
