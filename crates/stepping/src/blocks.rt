@@ -29,11 +29,8 @@ ghost use mathlib.Core.Bool.{false};
 ghost use mathlib.Core.Path.{_≡_};
 ghost use mathlib.Core.List.{List};
 ghost use Prim.Native.Nat.{ℕ, _+_, _*_, _-_, _<_};
-ghost use lib.Dec.{eqb};
-ghost use Rattle.base.specs.Choice.{if_then_else_};
-ghost use Rattle.tree.specs.Shape.{Shape, root, leafOf};
+ghost use Rattle.tree.specs.Shape.{Shape, leafOf};
 ghost use Rattle.tree.specs.Memory.{memoryOf};
-ghost use Rattle.tree.specs.Size.{rootSize};
 ghost use Rattle.steps.specs.Rules.{above as aboveOf, help as helpOf, built, step, go};
 ghost use Rattle.steps.specs.Machine.{isIdle};
 ghost use Rattle.stepping.specs.Contracts.Next.{operationIn, stepIn, Moves, StepsByTable, Decided, GoesFromC3N, Fits, FitsLeaf};
@@ -190,7 +187,7 @@ pub fn step_c3r(table: &[u32], starts: &[usize; 17], q: Process) -> Process
 // and none is read.
 fn size_of(table: &[u32], starts: &[usize; 17], w: Visit, old: Totals, puts: u32, takes: u32) -> u32
     requires { ⌜ Decides (now starts) (now table) w puts takes × (old ≡ totalsOf (nodeBlock (now starts) (now table) (w .node) (w .head - 1))) ⌝ }
-    ensures { λ r. ⌜ r ≡ (if eqb (w .node) root then rootSize (nodeBlock (now (starts .entry)) (now (table .entry)) (w .node) (w .head - 1)) puts takes else 0) ⌝ }
+    ensures { λ z. ⌜ ((l r : ℕ) → z ≡ built (w .node) (nodeBlock (now (starts .entry)) (now (table .entry)) (w .node) (w .head - 1)) l r puts takes .size) ⌝ }
 {
     if w.node == 1 {
         let size = size_at_root(table, starts, w.head - 1);

@@ -27,11 +27,18 @@ fn a_line_a_record() {
     assert_eq!(traced(&with_numbers("trace", &[STEPS])).1, lines);
 }
 
+/// The trace of a known run has these lines.
+fn assert_traced(run: &str, told: &[&str]) {
+    let (_, lines) = traced(&["trace", &format!("examples/known/{run}.txt")]);
+    for line in told {
+        assert!(lines.iter().any(|found| found == line), "{line}");
+    }
+}
+
 /// Process 1 helps process 0, which stopped after its first step.
 #[test]
 fn help_in_words() {
-    let (_, lines) = traced(&["trace", "examples/known/M6.txt"]);
-    for line in [
+    assert_traced("M6", &[
         "     1  process 0  begin  operation 1 of the process, a put of 9",
         "     2  process 0  A      reads the head of leaf 0: 1, and block 0 of leaf 0 (0 puts, 0 takes); writes block 1 there: 1 put, 0 takes, value 9",
         "     8  process 1  R1     refreshes the root, reads the head of the root: 1",
@@ -48,21 +55,16 @@ fn help_in_words() {
         "    25  process 0  V2     finds super of block 1 of leaf 0 at 1 already, and leaves it",
         "    26  process 0  V3     finds the head of leaf 0 at 2 and not 1, and leaves it",
         "    36  process 0  C3N    reads block 1 of the root: 2 puts, 0 takes, size 2; there is no more, so the refresh has succeeded",
-    ] {
-        assert!(lines.iter().any(|found| found == line), "{line}");
-    }
+    ]);
 }
 
 /// A take alone, whose block has other ends on the left and on the right.
 #[test]
 fn ends_that_differ() {
-    let (_, lines) = traced(&["trace", "examples/known/M4.txt"]);
-    for line in [
+    assert_traced("M4", &[
         "    13  process 0  C3L    reads block 1 of leaf 0, the left child: 0 puts, 1 take",
         "    14  process 0  C3R    reads block 0 of leaf 1, the right child: 0 puts, 0 takes; together 0 puts, 1 take",
-    ] {
-        assert!(lines.iter().any(|found| found == line), "{line}");
-    }
+    ]);
 }
 
 #[test]

@@ -2,6 +2,7 @@
 use borrow.Author.Tests.{eq-eqb, ne-eqb}
 use Rattle.tree.specs.Shape.{root}
 use Rattle.tree.specs.Contracts.Access.{totalsOf}
+use Rattle.steps.specs.Rules.{built}
 use borrow.Author.Needs.{needs}
 use Rattle.stepping.proofs.blocks.size_of.Statement.{statement}
 use Rattle.stepping.proofs.blocks.size_of.Tie as tie
@@ -20,14 +21,14 @@ root-size-requires c κs =
     rw (c .size-at-root .ensures, p .1) (p .0 .putsRise, p .0 .takesRise, (let l = p .0 .sizeLow here in rw here at l), p .0 .putsLow)
 
 returns : tie.Need-returns
-unfolding root
-returns c =
+unfolding root built
+returns c = λ l r.
     let here = c .before .before .before .if1 .taken in
     rw (eq-eqb _ _ here) (c .root-size .ensures _ (c .before .before .before .before .before .before .pre .1) (rw here (c .before .size-at-root .ensures)))
 
 returns-2 : tie.Need-returns-2
-unfolding root
-returns-2 c = rw (ne-eqb _ _ (c .if1 .left))
+unfolding root built
+returns-2 c = λ l r. rw (ne-eqb _ _ (c .if1 .left))
 
 pub size-of-spec : {M : Type 1} → statement M
 size-of-spec = tie.close (tie.spec sub-size-at-root size-at-root-requires root-size-requires returns returns-2)

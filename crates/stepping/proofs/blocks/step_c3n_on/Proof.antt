@@ -44,7 +44,7 @@ returns-2 c =
     let here = at (c .before .before .before .before .before) in (
       λ _ _ _ _ _ e.
           let same = same-registers (sym here ∙ e) in
-          rw (← same .0, ← same .1, ← same .2, ← same .3, ← same .4, ← c .before .size-of .ensures) (c .moved .ensures),
+          rw (← same .0, ← same .1, ← same .2, ← same .3, ← same .4, ← c .before .size-of .ensures 0 0) (c .moved .ensures),
       λ no. absurd (no _ _ _ _ _ here),
     )
 
