@@ -8,4 +8,3 @@ pub mod LoopInvariant
 pub mod StepResults
 pub mod StepLoop
 pub mod BeginLoop
-pub mod PlayCallLaws

@@ -92,7 +92,7 @@ module _ {c : Call} {t : State} {i first j : ℕ} (w : StepAt c t i first j) whe
   placed (V1 a w v h) r = tt
   placed (V2 a w v h x) r = step-begins v (r .0)
   placed (V3 a w v h) r = tt
-  placed (R1 second v) r = tt
+  placed (R1 x v) r = tt
   placed (R2 w) r = tt
   placed (R3 w c) r = step-begins _ (omega (arith, r .0 .both))
   placed (R4 w) r = tt

@@ -1,5 +1,4 @@
 // Records played one after the other.
-pub mod call;
 pub mod play;
 pub mod records;
 

@@ -11,7 +11,7 @@ use Rattle.base.proofs.Repeats.{take-replicate}
 use Rattle.calls.specs.Refusals.{accepted, callRefusal}
 use Rattle.calls.proofs.CallAccepted.{accepted-processes, accepted-operations, accepted-enough}
 use Rattle.steps.proofs.Limits.{allowed-narrow}
-use Rattle.player.specs.Contracts.PlayCalls.{Callable}
+use Rattle.call_player.specs.Contracts.Callable.{Callable}
 
 -- with 16 heads of which each is 1
 module _ (p l words bytes : ℕ) (ok : accepted (callRefusal p l words bytes) ≡ true) (heads : List ℕ) (ones : heads ≡ replicate 16 1) (j : ℕ) (is : j ≡ p) where

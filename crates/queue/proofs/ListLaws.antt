@@ -25,7 +25,7 @@ use Rattle.calls.proofs.Theorem.{tall-for}
 use Rattle.steps.proofs.Limits.{allowed-most, allowed-width, short-for}
 use Rattle.player.specs.declared.Outcome.{Outcome}
 use Rattle.player.proofs.PlayLaws.{played-agrees}
-use Rattle.player.proofs.PlayCallLaws.{laid-for}
+use Rattle.call_player.proofs.PlayCallLaws.{laid-for}
 use Rattle.queue.specs.declared.Listed.{Listed}
 use Rattle.queue.specs.Left.{listLeft}
 use Rattle.queue.specs.Contracts.PlayedAll.{PlayedAll}

@@ -1,7 +1,7 @@
 // The records of a call played without an answer buffer, as list the order and check a log play them.
 use base::as_index;
+use call_player::call::play_unanswered;
 use player::Outcome;
-use player::call::play_unanswered;
 ghost use mathlib.Core.Path.{_≡_};
 ghost use mathlib.Core.Bool.{true};
 ghost use Prim.Native.Nat.{_*_};

@@ -1,7 +1,7 @@
 // Run.
 use crate::Ran;
 use base::as_index;
-use player::call::play_call;
+use call_player::call::play_call;
 use refusals::before::of_call;
 use refusals::numbers::accepted;
 ghost use mathlib.Core.Path.{_≡_};

@@ -14,6 +14,7 @@ use crate::turn::step_in;
 use steps::After;
 use steps::Built;
 use steps::Process;
+use steps::Refresh;
 use steps::Step;
 use steps::Visit;
 use tree::Totals;
@@ -59,7 +60,7 @@ pub fn step_a(
     let w = Visit {
         node: leaf,
         head: h,
-        second: false,
+        refresh: Refresh::First,
     };
     moved(q, advance(w, After::Up, leaf, h))
 }
@@ -264,8 +265,9 @@ pub fn step_c4(table: &mut [u32], starts: &[usize; 17], q: Process) -> Process
     };
     let v = visit.node;
     let success = write_if_absent(table, starts, v, visit.head, block_of(built));
+    let refresh = visit.refresh;
     moved(
         q,
-        advance(visit, after_refresh(visit.second, success), v, visit.head),
+        advance(visit, after_refresh(refresh, success), v, visit.head),
     )
 }

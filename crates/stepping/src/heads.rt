@@ -5,12 +5,12 @@ use crate::turn::moved;
 use crate::turn::step_in;
 use steps::After;
 use steps::Process;
+use steps::Refresh;
 use steps::Step;
 use steps::Visit;
 use tree::heads::head_of;
 use tree::heads::raise;
 ghost use mathlib.Core.Path.{_≡_};
-ghost use mathlib.Core.Bool.{Bool};
 ghost use Prim.Native.Nat.{ℕ, _+_, _*_, _/_, _≤_, _<_};
 ghost use lib.ListN.{length, getD};
 ghost use Rattle.stepping.specs.Contracts.Next.{stepIn, StepsByHeads};
@@ -64,10 +64,10 @@ pub fn step_v3(heads: &mut [u32], q: Process) -> Process
 
 // R1: the head of v is the place at which this refresh is to write.
 pub fn step_r1(heads: &[u32], q: Process) -> Process
-    requires { ⌜ (q .steps < 65536) × ((b : Bool) (v : ℕ) → stepIn (q .status) ≡ Step.R1 b v → v < length (now heads)) ⌝ }
-    ensures { λ r. ⌜ StepsByHeads (λ P. (b : Bool) (v : ℕ) → P (Step.R1 b v)) (now (heads .entry)) (now (heads .entry)) q r ⌝ }
+    requires { ⌜ (q .steps < 65536) × ((x : Refresh) (v : ℕ) → stepIn (q .status) ≡ Step.R1 x v → v < length (now heads)) ⌝ }
+    ensures { λ r. ⌜ StepsByHeads (λ P. (x : Refresh) (v : ℕ) → P (Step.R1 x v)) (now (heads .entry)) (now (heads .entry)) q r ⌝ }
 {
-    let Step::R1 { second, node } = step_in(q) else {
+    let Step::R1 { refresh, node } = step_in(q) else {
         return q;
     };
     moved(
@@ -76,7 +76,7 @@ pub fn step_r1(heads: &[u32], q: Process) -> Process
             visit: Visit {
                 node: node,
                 head: head_of(heads, node),
-                second: second,
+                refresh: refresh,
             },
         },
     )

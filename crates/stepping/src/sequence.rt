@@ -1,5 +1,6 @@
 // The order of the steps: which comes next. No step here looks at the shared memory.
 use steps::After;
+use steps::Refresh;
 use steps::Step;
 use steps::Visit;
 ghost use mathlib.Core.Path.{_≡_};
@@ -15,7 +16,7 @@ pub fn above(v: u32) -> Step
         return Step::Q;
     }
     Step::R1 {
-        second: false,
+        refresh: Refresh::First,
         node: v / 2,
     }
 }
@@ -40,7 +41,7 @@ pub fn resume(a: After, w: Visit) -> Step
     match a {
         After::Right | After::Ends => after_help(a, w),
         After::Again => Step::R1 {
-            second: true,
+            refresh: Refresh::Second,
             node: w.node,
         },
         After::Up => above(w.node),
@@ -69,14 +70,14 @@ pub fn advance(w: Visit, a: After, v: u32, h: u32) -> Step
 
 // A refresh that failed is done once more. A second failure means that others have carried the operation up, so two are
 // enough.
-pub fn after_refresh(second: bool, success: bool) -> After
-    ensures { λ r. ⌜ r ≡ afterRefresh second success ⌝ }
+pub fn after_refresh(refresh: Refresh, success: bool) -> After
+    ensures { λ r. ⌜ r ≡ afterRefresh refresh success ⌝ }
 {
     if success {
         return After::Up;
     }
-    if second {
-        return After::Up;
+    match refresh {
+        Refresh::First => After::Again,
+        Refresh::Second => After::Up,
     }
-    After::Again
 }

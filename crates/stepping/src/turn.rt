@@ -50,9 +50,10 @@ pub fn moved(q: Process, n: Step) -> Process
 pub fn by_fields(w: Visit) -> Visit
     ensures { λ r. ⌜ r ≡ w ⌝ }
 {
+    let refresh = w.refresh;
     Visit {
         node: w.node,
         head: w.head,
-        second: w.second,
+        refresh: refresh,
     }
 }

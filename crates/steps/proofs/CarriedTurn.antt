@@ -4,7 +4,7 @@ use Prim.Native.Nat.{ℕ, suc, _-_, _≤_, _<_}
 use native.Mathlib.Omega.{arith}
 use mathlib.Core.Path.{_≡_, refl, ap, sym, _∙_, subst}
 use mathlib.Core.Logic.{_≢_, inr}
-use mathlib.Core.Bool.{Bool, true, false}
+use mathlib.Core.Bool.{true, false}
 use Rattle.tree.specs.Shape.{Shape, processes, leafOf, lastPlace}
 use Rattle.tree.specs.Blocks.{absent}
 use Rattle.tree.specs.Memory.{Memory, headOf, block, raise}
@@ -18,10 +18,12 @@ use Rattle.tree.proofs.Writes.{write-here, raise-past}
 use Rattle.tree.proofs.Ancestors.{ancestor, sideAt, child-at, ancestor-node, ancestor-inner}
 use Rattle.tree.proofs.Reach.{reach, reach-zero, reach-suc}
 use Rattle.steps.specs.declared.Operation.{Operation}
+use Rattle.steps.specs.declared.Refresh.{Refresh}
+use Rattle.steps.specs.declared.Refresh.the-variants.{First, Second}
 use Rattle.steps.specs.declared.Visit.{Visit}
 use Rattle.steps.specs.declared.After.the-variants.{Up}
 use Rattle.steps.specs.declared.Built.{Built}
-use Rattle.steps.specs.Rules.{afterRefresh, plusOperation, blockOf}
+use Rattle.steps.specs.Rules.{afterFailed, afterRefresh, plusOperation, blockOf}
 use Rattle.steps.proofs.Stages.{made, Stage, advancing, Holds}
 use Rattle.steps.proofs.Turns.{Turn, afterHelp, rests, adds, supers, raises, starts, helps, endsLeft, endsRight, counts, makes, finds, writes, meets, finishes}
 use Rattle.steps.proofs.Progress.{LeafOpen, OwnLeaf, Threshold, Refreshing, Passing, Failed, AfterAdvance, Advancing, Building, Carried}
@@ -75,18 +77,18 @@ module _ (s : Shape) (m : Memory) (sized : Sized s m) (sound : Sound s m) (hold 
             owed = owed-stable s m n sound hold hold' k kp o eff others regs k kp b (re .level) (re .low) (re .covered) (re .limit) (re .owed);
           }
 
-      after-written : block s n (w .node) (w .head) ≡ blockOf c → AfterAdvance s n hold' k b w (afterRefresh (w .second) true) (w .node) (w .head)
+      after-written : block s n (w .node) (w .head) ≡ blockOf c → AfterAdvance s n hold' k b w (afterRefresh (w .refresh) true) (w .node) (w .head)
       unfolding afterRefresh
       after-written put = passing (wrote-it put)
 
-      threshold : (q : Bool) → w .second ≡ q → Threshold q (re .limit) (w .head)
-      threshold q e = subst (λ (x : Bool). Threshold x (re .limit) (w .head)) e (re .bound)
+      threshold : (q : Refresh) → w .refresh ≡ q → Threshold q (re .limit) (w .head)
+      threshold q e = subst (λ (x : Refresh). Threshold x (re .limit) (w .head)) e (re .bound)
 
       -- if the place was taken, a first refresh is done again
-      after-taken : (q : Bool) → w .second ≡ q → absent (block s m (w .node) (w .head)) ≡ false → AfterAdvance s n hold' k b w (afterRefresh q false) (w .node) (w .head)
-      unfolding afterRefresh
-      after-taken true e f = passing (found-it f (threshold true e))
-      after-taken false e f = failed (threshold false e)
+      after-taken : (q : Refresh) → w .refresh ≡ q → absent (block s m (w .node) (w .head)) ≡ false → AfterAdvance s n hold' k b w (afterRefresh q false) (w .node) (w .head)
+      unfolding afterRefresh afterFailed
+      after-taken First e f = failed (threshold First e)
+      after-taken Second e f = passing (found-it f (threshold Second e))
 
     -- the place of a block that may be written is in the node
     place-within : (w : Visit) (c : Built) → (p : Building s m hold k b w (made c)) → Inner s (w .node) → absent (block s m (w .node) (w .head)) ≡ true → w .head ≤ lastPlace s (w .node)
@@ -103,7 +105,7 @@ module _ (s : Shape) (m : Memory) (sized : Sized s m) (sound : Sound s m) (hold 
 
     -- ---- after A
     added : (n : Memory) → block s n (leafOf s k) (headOf m (leafOf s k)) ≡ plusOperation o (block s m (leafOf s k) (headOf m (leafOf s k) - 1)) → LeafOpen s m k b
-        → Advancing s n hold' k b (record { node = leafOf s k; second = false; head = headOf m (leafOf s k) }) Up (leafOf s k) (headOf m (leafOf s k))
+        → Advancing s n hold' k b (record { node = leafOf s k; refresh = First; head = headOf m (leafOf s k) }) Up (leafOf s k) (headOf m (leafOf s k))
     added n put lo =
         record {
           node = leaf-node s k kp;
@@ -149,6 +151,6 @@ module _ (s : Shape) (m : Memory) (sized : Sized s m) (sound : Sound s m) (hold 
         record {
           node = inner-node s (w .node) (refresh-inner w (p .refreshing));
           present = present-count (block s m (w .node) (w .head)) g;
-          then = after-taken m eff w c p (w .second) refl g;
+          then = after-taken m eff w c p (w .refresh) refl g;
         }
     carried-turn finishes e f eff own p = tt

@@ -14,6 +14,8 @@ use Rattle.tree.specs.Contracts.Invariant.{Node, Inner}
 use Rattle.tree.proofs.Nodes.{inner-node, parent-inner}
 use Rattle.tree.proofs.Heights.{height-most, height-root, height-leaf, height-parent}
 use Rattle.steps.specs.declared.Operation.{Operation}
+use Rattle.steps.specs.declared.Refresh.{Refresh}
+use Rattle.steps.specs.declared.Refresh.the-variants.{First, Second}
 use Rattle.steps.specs.declared.Visit.{Visit}
 use Rattle.steps.specs.declared.After.{After}
 use Rattle.steps.specs.declared.After.the-variants.{Right, Ends, Again, Up}
@@ -21,7 +23,7 @@ use Rattle.steps.specs.declared.Step.{Step}
 use Rattle.steps.specs.declared.Step.the-variants.{A, V1, V2, V3, R1, R2, R3, R4, R5, C1, C2, C3L, C3R, C3N, C4, Q}
 use Rattle.steps.specs.declared.Status.{Status}
 use Rattle.steps.specs.declared.Status.the-variants.{Idle, Busy}
-use Rattle.steps.specs.Rules.{above, resume, advance, afterRefresh, help, sameTotals, go, step}
+use Rattle.steps.specs.Rules.{above, resume, advance, afterFailed, afterRefresh, help, sameTotals, go, step}
 use Rattle.steps.proofs.Stages.{Stage, resting, adding, advancing, starting, building, answering, stage}
 
 -- ---- the costs
@@ -103,16 +105,16 @@ module _ (s : Shape) where
 
 -- ---- what an operation may still take
 
--- from the advance of a refreshed node: after a first refresh (false) there may be a second
-unfoldable pub tail : Shape → ℕ → Bool → ℕ
-tail s v true = advanceAt (depth s v) + upCost (depth s v)
-tail s v false = advanceAt (depth s v) + (buildCost + advanceAt (depth s v)) + upCost (depth s v)
+-- from the advance of a refreshed node: after a first refresh there may be a second
+unfoldable pub tail : Shape → ℕ → Refresh → ℕ
+tail s v Second = advanceAt (depth s v) + upCost (depth s v)
+tail s v First = advanceAt (depth s v) + (buildCost + advanceAt (depth s v)) + upCost (depth s v)
 
 -- after an advance
 unfoldable pub restAfter : Shape → After → Visit → ℕ
-restAfter s Right w = fromRight + tail s (w .node) (w .second)
-restAfter s Ends w = endSteps + tail s (w .node) (w .second)
-restAfter s Again w = buildCost + tail s (w .node) true
+restAfter s Right w = fromRight + tail s (w .node) (w .refresh)
+restAfter s Ends w = endSteps + tail s (w .node) (w .refresh)
+restAfter s Again w = buildCost + tail s (w .node) Second
 restAfter s Up w = upCost (depth s (w .node))
 
 -- from a step, itself included
@@ -122,16 +124,16 @@ rest s (V1 a w v h) = advanceBelow + restAfter s a w
 rest s (V2 a w v h x) = 2 + restAfter s a w
 rest s (V3 a w v h) = advanceRoot + restAfter s a w
 rest s (R1 q v) = buildCost + tail s v q
-rest s (R2 w) = 2 + helpCost + fromRight + tail s (w .node) (w .second)
-rest s (R3 w c) = 1 + helpCost + fromRight + tail s (w .node) (w .second)
-rest s (R4 w) = fromRight + tail s (w .node) (w .second)
-rest s (R5 w c) = 1 + helpCost + endSteps + tail s (w .node) (w .second)
-rest s (C1 w) = endSteps + tail s (w .node) (w .second)
-rest s (C2 w l) = 5 + tail s (w .node) (w .second)
-rest s (C3L w l r) = 4 + tail s (w .node) (w .second)
-rest s (C3R w l r puts takes) = 3 + tail s (w .node) (w .second)
-rest s (C3N w l r puts takes) = 2 + tail s (w .node) (w .second)
-rest s (C4 w n) = 1 + tail s (w .node) (w .second)
+rest s (R2 w) = 2 + helpCost + fromRight + tail s (w .node) (w .refresh)
+rest s (R3 w c) = 1 + helpCost + fromRight + tail s (w .node) (w .refresh)
+rest s (R4 w) = fromRight + tail s (w .node) (w .refresh)
+rest s (R5 w c) = 1 + helpCost + endSteps + tail s (w .node) (w .refresh)
+rest s (C1 w) = endSteps + tail s (w .node) (w .refresh)
+rest s (C2 w l) = 5 + tail s (w .node) (w .refresh)
+rest s (C3L w l r) = 4 + tail s (w .node) (w .refresh)
+rest s (C3R w l r puts takes) = 3 + tail s (w .node) (w .refresh)
+rest s (C3N w l r puts takes) = 2 + tail s (w .node) (w .refresh)
+rest s (C4 w n) = 1 + tail s (w .node) (w .refresh)
 rest s Q = answerCost
 
 abbrev pub restOf : Shape → Status → ℕ
@@ -189,19 +191,19 @@ module _ (s : Shape) where
       (λ e. let d : depth s (w .node) ≡ 0 = ap (depth s) (eqb-true (w .node) root e) ∙ depth-root s in omega (arith, ap advanceAt d))
       (λ e. omega (arith, ap advanceAt (depth-parent s (w .node) n (eqb-false (w .node) root e))))
 
-  after-refresh : (w : Visit) (q x : Bool) → advanceAt (depth s (w .node)) + restAfter s (afterRefresh q x) w ≤ tail s (w .node) q
-  unfolding restAfter afterRefresh tail
-  after-refresh w true true = omega arith
-  after-refresh w false true = omega arith
-  after-refresh w true false = omega arith
-  after-refresh w false false = omega arith
+  after-refresh : (w : Visit) (q : Refresh) (x : Bool) → advanceAt (depth s (w .node)) + restAfter s (afterRefresh q x) w ≤ tail s (w .node) q
+  unfolding restAfter afterRefresh afterFailed tail
+  after-refresh w Second true = omega arith
+  after-refresh w First true = omega arith
+  after-refresh w Second false = omega arith
+  after-refresh w First false = omega arith
 
-  up-tail : (v : ℕ) (q : Bool) → upCost (depth s v) ≤ tail s v q
+  up-tail : (v : ℕ) (q : Refresh) → upCost (depth s v) ≤ tail s v q
   unfolding tail
-  up-tail v true = omega arith
-  up-tail v false = omega arith
+  up-tail v Second = omega arith
+  up-tail v First = omega arith
 
-  after-leaf : (k : ℕ) → k < processes s → (h : ℕ) → restAfter s Up (record { node = leafOf s k; second = false; head = h }) ≡ upCost (s .height)
+  after-leaf : (k : ℕ) → k < processes s → (h : ℕ) → restAfter s Up (record { node = leafOf s k; refresh = First; head = h }) ≡ upCost (s .height)
   unfolding restAfter
   after-leaf k kp h = ap upCost (depth-leaf s k kp)
 
@@ -210,7 +212,7 @@ pub rest-step : (s : Shape) → 1 ≤ s .height → (k : ℕ) → k < processes 
 unfolding step go rest restAfter
 rest-step s tall k kp o m A n =
     let h : ℕ = headOf m (leafOf s k) in
-    omega (arith, rest-advance s (record { node = leafOf s k; second = false; head = h }) Up (leafOf s k) h, after-leaf s k kp h)
+    omega (arith, rest-advance s (record { node = leafOf s k; refresh = First; head = h }) Up (leafOf s k) h, after-leaf s k kp h)
 rest-step s tall k kp o m (V1 a w v h) n = omega arith
 rest-step s tall k kp o m (V2 a w v h x) n = omega arith
 rest-step s tall k kp o m (V3 a w v h) n = omega (arith, rest-resume s a w n)
@@ -224,11 +226,11 @@ rest-step s tall k kp o m (C2 w l) n = omega arith
 rest-step s tall k kp o m (C3L w l r) n = omega arith
 rest-step s tall k kp o m (C3R w l r puts takes) n = omega arith
 rest-step s tall k kp o m (C3N w l r puts takes) n =
-    both (λ (x : Step). rest s x < 2 + tail s (w .node) (w .second)) (sameTotals puts takes (block s m (w .node) (w .head - 1)))
-    (omega (arith, rest-above s (w .node) (inner-node s (w .node) n), up-tail s (w .node) (w .second))) (omega arith)
+    both (λ (x : Step). rest s x < 2 + tail s (w .node) (w .refresh)) (sameTotals puts takes (block s m (w .node) (w .head - 1)))
+    (omega (arith, rest-above s (w .node) (inner-node s (w .node) n), up-tail s (w .node) (w .refresh))) (omega arith)
 rest-step s tall k kp o m (C4 w b) n =
     let x : Bool = absent (block s m (w .node) (w .head)) in
-    omega (arith, advance-own s w (afterRefresh (w .second) x) (w .head) (inner-node s (w .node) n), after-refresh s w (w .second) x)
+    omega (arith, advance-own s w (afterRefresh (w .refresh) x) (w .head) (inner-node s (w .node) n), after-refresh s w (w .refresh) x)
 rest-step s tall k kp o m Q n = omega arith
 
 -- ---- the bound at the first step

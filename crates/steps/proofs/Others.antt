@@ -6,7 +6,6 @@ use native.Mathlib.Decide.{ℕ-discrete}
 use native.Mathlib.Nat.{le-refl}
 use mathlib.Core.Path.{_≡_, sym, _∙_}
 use mathlib.Core.Logic.{_≢_, _⊎_, inl, inr}
-use mathlib.Core.Bool.{Bool}
 use Rattle.tree.specs.Shape.{Shape, processes, root, leafOf, leftOf, rightOf}
 use Rattle.tree.specs.Memory.{Memory, headOf, block}
 use Rattle.tree.specs.Sides.{Side, onLeft, onRight, childOf, endOf}
@@ -17,6 +16,7 @@ use Rattle.tree.proofs.Growth.{Same, Grows, same-refl, same-end, heads-rise, pr
 use Rattle.tree.proofs.Ancestors.{ancestor, sideAt, child-at, ancestor-node, ancestor-inner, ancestor-root}
 use Rattle.tree.proofs.Reach.{reach, reach-suc, reach-rises, reach-stays}
 use Rattle.steps.specs.declared.Operation.{Operation}
+use Rattle.steps.specs.declared.Refresh.{Refresh}
 use Rattle.steps.specs.declared.Visit.{Visit}
 use Rattle.steps.specs.declared.After.{After}
 use Rattle.steps.specs.declared.After.the-variants.{Right, Ends, Again, Up}
@@ -134,7 +134,7 @@ module _ (s : Shape) (m n : Memory) (sound : Sound s m) (hold hold' : ℕ → St
           owed = owed-stable (r .level) (r .low) (r .covered) (r .limit) (r .owed);
         }
 
-    starting-stable : (v : ℕ) (q : Bool) → Starting s m hold k b v q → Starting s n hold' k b v q
+    starting-stable : (v : ℕ) (q : Refresh) → Starting s m hold k b v q → Starting s n hold' k b v q
     starting-stable v q r =
         record {
           level = r .level;

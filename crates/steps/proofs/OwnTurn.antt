@@ -5,7 +5,7 @@ use native.Mathlib.Decide.{ℕ-discrete}
 use native.Mathlib.Nat.{le-refl}
 use mathlib.Core.Path.{_≡_, refl, ap, sym, _∙_, subst}
 use mathlib.Core.Logic.{_≢_}
-use mathlib.Core.Bool.{Bool, true, false, false≢true}
+use mathlib.Core.Bool.{true, false}
 use lib.Dec.{eqb}
 use borrow.Author.Tests.{eqb-true, eqb-false}
 use Rattle.base.proofs.Cases.{cases}
@@ -19,6 +19,8 @@ use Rattle.tree.proofs.Sound.{below-head, present-low, end-below}
 use Rattle.tree.proofs.Ancestors.{ancestor, sideAt, child-at, ancestor-node, ancestor-inner, ancestor-root, root-height, not-root}
 use Rattle.tree.proofs.Reach.{reach, reach-suc, reach-rises}
 use Rattle.steps.specs.declared.Operation.{Operation}
+use Rattle.steps.specs.declared.Refresh.{Refresh}
+use Rattle.steps.specs.declared.Refresh.the-variants.{First, Second}
 use Rattle.steps.specs.declared.Visit.{Visit}
 use Rattle.steps.specs.declared.After.{After}
 use Rattle.steps.specs.declared.After.the-variants.{Right, Ends, Again, Up}
@@ -29,6 +31,9 @@ use Rattle.steps.proofs.Progress.{Covered, Owed, Refreshing, Starting, 
 use Rattle.steps.proofs.Others.{Effect, Registers, owed-stable, make-building}
 use Rattle.steps.proofs.Builds.{built-follows, built-joins, same-ends}
 use Rattle.steps.proofs.Effects.{made-ends}
+
+first≢second : First ≡ Second → ⊥
+first≢second e = let z : _≡_ {A = ℕ} 0 1 = cc in omega arith
 
 -- ---- what a present block that reaches the operation gives, once it is below the head
 module _ (s : Shape) (n : Memory) (sound : Sound s n) (hold : ℕ → Stage) (k : ℕ) (kp : k < processes s) (b : ℕ) where
@@ -56,7 +61,7 @@ module _ (s : Shape) (n : Memory) (sound : Sound s n) (hold : ℕ → Stage) (k 
         node = ap parentOf (p .node);
         low = not-root s k kp (p .level) (p .low) (λ y. eqb-false (w .node) 1 f (p .node ∙ y));
         covered = cov;
-        owing = λ e. absurd (false≢true e);
+        owing = λ e. absurd (first≢second e);
       })
 
   pub bare : (w : Visit) → Refreshing s n hold k b w → Building s n hold k b w none
@@ -93,15 +98,15 @@ module _ (s : Shape) (m : Memory) (sound : Sound s m) (hold hold' : ℕ → Stag
         on r rp h e q l (yes x) = empty (sideAt s k j) (ancestor s k (suc j)) h e (rw x at q)
         on r rp h e q l (no x) = omega (arith, regs .heads r rp (sideAt s k j) (ancestor s k (suc j)) h e (rw (others r x) at q))
 
-    pub started : (v : ℕ) (q : Bool) → ((d : Side) (u h e : ℕ) → Holds d (hold' k) u h e → ⊥) → Starting s m hold k b v q
-        → Building s m hold' k b (record { node = v; second = q; head = headOf m v }) none
-    started v q empty p = bare s m sound hold' k kp b (record { node = v; second = q; head = headOf m v }) (on q (p .owing))
+    pub started : (v : ℕ) (q : Refresh) → ((d : Side) (u h e : ℕ) → Holds d (hold' k) u h e → ⊥) → Starting s m hold k b v q
+        → Building s m hold' k b (record { node = v; refresh = q; head = headOf m v }) none
+    started v q empty p = bare s m sound hold' k kp b (record { node = v; refresh = q; head = headOf m v }) (on q (p .owing))
       where
         first : 1 ≤ headOf m v
         first = rw (p .node) (sound .node (ancestor s k (suc (p .level))) (ancestor-node s k kp (suc (p .level)) (p .low)) .head)
 
-        on : (x : Bool) → (x ≡ true → (t : ℕ) × (t < headOf m v) × Owed s m hold k b (p .level) t) → Refreshing s m hold' k b (record { node = v; second = x; head = headOf m v })
-        on true w =
+        on : (x : Refresh) → (x ≡ Second → (t : ℕ) × (t < headOf m v) × Owed s m hold k b (p .level) t) → Refreshing s m hold' k b (record { node = v; refresh = x; head = headOf m v })
+        on Second w =
             record {
               level = p .level;
               limit = w refl .0;
@@ -113,7 +118,7 @@ module _ (s : Shape) (m : Memory) (sound : Sound s m) (hold hold' : ℕ → Stag
               bound = w refl .1;
               owed = owed-stable s m m sound hold hold' k kp o eff others regs k kp b (p .level) (p .low) (p .covered) (w refl .0) (w refl .2);
             }
-        on false w =
+        on First w =
             record {
               level = p .level;
               limit = headOf m v;

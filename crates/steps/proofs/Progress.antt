@@ -3,13 +3,14 @@
 use Prim.Native.Nat.{ℕ, suc, _+_, _-_, _≤_, _<_}
 use mathlib.Core.Path.{_≡_}
 use mathlib.Core.Logic.{_⊎_}
-use mathlib.Core.Bool.{Bool, true, false}
 use Rattle.tree.specs.Shape.{Shape, processes, root, leafOf, leftOf, rightOf}
 use Rattle.tree.specs.Memory.{Memory, headOf, block}
 use Rattle.tree.specs.Sides.{Side, onLeft, onRight, childOf, endOf}
 use Rattle.tree.specs.Contracts.Invariant.{Node, count, Present, Follows, Joins}
 use Rattle.tree.proofs.Ancestors.{ancestor, sideAt}
 use Rattle.tree.proofs.Reach.{reach}
+use Rattle.steps.specs.declared.Refresh.{Refresh}
+use Rattle.steps.specs.declared.Refresh.the-variants.{First, Second}
 use Rattle.steps.specs.declared.Visit.{Visit}
 use Rattle.steps.specs.declared.After.{After}
 use Rattle.steps.specs.declared.After.the-variants.{Right, Ends, Again, Up}
@@ -59,9 +60,9 @@ pub record Owed (s : Shape) (m : Memory) (hold : ℕ → Stage) (k b j t : ℕ) 
   pub ends : (r : ℕ) → r < processes s → (h e : ℕ) → Holds (sideAt s k j) (hold r) (ancestor s k (suc j)) h e → t < h → b ≤ reach s m k j e
 
 -- the threshold of a first refresh with head h, and of a second
-abbrev pub Threshold : Bool → ℕ → ℕ → Type 0
-Threshold false t h = t ≤ h
-Threshold true t h = t < h
+abbrev pub Threshold : Refresh → ℕ → ℕ → Type 0
+Threshold First t h = t ≤ h
+Threshold Second t h = t < h
 
 -- in a refresh whose head is read
 pub record Refreshing (s : Shape) (m : Memory) (hold : ℕ → Stage) (k b : ℕ) (w : Visit) : Type 0 where
@@ -72,16 +73,16 @@ pub record Refreshing (s : Shape) (m : Memory) (hold : ℕ → Stage) (k b : ℕ
   pub covered : Covered s m k b level
   pub first : 1 ≤ w .head
   pub last : w .head ≤ headOf m (w .node)
-  pub bound : Threshold (w .second) limit (w .head)
+  pub bound : Threshold (w .refresh) limit (w .head)
   pub owed : Owed s m hold k b level limit
 
 -- at the first step of a refresh
-pub record Starting (s : Shape) (m : Memory) (hold : ℕ → Stage) (k b v : ℕ) (q : Bool) : Type 0 where
+pub record Starting (s : Shape) (m : Memory) (hold : ℕ → Stage) (k b v : ℕ) (q : Refresh) : Type 0 where
   pub level : ℕ
   pub node : v ≡ ancestor s k (suc level)
   pub low : suc level ≤ s .height
   pub covered : Covered s m k b level
-  pub owing : q ≡ true → (t : ℕ) × (t < headOf m v) × Owed s m hold k b level t
+  pub owing : q ≡ Second → (t : ℕ) × (t < headOf m v) × Owed s m hold k b level t
 
 -- in the advance of place h of the visited node, which reaches the operation; in the one after a failed first refresh
 pub record Passing (s : Shape) (m : Memory) (k b : ℕ) (w : Visit) (v h : ℕ) : Type 0 where

@@ -2,11 +2,11 @@
 -- functions; no exported promise names it.
 use Prim.Native.Nat.{ℕ}
 use mathlib.Core.Path.{_≡_, refl}
-use mathlib.Core.Bool.{Bool}
 use lib.Dec.{eqb}
 use Rattle.base.proofs.Cases.{both}
 use Rattle.tree.specs.Shape.{root}
 use Rattle.tree.specs.Sides.{Side, onLeft, onRight}
+use Rattle.steps.specs.declared.Refresh.{Refresh}
 use Rattle.steps.specs.declared.Visit.{Visit}
 use Rattle.steps.specs.declared.After.{After}
 use Rattle.steps.specs.declared.After.the-variants.{Right, Ends, Again, Up}
@@ -34,7 +34,7 @@ pub data Stage : Type 0 where
   resting : Stage
   adding : Stage
   advancing : Visit → After → ℕ → ℕ → Stage
-  starting : ℕ → Bool → Stage
+  starting : ℕ → Refresh → Stage
   building : Visit → Hand → Stage
   answering : Stage
 
@@ -43,7 +43,7 @@ stage A = adding
 stage (V1 a w v h) = advancing w a v h
 stage (V2 a w v h x) = advancing w a v h
 stage (V3 a w v h) = advancing w a v h
-stage (R1 second v) = starting v second
+stage (R1 x v) = starting v x
 stage (R2 w) = building w none
 stage (R3 w c) = building w none
 stage (R4 w) = building w none
@@ -91,7 +91,7 @@ abbrev pub Holds : Side → Stage → ℕ → ℕ → ℕ → Type 0
 Holds d resting u h e = ⊥
 Holds d adding u h e = ⊥
 Holds d (advancing w a v i) u h e = ⊥
-Holds d (starting v second) u h e = ⊥
+Holds d (starting v x) u h e = ⊥
 Holds d (building w x) u h e = (w .node ≡ u) × (w .head ≡ h) × HasEnd d x e
 Holds d answering u h e = ⊥
 

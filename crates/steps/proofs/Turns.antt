@@ -10,6 +10,8 @@ use Rattle.tree.specs.Blocks.{absent}
 use Rattle.tree.specs.Memory.{Memory, headOf, block, write, writeIfAbsent, setSuper, raise}
 use Rattle.tree.specs.Sides.{Side, onLeft, onRight, childOf}
 use Rattle.steps.specs.declared.Operation.{Operation}
+use Rattle.steps.specs.declared.Refresh.{Refresh}
+use Rattle.steps.specs.declared.Refresh.the-variants.{First}
 use Rattle.steps.specs.declared.Visit.{Visit}
 use Rattle.steps.specs.declared.After.{After}
 use Rattle.steps.specs.declared.After.the-variants.{Right, Ends, Up}
@@ -33,13 +35,13 @@ pub data Turn (s : Shape) (k : ℕ) (o : Operation) (m : Memory) : Stage → Mem
   -- A
   adds : Turn s k o m adding
       (write s m (leafOf s k) (headOf m (leafOf s k)) (plusOperation o (block s m (leafOf s k) (headOf m (leafOf s k) - 1))))
-      (advancing (record { node = leafOf s k; second = false; head = headOf m (leafOf s k) }) Up (leafOf s k) (headOf m (leafOf s k)))
+      (advancing (record { node = leafOf s k; refresh = First; head = headOf m (leafOf s k) }) Up (leafOf s k) (headOf m (leafOf s k)))
   -- V2
   supers : (w : Visit) (a : After) (v h x : ℕ) → Turn s k o m (advancing w a v h) (setSuper s m v h x) (advancing w a v h)
   -- V3
   raises : (w : Visit) (a : After) (v h : ℕ) → Turn s k o m (advancing w a v h) (raise m v h) (afterStage a w)
   -- R1
-  starts : (v : ℕ) (q : Bool) → Turn s k o m (starting v q) m (building (record { node = v; second = q; head = headOf m v }) none)
+  starts : (v : ℕ) (q : Refresh) → Turn s k o m (starting v q) m (building (record { node = v; refresh = q; head = headOf m v }) none)
   -- R3 and R5 that find a block
   helps : (w : Visit) (d : Side) (c : ℕ) → absent (block s m (childOf d (w .node)) c) ≡ false
       → Turn s k o m (building w none) m (advancing w (afterHelp d) (childOf d (w .node)) c)
@@ -56,9 +58,9 @@ pub data Turn (s : Shape) (k : ℕ) (o : Operation) (m : Memory) : Stage → Mem
       → Turn s k o m (building w (two l r (countedBoth puts takes))) m (aboveStage (w .node))
   -- C4: the place is absent, or taken
   writes : (w : Visit) (n : Built) → absent (block s m (w .node) (w .head)) ≡ true
-      → Turn s k o m (building w (made n)) (write s m (w .node) (w .head) (blockOf n)) (advancing w (afterRefresh (w .second) true) (w .node) (w .head))
+      → Turn s k o m (building w (made n)) (write s m (w .node) (w .head) (blockOf n)) (advancing w (afterRefresh (w .refresh) true) (w .node) (w .head))
   meets : (w : Visit) (n : Built) → absent (block s m (w .node) (w .head)) ≡ false
-      → Turn s k o m (building w (made n)) m (advancing w (afterRefresh (w .second) false) (w .node) (w .head))
+      → Turn s k o m (building w (made n)) m (advancing w (afterRefresh (w .refresh) false) (w .node) (w .head))
   -- Q
   finishes : Turn s k o m answering m resting
 
@@ -72,7 +74,7 @@ module _ (s : Shape) (k : ℕ) (o : Operation) (m : Memory) where
       (λ f. rw (stage-advance w (afterHelp d) (childOf d (w .node)) c) (helps w d c f))
 
   write-turn : (w : Visit) (n : Built) (b : Bool) → absent (block s m (w .node) (w .head)) ≡ b
-      → Turn s k o m (building w (made n)) (writeIfAbsent s m (w .node) (w .head) (blockOf n)) (advancing w (afterRefresh (w .second) b) (w .node) (w .head))
+      → Turn s k o m (building w (made n)) (writeIfAbsent s m (w .node) (w .head) (blockOf n)) (advancing w (afterRefresh (w .refresh) b) (w .node) (w .head))
   unfolding writeIfAbsent write
   write-turn w n true e = rw e (writes w n e)
   write-turn w n false e = rw e (meets w n e)
@@ -99,6 +101,6 @@ module _ (s : Shape) (k : ℕ) (o : Operation) (m : Memory) where
       cases (λ (n : Step). Turn s k o m (building w (two l r (countedBoth puts takes))) m (stage n)) (sameTotals puts takes (block s m (w .node) (w .head - 1)))
       (λ e. finds w l r puts takes e) (λ e. makes w l r puts takes e)
   turn (C4 w n) =
-      rw (stage-advance w (afterRefresh (w .second) (absent (block s m (w .node) (w .head)))) (w .node) (w .head))
+      rw (stage-advance w (afterRefresh (w .refresh) (absent (block s m (w .node) (w .head)))) (w .node) (w .head))
       (write-turn w n (absent (block s m (w .node) (w .head))) refl)
   turn Q = finishes

@@ -1,11 +1,11 @@
 -- The words that C3L, C3R and C3N take, at p = 4 and L = 1, worked out by hand: the root's part has words 0 to 29,
 -- those of nodes 2 and 3 begin at 30 and 48, those of leaves 6 and 7 at 90 and 102.
 use mathlib.Core.Path.{_≡_, refl}
-use mathlib.Core.Bool.{true, false}
 use mathlib.Core.List.{[], _∷_}
 use Rattle.tree.specs.Shape.{shapeFor}
 use Rattle.tree.specs.Memory.{memoryOf}
 use Rattle.tree.specs.All.{trees}
+use Rattle.steps.specs.declared.Refresh.the-variants.{First, Second}
 use Rattle.steps.specs.declared.Visit.{Visit}
 use Rattle.steps.specs.declared.Step.the-variants.{C3L, C3R, C3N}
 use Rattle.steps.specs.OwnWords.{OwnWords, ofLeft, ofRight, ofNode, wordsAt}
@@ -14,7 +14,7 @@ use Rattle.steps.specs.All.{stepRules}
 -- in the root, whose head was 4, with the ends 2 and 1: of block 2 of node 2, of block 1 of node 3, and of its own
 -- block 3, where the third word is its size
 abbrev inRoot : Visit
-inRoot = record { node = 1; second = false; head = 4 }
+inRoot = record { node = 1; refresh = First; head = 4 }
 
 pub leftInRoot : OwnWords (shapeFor 4 1) (C3L inRoot 2 1) (42 ∷ 43 ∷ [])
 unfolding trees stepRules
@@ -31,7 +31,7 @@ nodeInRoot = ofNode inRoot 2 1 2 1
 -- in a second refresh of node 3, whose head was 2, with the ends 1 and 0: of block 1 of leaf 6, of block 0 of leaf 7, and of its own
 -- block 1
 abbrev belowRoot : Visit
-belowRoot = record { node = 3; second = true; head = 2 }
+belowRoot = record { node = 3; refresh = Second; head = 2 }
 
 pub leftBelow : OwnWords (shapeFor 4 1) (C3L belowRoot 1 0) (96 ∷ 97 ∷ [])
 unfolding trees stepRules

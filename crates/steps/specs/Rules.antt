@@ -1,6 +1,6 @@
 -- The step rules: what each named step does to the shared memory, and which step comes next.
 use Prim.Native.Nat.{ℕ, _+_, _-_}
-use mathlib.Core.Bool.{Bool, true, false, _&&_, _||_}
+use mathlib.Core.Bool.{Bool, _&&_}
 use lib.Dec.{eqb}
 use Rattle.base.specs.Choice.{if_then_else_}
 use Rattle.tree.specs.declared.Block.{Block}
@@ -8,6 +8,8 @@ use Rattle.tree.specs.Shape.{Shape, root, leafOf, parentOf, leftOf, rightOf}
 use Rattle.tree.specs.Blocks.{absent}
 use Rattle.steps.specs.declared.Operation.{Operation}
 use Rattle.steps.specs.declared.Operation.the-variants.{Put, Take}
+use Rattle.steps.specs.declared.Refresh.{Refresh}
+use Rattle.steps.specs.declared.Refresh.the-variants.{First, Second}
 use Rattle.steps.specs.declared.Visit.{Visit}
 use Rattle.steps.specs.declared.After.{After}
 use Rattle.steps.specs.declared.After.the-variants.{Right, Ends, Again, Up}
@@ -23,13 +25,13 @@ use Rattle.tree.specs.Size.{rootSize}
 
 -- after the last refresh of v: the parent is refreshed, or after the root Q is done
 unfoldable pub above : ℕ → Step
-above v = if eqb v root then Q else R1 false (parentOf v)
+above v = if eqb v root then Q else R1 First (parentOf v)
 
 -- the first step of what follows an advance
 unfoldable pub resume : After → Visit → Step
 resume Right w = R4 w
 resume Ends w = C1 w
-resume Again w = R1 true (w .node)
+resume Again w = R1 Second (w .node)
 resume Up w = above (w .node)
 
 -- advance (v, h), in a visit: V1, V2, V3; at the root, V3 only
@@ -38,8 +40,12 @@ advance w a v h = if eqb v root then V3 a w v h else V1 a w v h
 
 -- what follows the advance of a refreshed node: a failed first refresh is done a second time; after a first that
 -- succeeded, or a second whatever its outcome, go on up
-unfoldable pub afterRefresh : Bool → Bool → After
-afterRefresh second success = if success || second then Up else Again
+unfoldable pub afterFailed : Refresh → After
+afterFailed First = Again
+afterFailed Second = Up
+
+unfoldable pub afterRefresh : Refresh → Bool → After
+afterRefresh x success = if success then Up else afterFailed x
 
 -- R3 and R5: the child's block at c is looked at; if present, advance (child, c)
 unfoldable pub help : Shape → Memory → Visit → After → ℕ → ℕ → Step
@@ -83,11 +89,11 @@ module _ (s : Shape) (k : ℕ) (o : Operation) (m : Memory) where
   step A =
       let v = leafOf s k in
       let h = headOf m v in
-      go (write s m v h (plusOperation o (block s m v (h - 1)))) (advance (record { node = v; second = false; head = h }) Up v h)
+      go (write s m v h (plusOperation o (block s m v (h - 1)))) (advance (record { node = v; refresh = First; head = h }) Up v h)
   step (V1 a w v h) = go m (V2 a w v h (headOf m (parentOf v)))
   step (V2 a w v h x) = go (setSuper s m v h x) (V3 a w v h)
   step (V3 a w v h) = go (raise m v h) (resume a w)
-  step (R1 second v) = go m (R2 (record { node = v; second = second; head = headOf m v }))
+  step (R1 x v) = go m (R2 (record { node = v; refresh = x; head = headOf m v }))
   step (R2 w) = go m (R3 w (headOf m (leftOf (w .node))))
   step (R3 w c) = go m (help s m w Right (leftOf (w .node)) c)
   step (R4 w) = go m (R5 w (headOf m (rightOf (w .node))))
@@ -104,5 +110,5 @@ module _ (s : Shape) (k : ℕ) (o : Operation) (m : Memory) where
   step (C4 w n) =
       let v = w .node in
       let h = w .head in
-      go (writeIfAbsent s m v h (blockOf n)) (advance w (afterRefresh (w .second) (absent (block s m v h))) v h)
+      go (writeIfAbsent s m v h (blockOf n)) (advance w (afterRefresh (w .refresh) (absent (block s m v h))) v h)
   step Q = record { memory = m; next = Idle }

@@ -11,12 +11,18 @@ pub enum Operation {
     Take,
 }
 
-// Where an operation is on its way from its leaf to the root: the node, whether this is the second refresh of it, and
-// the head h that was read there.
+// Which refresh of a node it is: an operation does two at most.
+pub enum Refresh {
+    First,
+    Second,
+}
+
+// Where an operation is on its way from its leaf to the root: the node, the head h that was read there, and which
+// refresh of the node it is.
 pub struct Visit {
     pub node: u32,
     pub head: u32,
-    pub second: bool,
+    pub refresh: Refresh,
 }
 
 // What follows an advance: the right half of a refresh's helping (R4), its ends (C1), the second refresh of the node,
@@ -65,7 +71,7 @@ pub enum Step {
         place: u32,
     },
     R1 {
-        second: bool,
+        refresh: Refresh,
         node: u32,
     },
     R2 {

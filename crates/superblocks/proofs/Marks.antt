@@ -4,12 +4,12 @@ use Prim.Native.Nat.{ℕ, _≤_, _<_}
 use native.Mathlib.Omega.{arith}
 use mathlib.Core.Path.{_≡_}
 use mathlib.Core.Logic.{_⊎_}
-use mathlib.Core.Bool.{false}
 use Rattle.tree.specs.Shape.{Shape, processes}
 use Rattle.tree.specs.Memory.{Memory, headOf, block}
 use Rattle.tree.specs.Sides.{Side, onLeft, onRight, childOf, endOf}
 use Rattle.tree.specs.Contracts.Invariant.{Node, Inner, Present}
 use Rattle.steps.specs.declared.Operation.{Operation}
+use Rattle.steps.specs.declared.Refresh.the-variants.{First}
 use Rattle.steps.specs.declared.Visit.{Visit}
 use Rattle.steps.specs.declared.After.{After}
 use Rattle.steps.specs.declared.After.the-variants.{Right, Ends, Again, Up}
@@ -81,7 +81,7 @@ abbrev pub stageSight : Stage → Side → Sight → Sight
 stageSight resting d x = unseen
 stageSight adding d x = unseen
 stageSight (advancing w a v h) d x = helpSight a d v h
-stageSight (starting v second) d x = unseen
+stageSight (starting v q) d x = unseen
 stageSight (building w y) d x = handSight y d x
 stageSight answering d x = unseen
 
@@ -90,13 +90,13 @@ sight n d = stageSight (stage n) d (ownSight n d)
 
 -- the visit that a stage is in; the values of a stage outside of any stand for none, where nothing is seen
 abbrev noVisit : Visit
-noVisit = record { node = 0; head = 0; second = false }
+noVisit = record { node = 0; head = 0; refresh = First }
 
 abbrev pub visitIn : Stage → Visit
 visitIn resting = noVisit
 visitIn adding = noVisit
 visitIn (advancing w a v h) = w
-visitIn (starting v second) = noVisit
+visitIn (starting v q) = noVisit
 visitIn (building w x) = w
 visitIn answering = noVisit
 

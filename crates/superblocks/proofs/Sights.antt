@@ -5,7 +5,7 @@ use native.Mathlib.Omega.{arith}
 use native.Mathlib.Decide.{ℕ-discrete}
 use native.Mathlib.Nat.{le-refl}
 use mathlib.Core.Path.{_≡_, ap, subst}
-use mathlib.Core.Bool.{Bool, true, _||_}
+use mathlib.Core.Bool.{Bool, true}
 use lib.Dec.{eqb}
 use Rattle.base.proofs.Cases.{both, cases}
 use Rattle.tree.specs.Shape.{Shape, root, leafOf, leftOf, rightOf}
@@ -17,21 +17,24 @@ use Rattle.tree.proofs.Presence.{absent-count}
 use Rattle.tree.proofs.Writes.{raise-cases, raise-past}
 use Rattle.tree.proofs.Sound.{present-low}
 use Rattle.steps.specs.declared.Operation.{Operation}
+use Rattle.steps.specs.declared.Refresh.{Refresh}
+use Rattle.steps.specs.declared.Refresh.the-variants.{First, Second}
 use Rattle.steps.specs.declared.Visit.{Visit}
 use Rattle.steps.specs.declared.After.{After}
 use Rattle.steps.specs.declared.After.the-variants.{Right, Ends, Again, Up}
 use Rattle.steps.specs.declared.Step.{Step}
 use Rattle.steps.specs.declared.Step.the-variants.{A, V1, V2, V3, R1, R2, R3, R4, R5, C1, C2, C3L, C3R, C3N, C4, Q}
 use Rattle.steps.specs.declared.Status.the-variants.{Busy}
-use Rattle.steps.specs.Rules.{above, resume, advance, afterRefresh, help, sameTotals, built, go, step}
+use Rattle.steps.specs.Rules.{above, resume, advance, afterFailed, afterRefresh, help, sameTotals, built, go, step}
 use Rattle.steps.proofs.Stages.{Stage, stage}
 use Rattle.steps.proofs.Progress.{Carried}
 use Rattle.superblocks.proofs.Marks.{looking, advances, helpSight, Covers, covers-rises, Seen}
 
 -- what follows the advance of a refreshed node: the second refresh, or the way up
-next-refresh : (P : After → Type 0) → P Up → P Again → (second success : Bool) → P (afterRefresh second success)
-unfolding afterRefresh
-next-refresh P up again second success = both P (success || second) up again
+next-refresh : (P : After → Type 0) → P Up → P Again → (x : Refresh) (success : Bool) → P (afterRefresh x success)
+unfolding afterRefresh afterFailed
+next-refresh P up again First success = both P success up again
+next-refresh P up again Second success = both P success up up
 
 -- ---- what is seen of a present block, at place i of the child on side d of node u
 module _ (s : Shape) (m : Memory) (sound : Sound s m) (o : Operation) (u i z : ℕ) where
@@ -127,5 +130,5 @@ module _ (s : Shape) (m : Memory) (sound : Sound s m) (o : Operation) (u i z : �
         seen-built onRight q = q
     seen-turn (C4 w n) d here low carried q =
         seen-advance d _ w _ (w .node) (w .head)
-        (λ e l. next-refresh (λ (a : After). Covers (step s k o m (C4 w n) .memory) d u i (helpSight a d (w .node) (w .head))) tt tt (w .second) (absent (block s m (w .node) (w .head))))
+        (λ e l. next-refresh (λ (a : After). Covers (step s k o m (C4 w n) .memory) d u i (helpSight a d (w .node) (w .head))) tt tt (w .refresh) (absent (block s m (w .node) (w .head))))
     seen-turn Q d here low carried q = tt

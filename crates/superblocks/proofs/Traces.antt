@@ -197,6 +197,6 @@ module _ (s : Shape) (m : Memory) (sized : Sized s m) (sound : Sound s m) (hold 
       quiet s m _ o _ (both (Quiet o) (sameTotals puts takes (block s m (w .node) (w .head - 1))) (above-quiet o (w .node)) (λ v i z. elim [ ], λ v i l. elim [ ]))
   traces (C4 w n) own carried some set =
       let inner = step-nodes s m hold k kp b (C4 w n) carried in
-      quiet-after s m _ _ o _ (advance-quiet o w (afterRefresh (w .second) (absent (block s m (w .node) (w .head)))) (w .node) (w .head))
+      quiet-after s m _ _ o _ (advance-quiet o w (afterRefresh (w .refresh) (absent (block s m (w .node) (w .head)))) (w .node) (w .head))
       (write-super s m sized sound (w .node) (w .head) (blockOf n) (inner-node s (w .node) inner) refl (Busy o (C4 w n))) (λ v. inl refl)
   traces Q own carried some set = record { supers = λ v i. inl refl; heads = λ v. inl refl; comesToV2 = λ v i z. elim [ ]; comesToV3 = λ v i l. elim [ ] }

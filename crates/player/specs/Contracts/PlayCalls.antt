@@ -2,13 +2,11 @@
 use Prim.Native.Nat.{ℕ, _*_, _≤_}
 use mathlib.Core.Path.{_≡_}
 use mathlib.Core.Logic.{_⊎_}
-use mathlib.Core.Bool.{true}
 use mathlib.Core.List.{List}
 use lib.ListN.{length, replicate}
-use Rattle.tree.specs.Shape.{Shape, processes, shapeFor}
+use Rattle.tree.specs.Shape.{Shape, processes}
 use Rattle.tree.specs.Layout.{wordsNeeded}
 use Rattle.tree.specs.Contracts.Access.{Laid}
-use Rattle.steps.specs.Process.{processesAllowed, operationsAllowed}
 use Rattle.calls.specs.Run.{Played}
 use Rattle.log.specs.Contracts.Leading.{leadingOf, written}
 use Rattle.player.specs.declared.Outcome.{Outcome}
@@ -34,11 +32,3 @@ pub record PlayResult (g : Played) (log before : List ℕ) (o : Outcome) (table 
   pub words : table ≡ g .machine .memory .table
   pub nodes : heads ≡ g .machine .memory .heads
   pub bytes : out ≡ written before (g .answers)
-
--- p and l are allowed, each head is 1, the table has the words needed, and there are `room` answer bytes or none
-pub record Callable (p l : ℕ) (heads : List ℕ) (words room bytes : ℕ) : Type 0 where
-  pub processes : processesAllowed p ≡ true
-  pub most : operationsAllowed l ≡ true
-  pub ones : heads ≡ replicate (2 * p) 1
-  pub enough : wordsNeeded (shapeFor p l) ≤ words
-  pub bounded : (bytes ≡ 0) ⊎ (bytes ≡ room)

@@ -45,7 +45,7 @@ module _ (starts heads table : List ℕ) (leaf : ℕ) where
   Ready (V1 a w v h) = v / 2 < length heads
   Ready (V2 a w v h x) = (v < length heads) × HasPlace starts table v h
   Ready (V3 a w v h) = (v < length heads) × (h < 65536)
-  Ready (R1 second v) = v < length heads
+  Ready (R1 x v) = v < length heads
   Ready (R2 w) = Children heads w
   Ready (R3 w c) = Children heads w × HasPart starts table (2 * w .node)
   Ready (R4 w) = Children heads w

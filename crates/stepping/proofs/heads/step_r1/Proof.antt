@@ -9,14 +9,14 @@ use borrow.Author.Needs.{needs}
 use Rattle.stepping.proofs.heads.step_r1.Statement.{statement}
 use Rattle.stepping.proofs.heads.step_r1.Tie as tie
 
-at : (c : tie.After-second) → let x = c .second .given .0 in stepIn (c .before .before .before .before .args .q .status) ≡ R1 (x .0) (x .1 .0)
-at c = sym (c .before .before .step-in .ensures) ∙ c .second .given .1
+at : (c : tie.After-refresh) → let x = c .refresh .given .0 in stepIn (c .before .before .before .before .args .q .status) ≡ R1 (x .0) (x .1 .0)
+at c = sym (c .before .before .step-in .ensures) ∙ c .refresh .given .1
 
 step-in-requires : tie.Need-step-in-requires
 step-in-requires c κs = search needs
 
-enum-known-second : tie.Need-enum-known-second
-enum-known-second c = search needs
+enum-known-refresh : tie.Need-enum-known-refresh
+enum-known-refresh c = search needs
 
 returns : tie.Need-returns
 returns c = (λ _ _ e. absurd (other (c .match .keys2) (c .before .step-in .ensures ∙ e) tt), λ _. (refl, refl))
@@ -38,7 +38,7 @@ step-r1-spec =
     tie.close
     (tie.spec
     step-in-requires
-    enum-known-second
+    enum-known-refresh
     returns
     head-of-requires
     moved-requires

@@ -4,8 +4,8 @@ use mathlib.Core.Logic.{inl}
 use mathlib.Core.List.{[]}
 use borrow.Author.Needs.{needs}
 use Rattle.log.proofs.Written.{written-nowhere}
-use Rattle.player.proofs.call.play_unanswered.Statement.{statement}
-use Rattle.player.proofs.call.play_unanswered.Tie as tie
+use Rattle.call_player.proofs.call.play_unanswered.Statement.{statement}
+use Rattle.call_player.proofs.call.play_unanswered.Tie as tie
 
 mul-room : tie.Need-mul-room
 mul-room c = search needs

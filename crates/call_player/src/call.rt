@@ -1,7 +1,7 @@
 // The records of a call, played from the start: the needed words of the table cleared, and each head 1.
-use crate::Outcome;
-use crate::play::play;
 use base::as_index;
+use player::Outcome;
+use player::play::play;
 use tree::layout::clear;
 use tree::layout::height_for;
 use tree::layout::starts;
@@ -14,7 +14,8 @@ ghost use Rattle.record.specs.StepRecords.{stepRecords};
 ghost use Rattle.tree.specs.Layout.{wordsNeeded};
 ghost use Rattle.tree.specs.Shape.{shapeFor};
 ghost use Rattle.calls.specs.Run.{play as played};
-ghost use Rattle.player.specs.Contracts.PlayCalls.{Callable, PlayResult};
+ghost use Rattle.player.specs.Contracts.PlayCalls.{PlayResult};
+ghost use Rattle.call_player.specs.Contracts.Callable.{Callable};
 
 // Plays the records of a call with p and l, which are allowed, and a table that is long enough. Table words past those
 // needed stay.

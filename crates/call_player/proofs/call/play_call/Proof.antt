@@ -5,9 +5,9 @@ use lib.ListN.{length}
 use lib.Seq.{length-take-le}
 use borrow.Author.Needs.{needs}
 use Rattle.steps.proofs.Limits.{allowed-most, allowed-width}
-use Rattle.player.proofs.PlayCallLaws.{Measured, call-fits, call-starts, call-words, call-rest}
-use Rattle.player.proofs.call.play_call.Statement.{statement}
-use Rattle.player.proofs.call.play_call.Tie as tie
+use Rattle.call_player.proofs.PlayCallLaws.{Measured, call-fits, call-starts, call-words, call-rest}
+use Rattle.call_player.proofs.call.play_call.Statement.{statement}
+use Rattle.call_player.proofs.call.play_call.Tie as tie
 
 -- where the words needed are worked out
 measured : (c : tie.After-words-needed) →

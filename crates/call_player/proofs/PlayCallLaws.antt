@@ -10,7 +10,8 @@ use Rattle.tree.specs.Layout.{partStart, wordsNeeded}
 use Rattle.tree.specs.Contracts.Access.{Laid}
 use Rattle.calls.proofs.Theorem.{tall-for}
 use Rattle.steps.proofs.Limits.{allowed-most, allowed-width, shape-is, needed-for, short-for}
-use Rattle.player.specs.Contracts.PlayCalls.{Callable, AtStart}
+use Rattle.player.specs.Contracts.PlayCalls.{AtStart}
+use Rattle.call_player.specs.Contracts.Callable.{Callable}
 
 -- the starts that are worked out are those of the tree for p processes of at most l operations
 pub laid-for : (p l h w : ℕ) → h ≡ heightFor p → w ≡ l → (firsts heads : List ℕ)
