@@ -15,10 +15,15 @@
    Records, numbers low byte first, without a header:
    - step record, 8 bytes: process; kind (0 step, 1 begin put, 2 begin take); two zero bytes; value,
      32 bits, 0 unless the kind is 1;
-   - answer record, 16 bytes: process; kind (1 put done, 2 value, 3 none); own steps of the operation,
-     16 bits, at most 41, 81 or 121 with p = 2, 4 or 8; then, 32 bits each, value (0 unless the kind
-     is 2), serial of the operation in its process, from 1, and root block;
-   - order record, 8 bytes: process; kind (1 put, 2 take); serial, 16 bits; root block, 32 bits. */
+   - answer record, 16 bytes: process; kind (1 put done, 2 value, 3 none); byte 2 the own steps of the
+     operation, at most 41, 81 or 121 with p = 2, 4 or 8; byte 3 its helps, at most its steps; then, 32
+     bits each, value (0 unless the kind is 2), serial of the operation in its process, from 1, and root
+     block;
+   - order record, 8 bytes: process; kind (1 put, 2 take); serial, 16 bits; root block, 32 bits.
+
+   A help is the move of a head for another process's block: a V3 that raises a child's head in an
+   advance begun by R3 or R5. One that finds the head raised already is no help, and neither is the
+   advance of the own leaf or of the refreshed node. */
 #ifndef OTQ_H
 #define OTQ_H
 

@@ -48,10 +48,11 @@ static uint8_t *operation(uint8_t *record, uint8_t process, uint8_t kind, uint8_
     return record;
 }
 
+/* Put or take, process, serial, own steps, helps, root block, and for a take the value or none. */
 static void print_answer(const uint8_t *answer)
 {
-    printf("%s %d %" PRIu32 " %" PRIu32 " %" PRIu32, answer[1] == 1 ? "put" : "take", answer[0],
-           number(answer + 8, 4), number(answer + 2, 2), number(answer + 12, 4));
+    printf("%s %d %" PRIu32 " %d %d %" PRIu32, answer[1] == 1 ? "put" : "take", answer[0],
+           number(answer + 8, 4), answer[2], answer[3], number(answer + 12, 4));
     if (answer[1] == 2) {
         printf(" %" PRIu32, number(answer + 4, 4));
     } else if (answer[1] == 3) {

@@ -30,7 +30,7 @@ use Rattle.search.specs.declared.Standing.{Standing}
 use Rattle.search.specs.Contracts.Stands.{Stands, RootBlockIs, OfKind, StandsAt, StandsOf}
 use Rattle.answer.specs.Contracts.Playing.{machineOf, Plays}
 use Rattle.answer.specs.Contracts.Answering.{recordOf, TakeAt}
-use Rattle.answer.proofs.PlaysLaws.{steps-small, plays-tree}
+use Rattle.answer.proofs.PlaysLaws.{steps-small, helps-small, plays-tree}
 
 -- the height of the tree for so many processes
 height-by : (H : ℕ) → 1 ≤ H → H ≤ 3 → heightFor (2 ^ H) ≡ H
@@ -48,8 +48,9 @@ module _ {s : Shape} {ps : List Process} {starts heads table : List ℕ} {k : �
   pub leaf-small : p + k < 16
   leaf-small = omega (arith, plays .low, processes-most s (plays .tall))
 
-  pub answer-small : {r : Reply} {b : ℕ} {x : AnswerRecord} → x ≡ recordOf k q r b → (x .process < 256) × (x .steps < 65536)
-  answer-small e = rw e (omega (arith, leaf-small), omega (arith, steps-small s ps starts heads table k q plays))
+  pub answer-small : {r : Reply} {b : ℕ} {x : AnswerRecord} → x ≡ recordOf k q r b → (x .process < 256) × (x .steps < 256) × (x .helps < 256)
+  answer-small e =
+      rw e (omega (arith, leaf-small), omega (arith, steps-small s ps starts heads table k q plays), omega (arith, helps-small s ps starts heads table k q plays))
 
   height-is : heightFor p ≡ s .height
   unfolding processes

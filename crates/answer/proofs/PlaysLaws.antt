@@ -1,5 +1,5 @@
 -- What is known of a process that is being played. Used by proofs; no exported promise names it.
-use Prim.Native.Nat.{ℕ, _≤_}
+use Prim.Native.Nat.{ℕ, _≤_, _<_}
 use native.Mathlib.Omega.{arith}
 use mathlib.Core.Path.{_≡_, ap, _∙_}
 use mathlib.Core.Bool.{false}
@@ -17,10 +17,15 @@ use Rattle.steps.proofs.Readiness.{ready}
 use Rattle.answer.specs.Contracts.Playing.{machineOf, Plays}
 
 module _ (s : Shape) (ps : List Process) (starts heads table : List ℕ) (k : ℕ) (q : Process) (plays : Plays s ps starts heads table k q) where
-  -- its own steps and the operations that it has begun are few
-  pub steps-small : q .steps ≤ 1000
+  -- its own steps, with one more, and its helps fit a byte, by the limit on own steps; the operations that it has begun
+  -- are few
+  pub steps-small : q .steps < 255
   steps-small =
       omega (arith, plays .keeps .process k (plays .low) .bounded, ap (λ (x : Process). x .steps) (plays .here), rest-first s (plays .inner), plays .tall)
+
+  pub helps-small : q .helps < 255
+  helps-small =
+      omega (arith, steps-small, plays .keeps .process k (plays .low) .helped, ap (λ (x : Process). x .steps) (plays .here), ap (λ (x : Process). x .helps) (plays .here))
 
   pub begun-small : q .begun ≤ 500
   begun-small = omega (arith, plays .keeps .process k (plays .low) .within, ap (λ (x : Process). x .begun) (plays .here), plays .few)

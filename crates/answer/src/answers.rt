@@ -27,6 +27,7 @@ fn answer(k: u32, q: Process, reply: Reply, block: u32) -> AnswerRecord
         process: k,
         reply: reply,
         steps: q.steps + 1,
+        helps: q.helps,
         serial: q.serial(),
         block: block,
     }
@@ -46,7 +47,7 @@ pub fn answer_of(
     requires { ⌜ Playing p (now starts) (now heads) (now table) k q × (q .status ≡ Busy o Q) ⌝ }
     ensures record { λ r. ⌜ ((s : Shape) (ps : List Proc) → processes s ≡ p → Plays s ps (now (starts .entry)) (now (heads .entry)) (now (table .entry)) k q →
         r ≡ answerOf s (machineOf (now (table .entry)) (now (heads .entry)) ps) k o) ⌝ }
-    ensures bounds { λ r. ⌜ (r .process < 256) × (r .steps < 65536) ⌝ }
+    ensures bounds { λ r. ⌜ (r .process < 256) × (r .steps < 256) × (r .helps < 256) ⌝ }
 {
     let leaf = p + k;
     let serial = q.serial();

@@ -27,10 +27,11 @@ use Rattle.steps.specs.declared.Status.the-variants.{Idle, Busy}
 use Rattle.steps.specs.declared.Process.{Process}
 use Rattle.steps.specs.Machine.{Machine, processOf, withProcess, isIdle, begin}
 use Rattle.steps.proofs.Keeps.{begin-keeps, begun-here, begun-other}
-use Rattle.calls.specs.History.{Event, opens, operation, isOpening, isOwnStep, isFinish, isOpened, isFinished, finishedBefore, ownSteps, does}
+use Rattle.calls.specs.History.{Event, opens, operation, isOpening, isOwnStep, isOwnHelp, isFinish, isOpened, isFinished, finishedBefore, ownSteps, ownHelps, does}
 use Rattle.calls.specs.Demand3.{queueRecord, finishing}
-use Rattle.calls.proofs.Histories.{isOpened-snoc, isFinished-snoc, ownSteps-snoc, does-append, finishing-append, finishedBefore-snoc}
+use Rattle.calls.proofs.Histories.{isOpened-snoc, isFinished-snoc, ownSteps-snoc, ownHelps-snoc, does-append, finishing-append, finishedBefore-snoc}
 use Rattle.calls.proofs.Leaves.{IsBlockOf, LeavesAre}
+use Rattle.calls.proofs.OwnCounts.{OwnCounts, countsOf, countsIn}
 use Rattle.calls.proofs.Agrees.{Doing, Before, Running, Agrees}
 use Rattle.calls.proofs.Events.{does-kept, or-cases}
 use Rattle.calls.proofs.RecordsStay.{leaf-begun, opened-yes, records-kept}
@@ -70,9 +71,12 @@ module _ {s : Shape} {m : Machine} {c : ℕ → ℕ} {h : List Event} {log : Lis
             ))
 
     -- ---- what a begin does to counts
-    steps-kept : (x : OpId) → ownSteps x h' ≡ ownSteps x h
-    unfolding isOwnStep
-    steps-kept x = ownSteps-snoc x h e ∙ omega arith
+    counts-kept : (x : OpId) → countsOf x h' ≡ countsOf x h
+    unfolding isOwnStep isOwnHelp
+    counts-kept x =
+        let steps : ownSteps x h' ≡ ownSteps x h = ownSteps-snoc x h e ∙ omega arith in
+        let helps : ownHelps x h' ≡ ownHelps x h = ownHelps-snoc x h e ∙ omega arith in
+        λ i. record { steps = steps i; helps = helps i }
 
     finished-kept : (x : OpId) → isFinished x h' ≡ isFinished x h
     unfolding isFinish
@@ -184,7 +188,7 @@ module _ {s : Shape} {m : Machine} {c : ℕ → ℕ} {h : List Event} {log : Lis
     unfolding finishing
     answers' =
         ag .answers
-        ∙ sym (records-kept ag tall (m .memory) (ag .invariant .sound) (later-refl s (m .memory)) (e ∷ []) (λ x z. steps-kept x))
+        ∙ sym (records-kept ag tall (m .memory) (ag .invariant .sound) (later-refl s (m .memory)) (e ∷ []) (λ x z. counts-kept x))
         ∙ ap (map (queueRecord s (m .memory .table) h')) (sym (finishing-append h (e ∷ []) ∙ append-nil (finishing h)))
 
     counts' : (j : ℕ) → j < processes s → processOf (begin m k o) j .begun ≡ c' j
@@ -194,17 +198,17 @@ module _ {s : Shape} {m : Machine} {c : ℕ → ℕ} {h : List Event} {log : Lis
         on (yes z) = rw (z, here) (ap (λ (p : Process). p .begun) (begun-here s m (ag .invariant) k kp o rests few) ∙ omega (arith, ag .counts k kp))
         on (no z) = rw (there j z) (ap (λ (p : Process). p .begun) (begun-other s m (ag .invariant) k kp o rests few j z) ∙ ag .counts j jp)
 
-    current' : (j : ℕ) → j < processes s → processOf (begin m k o) j .steps ≡ ownSteps (record { process = j; serial = c' j }) h'
+    current' : (j : ℕ) → j < processes s → countsIn (processOf (begin m k o) j) ≡ countsOf (record { process = j; serial = c' j }) h'
     unfolding operation
     current' j jp = on (ℕ-discrete j k)
       where
-        on : Dec (j ≡ k) → processOf (begin m k o) j .steps ≡ ownSteps (record { process = j; serial = c' j }) h'
+        on : Dec (j ≡ k) → countsIn (processOf (begin m k o) j) ≡ countsOf (record { process = j; serial = c' j }) h'
         on (yes z) =
             rw (z, here)
-            (ap (λ (p : Process). p .steps) (begun-here s m (ag .invariant) k kp o rests few) ∙ sym (steps-kept y ∙ ag .unstarted y new-unopened))
+            (ap countsIn (begun-here s m (ag .invariant) k kp o rests few) ∙ sym (counts-kept y ∙ ag .unstarted y new-unopened))
         on (no z) =
             rw (there j z)
-            (ap (λ (p : Process). p .steps) (begun-other s m (ag .invariant) k kp o rests few j z) ∙ ag .current j jp ∙ sym (steps-kept (record { process = j; serial = c j })))
+            (ap countsIn (begun-other s m (ag .invariant) k kp o rests few j z) ∙ ag .current j jp ∙ sym (counts-kept (record { process = j; serial = c j })))
 
     pub begin-agrees : Agrees s (begin m k o) c' (h ++ (opens (operation k (c k + 1)) o ∷ [])) log
     unfolding operation begin withProcess
@@ -213,9 +217,9 @@ module _ {s : Shape} {m : Machine} {c : ℕ → ℕ} {h : List Event} {log : Lis
           invariant = begin-keeps s m (ag .invariant) k kp o rests few;
           counts = counts';
           opened = opened';
-          unstarted = λ x e. steps-kept x ∙ ag .unstarted x (old-unopened x e);
+          unstarted = λ x e. counts-kept x ∙ ag .unstarted x (old-unopened x e);
           unfinished = unfinished';
-          few = λ x. omega (arith, steps-kept x, ag .few x);
+          few = λ x. omega (arith, ap (λ (z : OwnCounts). z .steps) (counts-kept x), ag .few x);
           current = current';
           doing = doing';
           leaves = leaves';

@@ -7,6 +7,7 @@ use mathlib.Core.Path.{_≡_, refl, ap, sym, _∙_, subst}
 use mathlib.Core.Logic.{_≢_, inl, inr}
 use mathlib.Core.Bool.{Bool, true, false, _&&_, and-false, and-true as and-one}
 use mathlib.Core.List.{List, [], _∷_, _++_, map}
+use Rattle.base.specs.Choice.{if_then_else_}
 use Rattle.base.proofs.Cases.{and-true, or-false, contradiction}
 use Rattle.record.specs.declared.AnswerRecord.{AnswerRecord}
 use Rattle.tree.specs.declared.Block.{Block}
@@ -31,21 +32,22 @@ use Rattle.steps.specs.declared.Step.the-variants.{A}
 use Rattle.steps.specs.declared.Status.the-variants.{Busy}
 use Rattle.steps.specs.declared.Process.{Process}
 use Rattle.steps.specs.Rules.{plusOperation, step}
-use Rattle.steps.specs.Machine.{Machine, processOf, isIdle, isQ, stepOf}
+use Rattle.steps.specs.Machine.{Machine, processOf, isIdle, isQ, stepped, stepOf}
 use Rattle.steps.proofs.Stages.{answering, stage, stageOf}
 use Rattle.steps.proofs.Progress.{LeafOpen, OwnLeaf, Rooted, Carried}
 use Rattle.steps.proofs.Others.{LeafWrote, Effect}
 use Rattle.steps.proofs.Costs.{rest}
-use Rattle.steps.proofs.Inside.{is-q, next-busy, still-busy}
+use Rattle.steps.proofs.Inside.{is-q, q-helps-none, next-busy, still-busy}
 use Rattle.steps.proofs.Invariant.{Invariant, holding}
 use Rattle.steps.proofs.Keeps.{step-keeps, step-effect, stepped-memory, stepped-here, stepped-other}
 use Rattle.calls.specs.History.{Event, operation, isOpened, isFinished, ownSteps, does}
 use Rattle.calls.specs.Demand3.{queueRecord, finishing}
 use Rattle.calls.proofs.Leaves.{IsBlockOf, LeavesAre}
+use Rattle.calls.proofs.OwnCounts.{OwnCounts, countsOf, countsIn}
 use Rattle.calls.proofs.Agrees.{Doing, Before, Running, Agrees}
 use Rattle.calls.proofs.Events.{does-kept, or-cases}
 use Rattle.calls.proofs.RecordsStay.{leaf-begun, opened-yes}
-use Rattle.calls.proofs.StepEvents.{stepEvent, opened-kept, steps-more, finished-more, before-kept}
+use Rattle.calls.proofs.StepEvents.{stepEvent, opened-kept, counts-own, counts-other, finished-more, before-kept}
 
 -- a leaf's block stays an operation's as it stays the same, and one that was just added is the operation's
 block-same : (o : Operation) (b c b' c' : Block) → Same b' b → Same c' c → IsBlockOf o b c → IsBlockOf o b' c'
@@ -70,8 +72,12 @@ module _ {s : Shape} {m : Machine} {c : ℕ → ℕ} {h : List Event} {log : Lis
   abbrev y : OpId
   y = record { process = k; serial = c k }
 
+  -- whether the step is a help
+  abbrev helped : Bool
+  helped = step s k o (m .memory) n .helped
+
   abbrev h' : List Event
-  h' = h ++ (stepEvent (isQ n) y ∷ [])
+  h' = h ++ (stepEvent (isQ n) y helped ∷ [])
 
   abbrev inv : Invariant s m
   inv = ag .invariant
@@ -91,7 +97,7 @@ module _ {s : Shape} {m : Machine} {c : ℕ → ℕ} {h : List Event} {log : Lis
   later = later-grows (later-refl s (m .memory)) (eff .grows)
 
   abbrev next : Process
-  next = record { status = step s k o (m .memory) n .next; begun = processOf m k .begun; steps = processOf m k .steps + 1 }
+  next = stepped (processOf m k) (step s k o (m .memory) n)
 
   here : processOf (stepOf s m k) k ≡ next
   here = stepped-here s tall m inv k kp o n busy
@@ -107,35 +113,37 @@ module _ {s : Shape} {m : Machine} {c : ℕ → ℕ} {h : List Event} {log : Lis
   at = ap stageOf busy
 
   -- ---- counts
-  not-mine : (x : OpId) → same x y ≡ false → ownSteps x h' ≡ ownSteps x h
-  not-mine x e = steps-more (isQ n) y h x ∙ rw e (omega arith)
+  pub not-mine : (x : OpId) → same x y ≡ false → countsOf x h' ≡ countsOf x h
+  not-mine = counts-other (isQ n) y helped h (q-helps-none s k o (m .memory) n)
 
-  pub is-mine : ownSteps y h' ≡ processOf m k .steps + 1
+  pub is-mine : countsIn next ≡ countsOf y h'
   unfolding operation
-  is-mine = steps-more (isQ n) y h y ∙ rw (same-refl y) (omega (arith, ag .current k kp))
+  is-mine =
+      ap (λ (z : OwnCounts). record { steps = z .steps + 1; helps = if helped then z .helps + 1 else z .helps }) (ag .current k kp)
+      ∙ sym (counts-own (isQ n) y helped h (q-helps-none s k o (m .memory) n))
 
   few' : (x : OpId) → ownSteps x h' ≤ rest s A
   few' x = on (same x y) refl
     where
       on : (b : Bool) → same x y ≡ b → ownSteps x h' ≤ rest s A
-      on true e = rw (same-eq x y e) (omega (arith, is-mine, ap (λ (p : Process). p .steps) here, inv' .process k kp .bounded))
-      on false e = omega (arith, not-mine x e, ag .few x)
+      on true e = rw (same-eq x y e) (omega (arith, ap (λ (z : OwnCounts). z .steps) is-mine, ap (λ (p : Process). p .steps) here, inv' .process k kp .bounded))
+      on false e = omega (arith, ap (λ (z : OwnCounts). z .steps) (not-mine x e), ag .few x)
 
   mine-opened : isOpened y h ≡ true
   mine-opened = opened-yes ag tall y (mine .some) (le-refl _)
 
-  unstarted' : (x : OpId) → isOpened x h' ≡ false → ownSteps x h' ≡ 0
+  unstarted' : (x : OpId) → isOpened x h' ≡ false → countsOf x h' ≡ record { steps = 0; helps = 0 }
   unstarted' x l = on (same x y) refl
     where
-      on : (b : Bool) → same x y ≡ b → ownSteps x h' ≡ 0
-      on true e = contradiction (isOpened y h) mine-opened (ap (λ (z : OpId). isOpened z h) (sym (same-eq x y e)) ∙ sym (opened-kept (isQ n) y h x) ∙ l)
-      on false e = not-mine x e ∙ ag .unstarted x (sym (opened-kept (isQ n) y h x) ∙ l)
+      on : (b : Bool) → same x y ≡ b → countsOf x h' ≡ record { steps = 0; helps = 0 }
+      on true e = contradiction (isOpened y h) mine-opened (ap (λ (z : OpId). isOpened z h) (sym (same-eq x y e)) ∙ sym (opened-kept (isQ n) y helped h x) ∙ l)
+      on false e = not-mine x e ∙ ag .unstarted x (sym (opened-kept (isQ n) y helped h x) ∙ l)
 
   -- an operation that is not finished by this step goes on
   unfinished' : (x : OpId) → isOpened x h' ≡ true → isFinished x h' ≡ false → Running s (stepOf s m k) c x
   unfinished' x a b =
-      let f = or-false (isFinished x h) (isQ n && same x y) (sym (finished-more (isQ n) y h x) ∙ b) in
-      old (ag .unfinished x (sym (opened-kept (isQ n) y h x) ∙ a) (f .0)) (f .1)
+      let f = or-false (isFinished x h) (isQ n && same x y) (sym (finished-more (isQ n) y helped h x) ∙ b) in
+      old (ag .unfinished x (sym (opened-kept (isQ n) y helped h x) ∙ a) (f .0)) (f .1)
     where
       old : Running s m c x → isQ n && same x y ≡ false → Running s (stepOf s m k) c x
       old r g = record { process = r .process; last = r .last; busy = on (ℕ-discrete (x .process) k) }
@@ -147,14 +155,14 @@ module _ {s : Shape} {m : Machine} {c : ℕ → ℕ} {h : List Event} {log : Lis
               ap (λ (j : ℕ). isIdle (processOf (stepOf s m k) j .status)) z ∙ ap (λ (p : Process). isIdle (p .status)) here ∙ still-busy s k o (m .memory) n q
           on (no z) = ap (λ (p : Process). isIdle (p .status)) (there (x .process) z) ∙ r .busy
 
-  current' : (j : ℕ) → j < processes s → processOf (stepOf s m k) j .steps ≡ ownSteps (record { process = j; serial = c j }) h'
+  current' : (j : ℕ) → j < processes s → countsIn (processOf (stepOf s m k) j) ≡ countsOf (record { process = j; serial = c j }) h'
   unfolding operation
   current' j jp = on (ℕ-discrete j k)
     where
-      on : Dec (j ≡ k) → processOf (stepOf s m k) j .steps ≡ ownSteps (record { process = j; serial = c j }) h'
-      on (yes z) = rw z (ap (λ (p : Process). p .steps) here ∙ sym is-mine)
+      on : Dec (j ≡ k) → countsIn (processOf (stepOf s m k) j) ≡ countsOf (record { process = j; serial = c j }) h'
+      on (yes z) = rw z (ap countsIn here ∙ is-mine)
       on (no z) =
-          ap (λ (p : Process). p .steps) (there j z) ∙ ag .current j jp
+          ap countsIn (there j z) ∙ ag .current j jp
           ∙ sym (not-mine (record { process = j; serial = c j }) (other-process (record { process = j; serial = c j }) y z))
 
   counts' : (j : ℕ) → j < processes s → processOf (stepOf s m k) j .begun ≡ c j
@@ -166,7 +174,7 @@ module _ {s : Shape} {m : Machine} {c : ℕ → ℕ} {h : List Event} {log : Lis
 
   -- ---- operations
   pub does-same : (x : OpId) → 1 ≤ x .serial → x .serial ≤ c (x .process) → does x h' ≡ does x h
-  does-same x a b = does-kept x h (stepEvent (isQ n) y ∷ []) (opened-yes ag tall x a b)
+  does-same x a b = does-kept x h (stepEvent (isQ n) y helped ∷ []) (opened-yes ag tall x a b)
 
   doing' : (j : ℕ) → j < processes s → (o' : Operation) (n' : Step) → processOf (stepOf s m k) j .status ≡ Busy o' n' → Doing h' (record { process = j; serial = c j }) o'
   unfolding operation
@@ -180,7 +188,7 @@ module _ {s : Shape} {m : Machine} {c : ℕ → ℕ} {h : List Event} {log : Lis
           (record {
             some = mine .some;
             what = does-same y (mine .some) (le-refl _) ∙ mine .what ∙ v .1;
-            unfinished = finished-more (isQ n) y h y ∙ rw (mine .unfinished, v .0);
+            unfinished = finished-more (isQ n) y helped h y ∙ rw (mine .unfinished, v .0);
           })
       on (no z) =
           let x : OpId = record { process = j; serial = c j } in
@@ -189,7 +197,7 @@ module _ {s : Shape} {m : Machine} {c : ℕ → ℕ} {h : List Event} {log : Lis
             some = d .some;
             what = does-same (record { process = j; serial = c j }) (d .some) (le-refl _) ∙ d .what;
             unfinished =
-                finished-more (isQ n) y h (record { process = j; serial = c j })
+                finished-more (isQ n) y helped h (record { process = j; serial = c j })
                 ∙ rw (d .unfinished, other-process (record { process = j; serial = c j }) y z) (and-false (isQ n));
           }
 
@@ -248,7 +256,7 @@ module _ {s : Shape} {m : Machine} {c : ℕ → ℕ} {h : List Event} {log : Lis
 
   pub finished' : (x : OpId) → isFinished x h' ≡ true → Found s mem' x
   finished' x e =
-      or-cases (isFinished x h) (isQ n && same x y) (sym (finished-more (isQ n) y h x) ∙ e) (λ a. found-grows x (ag .finished x a))
+      or-cases (isFinished x h) (isQ n && same x y) (sym (finished-more (isQ n) y helped h x) ∙ e) (λ a. found-grows x (ag .finished x a))
       (λ a.
       let q = and-true (isQ n) (same x y) a in
       found-grows x (subst (Found s (m .memory)) (sym (same-eq x y (q .1))) (rooted (q .0))))
@@ -272,7 +280,7 @@ module _ {s : Shape} {m : Machine} {c : ℕ → ℕ} {h : List Event} {log : Lis
       record {
         invariant = inv';
         counts = counts';
-        opened = λ x. opened-kept (isQ n) y h x ∙ ag .opened x;
+        opened = λ x. opened-kept (isQ n) y helped h x ∙ ag .opened x;
         unstarted = unstarted';
         unfinished = unfinished';
         few = few';
@@ -280,6 +288,6 @@ module _ {s : Shape} {m : Machine} {c : ℕ → ℕ} {h : List Event} {log : Lis
         doing = doing';
         leaves = leaves';
         finished = finished';
-        before = λ x z e. before' x z (ag .before x z (sym (before-kept (isQ n) y h x z) ∙ e));
+        before = λ x z e. before' x z (ag .before x z (sym (before-kept (isQ n) y helped h x z) ∙ e));
         answers = answers;
       }

@@ -21,6 +21,7 @@ use Rattle.steps.proofs.Invariant.{Invariant}
 use Rattle.calls.specs.History.{Event, operation, isOpened, isFinished, finishedBefore, ownSteps, does}
 use Rattle.calls.specs.Demand3.{queueRecord, finishing}
 use Rattle.calls.proofs.Leaves.{LeavesAre}
+use Rattle.calls.proofs.OwnCounts.{countsOf, countsIn}
 
 -- a busy process does the last operation that it began, which has not finished
 pub record Doing (h : List Event) (x : OpId) (o : Operation) : Type 0 where
@@ -48,10 +49,10 @@ pub record Agrees (s : Shape) (m : Machine) (c : ℕ → ℕ) (h : List Event) (
   pub invariant : Invariant s m
   pub counts : (k : ℕ) → k < processes s → processOf m k .begun ≡ c k
   pub opened : (x : OpId) → isOpened x h ≡ leb 1 (x .serial) && leb (x .serial) (c (x .process))
-  pub unstarted : (x : OpId) → isOpened x h ≡ false → ownSteps x h ≡ 0
+  pub unstarted : (x : OpId) → isOpened x h ≡ false → countsOf x h ≡ record { steps = 0; helps = 0 }
   pub unfinished : (x : OpId) → isOpened x h ≡ true → isFinished x h ≡ false → Running s m c x
   pub few : (x : OpId) → ownSteps x h ≤ rest s A
-  pub current : (k : ℕ) → k < processes s → processOf m k .steps ≡ ownSteps (operation k (c k)) h
+  pub current : (k : ℕ) → k < processes s → countsIn (processOf m k) ≡ countsOf (operation k (c k)) h
   pub doing : (k : ℕ) → k < processes s → (o : Operation) (n : Step) → processOf m k .status ≡ Busy o n → Doing h (operation k (c k)) o
   pub leaves : LeavesAre s (m .memory) h
   pub finished : (x : OpId) → isFinished x h ≡ true → Found s (m .memory) x

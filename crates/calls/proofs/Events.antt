@@ -47,7 +47,7 @@ pub finishing-all : (h : List Event) → All (λ x. isFinished x h ≡ true) (fi
 unfolding finishing
 finishing-all [] = tt
 finishing-all (opens x o ∷ h) = all-map (finishing h) (λ y p. finish-tail y (opens x o) h p) (finishing-all h)
-finishing-all (moves x ∷ h) = all-map (finishing h) (λ y p. finish-tail y (moves x) h p) (finishing-all h)
+finishing-all (moves x helped ∷ h) = all-map (finishing h) (λ y p. finish-tail y (moves x helped) h p) (finishing-all h)
 finishing-all (finishes x ∷ h) = (finish-here x h, all-map (finishing h) (λ y p. finish-tail y (finishes x) h p) (finishing-all h))
 
 -- a property of every operation that is in a list holds of all of the list

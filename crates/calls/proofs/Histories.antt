@@ -15,7 +15,7 @@ use Rattle.tree.proofs.Names.{count-append}
 use Rattle.steps.specs.Machine.{start}
 use Rattle.calls.specs.Run.{takeRecord, recordAnswers}
 use Rattle.calls.specs.History.{Event, opens, moves, finishes, machineAfter, begins, event, eventsAfter, history}
-use Rattle.calls.specs.History.{isOpening, isOwnStep, isFinish, isOpened, isFinished, finishedBefore, ownSteps, does}
+use Rattle.calls.specs.History.{isOpening, isOwnStep, isOwnHelp, isFinish, isOpened, isFinished, finishedBefore, ownSteps, ownHelps, does}
 use Rattle.calls.specs.Demand3.{finishing}
 use Rattle.calls.proofs.Legal.{answersAfter, answersAlong}
 
@@ -93,6 +93,14 @@ module _ (x : OpId) where
   unfolding ownSteps
   ownSteps-snoc h e = ownSteps-append h (e ∷ [])
 
+  ownHelps-append : (h k : List Event) → ownHelps x (h ++ k) ≡ ownHelps x h + ownHelps x k
+  unfolding ownHelps
+  ownHelps-append = count-append (isOwnHelp x) (ownHelps x) refl (λ e h. refl)
+
+  pub ownHelps-snoc : (h : List Event) (e : Event) → ownHelps x (h ++ (e ∷ [])) ≡ ownHelps x h + (if isOwnHelp x e then 1 else 0)
+  unfolding ownHelps
+  ownHelps-snoc h e = ownHelps-append h (e ∷ [])
+
   -- an operation does what its first opening says
   pub does-append : (h k : List Event) → does x (h ++ k) ≡ (if isOpened x h then does x h else does x k)
   unfolding does isOpened isOpening
@@ -103,7 +111,7 @@ module _ (x : OpId) where
           → (if b then o else does x (h ++ k)) ≡ (if b || isOpened x h then (if b then o else does x h) else does x k)
       on true ih = refl
       on false ih = ih
-  does-append (moves y ∷ h) k = does-append h k
+  does-append (moves y helped ∷ h) k = does-append h k
   does-append (finishes y ∷ h) k = does-append h k
 
 -- the operations that finish
@@ -111,7 +119,7 @@ pub finishing-append : (h k : List Event) → finishing (h ++ k) ≡ finishing h
 unfolding finishing
 finishing-append [] k = refl
 finishing-append (opens x o ∷ h) k = finishing-append h k
-finishing-append (moves x ∷ h) k = finishing-append h k
+finishing-append (moves x helped ∷ h) k = finishing-append h k
 finishing-append (finishes x ∷ h) k = ap (λ (l : List OpId). x ∷ l) (finishing-append h k)
 
 -- the tests of the next law, in its two orders

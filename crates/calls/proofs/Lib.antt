@@ -6,6 +6,7 @@ pub mod Played
 pub mod Prefixes
 pub mod Feeding
 pub mod Leaves
+pub mod OwnCounts
 pub mod Agrees
 pub mod Events
 pub mod RecordsStay
@@ -25,6 +26,7 @@ pub mod ForecastHolds
 pub mod Foreseen
 pub mod Holds
 pub mod Theorem
+pub mod CountBytes
 pub mod CallAccepted
 pub mod Unrefused
 pub mod FormerOrder

@@ -48,7 +48,7 @@ finishing-some : (x : OpId) (h : List Event) → isFinished x h ≡ true → 1 �
 unfolding finishing isFinished isFinish times
 finishing-some x [] e = absurd (false≢true e)
 finishing-some x (opens y o ∷ h) e = finishing-some x h e
-finishing-some x (moves y ∷ h) e = finishing-some x h e
+finishing-some x (moves y helped ∷ h) e = finishing-some x h e
 finishing-some x (finishes y ∷ h) e = on (same x y) e (finishing-some x h)
   where
     on : (b : Bool) → b || isFinished x h ≡ true → (isFinished x h ≡ true → 1 ≤ times x (finishing h))

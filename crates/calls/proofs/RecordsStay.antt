@@ -20,9 +20,10 @@ use Rattle.tree.proofs.OrderGrows.{order-grows, root-block-grows}
 use Rattle.steps.specs.Machine.{Machine, processOf}
 use Rattle.steps.proofs.Leaf.{leaf-within}
 use Rattle.steps.proofs.Invariant.{holding}
-use Rattle.calls.specs.History.{Event, isOpened, isFinished, ownSteps}
+use Rattle.calls.specs.History.{Event, isOpened, isFinished}
 use Rattle.calls.specs.Demand3.{queueAnswer, queueRecord, finishing}
 use Rattle.calls.proofs.Feeding.{answer-in, answer-same}
+use Rattle.calls.proofs.OwnCounts.{countsOf}
 use Rattle.calls.proofs.Agrees.{Agrees}
 use Rattle.calls.proofs.Events.{does-kept, finishing-all, all-times, all-map, map-same}
 
@@ -58,7 +59,7 @@ module _ {s : Shape} {m : Machine} {c : ℕ → ℕ} {h : List Event} {log : Lis
         ∙ answer-in (h ++ more) x [] (opsOf (rootOrder s (m .memory .table))) _ l
         ∙ answer-same (h ++ more) h x [] (opsOf (rootOrder s (m .memory .table))) (all-times (opsOf (rootOrder s (m .memory .table))) (λ y q. does-kept y h more (standing-opened y q)))
 
-    module _ (still : (x : OpId) → isFinished x h ≡ true → ownSteps x (h ++ more) ≡ ownSteps x h) where
+    module _ (still : (x : OpId) → isFinished x h ≡ true → countsOf x (h ++ more) ≡ countsOf x h) where
       record-kept : (x : OpId) → isFinished x h ≡ true → queueRecord s (n .table) (h ++ more) x ≡ queueRecord s (m .memory .table) h x
       unfolding queueRecord
       record-kept x e =
@@ -66,7 +67,8 @@ module _ {s : Shape} {m : Machine} {c : ℕ → ℕ} {h : List Event} {log : Lis
           record {
             process = x .process;
             reply = answer-kept x (omega (arith, finished-stands x e)) i;
-            steps = still x e i;
+            steps = still x e i .steps;
+            helps = still x e i .helps;
             serial = x .serial;
             block = root-block-grows s (m .memory) n sound sn later x (omega (arith, finished-stands x e)) i;
           }

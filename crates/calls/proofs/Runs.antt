@@ -23,15 +23,17 @@ use Rattle.steps.specs.declared.Status.{Status}
 use Rattle.steps.specs.declared.Status.the-variants.{Idle, Busy}
 use Rattle.steps.specs.declared.Process.{Process}
 use Rattle.steps.specs.Process.{idle}
-use Rattle.steps.specs.Machine.{Machine, start, processOf, withProcess, isIdle, isQ, atQ, begin, stepOf}
+use Rattle.steps.specs.Machine.{Machine, start, processOf, withProcess, isIdle, isQ, atQ, begin, stepOf, helpFrom, helpBy}
+use Rattle.steps.specs.Rules.{step}
 use Rattle.steps.proofs.Keeps.{start-invariant, start-process}
 use Rattle.calls.specs.Answer.{answerOf, answersFrom, answersOf}
 use Rattle.calls.specs.Run.{operationOf, takeRecord, recordAnswers}
-use Rattle.calls.specs.History.{Event, opens, machineAfter, doesQ, begins, operation, event, eventsAfter, history, isOpened, isFinished, finishedBefore, ownSteps}
+use Rattle.calls.specs.History.{Event, opens, machineAfter, doesQ, doesHelp, begins, operation, event, eventsAfter, history, isOpened, isFinished, finishedBefore, ownSteps, ownHelps}
 use Rattle.calls.specs.Demand3.{finishing}
 use Rattle.calls.proofs.Legal.{Accepted, Legal, none, more, answersAfter, answersAlong, not-step, not-begin}
 use Rattle.calls.proofs.Prefixes.{legal-prefix, legal-accepted}
 use Rattle.calls.proofs.Histories.{machine-snoc, history-snoc, answers-snoc, begins-snoc}
+use Rattle.calls.proofs.OwnCounts.{countsIn}
 use Rattle.calls.proofs.Agrees.{Doing, Agrees}
 use Rattle.calls.proofs.AfterBegin.{begin-agrees}
 use Rattle.calls.proofs.StepEvents.{stepEvent}
@@ -51,9 +53,9 @@ module _ (s : Shape) where
   unfolding idle
   idle-begun = refl
 
-  idle-steps : idle .steps ≡ 0
+  idle-counts : countsIn idle ≡ record { steps = 0; helps = 0 }
   unfolding idle
-  idle-steps = refl
+  idle-counts = refl
 
   idle-status : (o : Operation) (n : Step) → idle .status ≡ Busy o n → ⊥
   unfolding idle
@@ -67,7 +69,7 @@ module _ (s : Shape) where
       on (no e) = rw (lt-leb (x .serial) 0 (omega arith)) (sym (mathlib.Core.Bool.and-false (leb 1 (x .serial))))
 
   start-agrees : Run s []
-  unfolding machineAfter begins history eventsAfter answersAlong answersAfter isOpened isFinished finishedBefore ownSteps finishing start
+  unfolding machineAfter begins history eventsAfter answersAlong answersAfter isOpened isFinished finishedBefore ownSteps ownHelps finishing start
   start-agrees =
       record {
         invariant = start-invariant s;
@@ -76,7 +78,7 @@ module _ (s : Shape) where
         unstarted = λ x l. refl;
         unfinished = λ x e f. absurd (false≢true e);
         few = λ x. omega arith;
-        current = λ k kp. idle-start k kp (λ p. p .steps ≡ 0) idle-steps;
+        current = λ k kp. idle-start k kp (λ p. countsIn p ≡ record { steps = 0; helps = 0 }) idle-counts;
         doing = λ k kp o n. idle-start k kp (λ p. p .status ≡ Busy o n → Doing [] (operation k 0) o) (λ e. absurd (idle-status o n e));
         leaves = λ k kp i f. absurd (omega (arith, cleared-count s (leafOf s k) (suc i)));
         finished = λ x e. absurd (false≢true e);
@@ -152,9 +154,13 @@ module _ (s : Shape) (tall : 1 ≤ s .height) (rs : List StepRecord) (r : StepRe
     unfolding doesQ atQ
     q-or-not = rw (z, busy .2)
 
-    event-step : event s rs r ≡ stepEvent (isQ n) (operation k (begins k rs))
+    help-or-not : doesHelp s rs r ≡ step s k o (m .memory) n .helped
+    unfolding doesHelp helpBy helpFrom
+    help-or-not = rw (z, busy .2)
+
+    event-step : event s rs r ≡ stepEvent (isQ n) (operation k (begins k rs)) (step s k o (m .memory) n .helped)
     unfolding event
-    event-step = rw (not-begin r z, q-or-not)
+    event-step = rw (not-begin r z, q-or-not, help-or-not)
 
     pub answered : recordAnswers s m r ≡ (if isQ n then answerOf s m k o ∷ [] else [])
     unfolding recordAnswers answersOf answersFrom

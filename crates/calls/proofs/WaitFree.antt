@@ -16,6 +16,7 @@ use Rattle.steps.proofs.Keeps.{steps-left}
 use Rattle.calls.specs.History.{Event, operation, isOpened, isFinished, ownSteps}
 use Rattle.calls.specs.Demand3.{stepLimit}
 use Rattle.calls.specs.Linearizable.{WaitFree}
+use Rattle.calls.proofs.OwnCounts.{OwnCounts}
 use Rattle.calls.proofs.Agrees.{Running, Agrees}
 use Rattle.calls.proofs.Holds.{kept}
 
@@ -30,12 +31,12 @@ module _ {s : Shape} {m : Machine} {c : ℕ → ℕ} {h : List Event} {log : Lis
   unfolding stepLimit operation
   running-fewer x r =
       let k : ℕ = x .process in
-      let own : processOf m k .steps ≡ ownSteps x h = ag .current k (r .process) ∙ ap (λ (i : ℕ). ownSteps (operation k i) h) (sym (r .last)) in
+      let own : processOf m k .steps ≡ ownSteps x h = ap (λ (z : OwnCounts). z .steps) (ag .current k (r .process)) ∙ ap (λ (i : ℕ). ownSteps (operation k i) h) (sym (r .last)) in
       omega (arith, own, busy-fewer k (r .process) (processOf m k .status) refl (r .busy), rest-first s tall)
 
   unopened-fewer : (x : OpId) → isOpened x h ≡ false → ownSteps x h < stepLimit s
   unfolding stepLimit
-  unopened-fewer x e = omega (arith, ag .unstarted x e)
+  unopened-fewer x e = omega (arith, ap (λ (z : OwnCounts). z .steps) (ag .unstarted x e))
 
   responds : (x : OpId) → stepLimit s ≤ ownSteps x h → isFinished x h ≡ true
   responds x l = on (isFinished x h) refl (isOpened x h) refl

@@ -10,7 +10,7 @@ use Rattle.calls.specs.ListOrder.{playAll, listRefusal, listed, listPlay
 use Rattle.calls.specs.CheckLog.{sameBytes, compared, checkRefusal, verdictNumber, verdictIndex, verdictRefusal, checked, verdictOn, checkPlayed, checkLog}
 use Rattle.calls.specs.LogVerdict.{logOfRules, recordAt}
 use Rattle.calls.specs.PlainQueue.{fed, answers}
-use Rattle.calls.specs.History.{machineAfter, doesQ, begins, operation, event, eventsAfter, history, isOpening, isOwnStep, isFinish, isOpened, isFinished, finishedBefore, ownSteps, does}
+use Rattle.calls.specs.History.{machineAfter, doesQ, doesHelp, begins, operation, event, eventsAfter, history, isOpening, isOwnStep, isOwnHelp, isFinish, isOpened, isFinished, finishedBefore, ownSteps, ownHelps, does}
 use Rattle.calls.specs.Demand3.{queueAfter, queueAnswer, queueRecord, finishing, stepLimit}
 use Rattle.calls.specs.Linearizable.{response, precedes}
 use Rattle.calls.specs.Forecast.{recordLimit, plannedRefusal, beginsRefusal, forecastRefusal, foreseen, forecast, beginRecords}
@@ -21,7 +21,7 @@ unfolding records trees stepRules margin putNumber valueOf byMargin takeReply re
     recordRefusal operationOf takeRecord recordAnswers atStart taking refusing playRecord play runTurnedDown runPlayed
     run kindNumber orderRecord orderList playAll listRefusal listed listPlayed listOrder sameBytes compared
     checkRefusal verdictNumber verdictIndex verdictRefusal checked verdictOn checkPlayed checkLog logOfRules recordAt
-    fed answers machineAfter doesQ begins operation event eventsAfter history isOpening isOwnStep isFinish isOpened
-    isFinished finishedBefore ownSteps does queueAfter queueAnswer queueRecord finishing stepLimit response precedes
-    recordLimit plannedRefusal beginsRefusal forecastRefusal foreseen forecast beginRecords
+    fed answers machineAfter doesQ doesHelp begins operation event eventsAfter history isOpening isOwnStep isOwnHelp
+    isFinish isOpened isFinished finishedBefore ownSteps ownHelps does queueAfter queueAnswer queueRecord finishing
+    stepLimit response precedes recordLimit plannedRefusal beginsRefusal forecastRefusal foreseen forecast beginRecords
 rules = tt

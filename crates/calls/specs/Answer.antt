@@ -55,7 +55,14 @@ answerOf s m k o =
     let p = processOf m k in
     let t = m .memory .table in
     let x : OpId = record { process = k; serial = p .begun } in
-    record { process = k; reply = replyOf s t x o; steps = p .steps + 1; serial = p .begun; block = rootBlockOf s t x }
+    record {
+      process = k;
+      reply = replyOf s t x o;
+      steps = p .steps + 1;
+      helps = p .helps;
+      serial = p .begun;
+      block = rootBlockOf s t x;
+    }
 
 -- the answers that one step of process k gives, from its status: one at Q, else none
 unfoldable pub answersFrom : Shape → Machine → ℕ → Status → List AnswerRecord

@@ -15,6 +15,8 @@
 --       finishedBefore (History)
 --   its own steps; a finished operation's answer gives their number:
 --       ownSteps (History); queueRecord
+--   of request e: its helps, which its answer gives too, the moves made for children inside refreshes:
+--       doesHelp, ownHelps (History); queueRecord
 --   it stands in root block b once for each time that opening b's puts or takes gives its place:
 --       standsIn (tree, Standing), opened (tree, Order)
 --   nothing else stands there:
@@ -42,7 +44,7 @@ use Rattle.tree.specs.Order.{OpId, lastRoot, rootOperations}
 use Rattle.tree.specs.Standing.{same, times, standsIn, rootBlockOf}
 use Rattle.calls.specs.Run.{RunResult}
 use Rattle.calls.specs.PlainQueue.{fed, answers}
-use Rattle.calls.specs.History.{Event, opens, moves, finishes, history, isOpened, isFinished, finishedBefore, ownSteps, does}
+use Rattle.calls.specs.History.{Event, opens, moves, finishes, history, isOpened, isFinished, finishedBefore, ownSteps, ownHelps, does}
 
 -- the plain queue after it was fed some operations, each with the kind and value of its begin record
 unfoldable pub queueAfter : List Event → List ℕ → List OpId → List ℕ
@@ -61,6 +63,7 @@ queueRecord s t h x =
       process = x .process;
       reply = queueAnswer h x [] (rootOperations s t);
       steps = ownSteps x h;
+      helps = ownHelps x h;
       serial = x .serial;
       block = rootBlockOf s t x;
     }
@@ -69,7 +72,7 @@ queueRecord s t h x =
 unfoldable pub finishing : List Event → List OpId
 finishing [] = []
 finishing (opens x o ∷ h) = finishing h
-finishing (moves x ∷ h) = finishing h
+finishing (moves x helped ∷ h) = finishing h
 finishing (finishes x ∷ h) = x ∷ finishing h
 
 -- the limit on an operation's own steps

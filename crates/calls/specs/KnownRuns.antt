@@ -35,9 +35,9 @@ steps (suc n) k = k ∷ 0 ∷ 0 ∷ 0 ∷ bytesOf 4 0 ++ steps n k
 unfoldable pub op : ℕ → ℕ → OpId
 op k n = record { process = k; serial = n }
 
--- an answer: process, serial, own steps, root block and reply, as the printing program has them
-unfoldable pub answer : ℕ → ℕ → ℕ → ℕ → Reply → AnswerRecord
-answer k n own b r = record { process = k; reply = r; steps = own; serial = n; block = b }
+-- an answer: process, serial, own steps, helps, root block and reply, as the printing program has them
+unfoldable pub answer : ℕ → ℕ → ℕ → ℕ → ℕ → Reply → AnswerRecord
+answer k n own helps b r = record { process = k; reply = r; steps = own; helps = helps; serial = n; block = b }
 
 -- what a row may say of what a run leaves
 pub data Fact : Type 0 where
@@ -88,22 +88,22 @@ knownRuns =
     -- M1 no records
     row 2 24 594 64 [] 0 0 [] []
     -- M2 the worked run of the printing program
-    ∷ row 4 24 1770 64 (beginPut 7 0 ++ steps 31 0 ++ beginTake 1 ++ steps 31 1) 0 64 (answer 0 1 31 1 Done ∷ answer 1 1 31 2 (Value 7) ∷ []) []
+    ∷ row 4 24 1770 64 (beginPut 7 0 ++ steps 31 0 ++ beginTake 1 ++ steps 31 1) 0 64 (answer 0 1 31 0 1 Done ∷ answer 1 1 31 0 2 (Value 7) ∷ []) []
     -- M3 block 1 holds both, steps 17 and 15, the take gets 5 at margin 0
     ∷ row 2 24 594 64 (beginPut 5 0 ++ beginTake 1 ++ steps 4 0 ++ steps 4 1 ++ steps 13 0 ++ steps 11 1) 0 34
-    (answer 0 1 17 1 Done ∷ answer 1 1 15 1 (Value 5) ∷ [])
+    (answer 0 1 17 0 1 Done ∷ answer 1 1 15 0 1 (Value 5) ∷ [])
     (holds 1 (op 0 1 ∷ []) (op 1 1 ∷ []) ∷ takeMargin 1 1 (pos 0) ∷ [])
     -- M4 a take alone: 17 steps, none at margin −1
-    ∷ row 2 24 594 64 (beginTake 0 ++ steps 17 0) 0 18 (answer 0 1 17 1 Nothing ∷ []) (takeMargin 1 1 (negsuc 0) ∷ [])
+    ∷ row 2 24 594 64 (beginTake 0 ++ steps 17 0) 0 18 (answer 0 1 17 0 1 Nothing ∷ []) (takeMargin 1 1 (negsuc 0) ∷ [])
     -- M5 the take gets 10
     ∷ row 4 24 1770 64 (beginPut 10 1 ++ steps 18 1 ++ beginPut 20 0 ++ steps 31 0 ++ steps 11 1 ++ beginTake 2 ++ steps 31 2) 0 94
-    (answer 0 1 31 1 Done ∷ answer 1 1 29 1 Done ∷ answer 2 1 31 2 (Value 10) ∷ []) []
-    -- M6 both in block 1, the leaf head of 0 is 2
+    (answer 0 1 31 0 1 Done ∷ answer 1 1 29 0 1 Done ∷ answer 2 1 31 0 2 (Value 10) ∷ []) []
+    -- M6 both in block 1, the leaf head of 0 is 2; 1 help for process 1 and 0 for process 0
     ∷ row 2 24 594 64 (beginPut 9 0 ++ steps 1 0 ++ beginPut 8 1 ++ steps 20 1 ++ steps 14 0) 0 37
-    (answer 1 1 20 1 Done ∷ answer 0 1 15 1 Done ∷ [])
+    (answer 1 1 20 1 1 Done ∷ answer 0 1 15 0 1 Done ∷ [])
     (holds 1 (op 0 1 ∷ op 1 1 ∷ []) [] ∷ leafHead 0 2 ∷ [])
     -- M7 L = 1: the second begin is refused with 8, 18 taken
-    ∷ row 2 1 42 64 (beginPut 1 0 ++ steps 17 0 ++ beginPut 2 0) 8 18 (answer 0 1 17 1 Done ∷ []) []
+    ∷ row 2 1 42 64 (beginPut 1 0 ++ steps 17 0 ++ beginPut 2 0) 8 18 (answer 0 1 17 0 1 Done ∷ []) []
     -- M8 the first record a step: 7
     ∷ row 2 24 594 64 (steps 1 0) 7 0 [] []
     -- M9 L = 2, two begins: 6, 1 taken
@@ -112,7 +112,7 @@ knownRuns =
     ∷ row 2 24 594 15 (beginPut 1 0 ++ steps 17 0) 9 17 [] []
     -- M11 L = 1: 41 words refuse with 3, 42 do
     ∷ row 2 1 41 64 (beginPut 1 0 ++ steps 17 0) 3 0 [] []
-    ∷ row 2 1 42 64 (beginPut 1 0 ++ steps 17 0) 0 18 (answer 0 1 17 1 Done ∷ []) []
+    ∷ row 2 1 42 64 (beginPut 1 0 ++ steps 17 0) 0 18 (answer 0 1 17 0 1 Done ∷ []) []
     ∷ []
 
 -- ---- the theorem

@@ -10,13 +10,13 @@ use Rattle.calls.specs.KnownRuns.{beginTake, steps}
 use Rattle.calls.specs.NotKept.{bytes}
 use Rattle.calls.specs.All.{rules}
 
--- the records of a take alone at p = 2, L = 1, and its log: process 0, kind 3 for none, 17 steps, value 0, serial 1 and
--- root block b
+-- the records of a take alone at p = 2, L = 1, and its log: process 0, kind 3 for none, 17 steps, no help, value 0,
+-- serial 1 and root block b
 abbrev pub takeAlone : List ℕ
 takeAlone = beginTake 0 ++ steps 17 0
 
 abbrev pub logWith : ℕ → List ℕ
-logWith b = bytes 0 3 17 0 1 b
+logWith b = bytes 0 3 17 0 0 1 b
 
 -- what is judged: a verdict v with index i on a log of that take, with a table of 42 words
 abbrev pub VerdictTells : List ℕ → ℕ → ℕ → Type 0

@@ -60,13 +60,13 @@ table root1 root2 left right = none ++ root1 ++ root2 ++ none ++ left ++ none ++
 abbrev pub table2 : List ℕ → List ℕ → List ℕ → List ℕ → List ℕ → List ℕ
 table2 root1 root2 root3 left1 left2 = none ++ root1 ++ root2 ++ root3 ++ none ++ none ++ left1 ++ left2 ++ none ++ none ++ none
 
--- the bytes of an answer: process, kind, steps, value, serial and root block
-abbrev pub bytes : ℕ → ℕ → ℕ → ℕ → ℕ → ℕ → List ℕ
-bytes k c n v i b = k ∷ c ∷ n ∷ 0 ∷ v ∷ 0 ∷ 0 ∷ 0 ∷ i ∷ 0 ∷ 0 ∷ 0 ∷ b ∷ 0 ∷ 0 ∷ 0 ∷ []
+-- the bytes of an answer: process, kind, steps, helps, value, serial and root block
+abbrev pub bytes : ℕ → ℕ → ℕ → ℕ → ℕ → ℕ → ℕ → List ℕ
+bytes k c n u v i b = k ∷ c ∷ n ∷ u ∷ v ∷ 0 ∷ 0 ∷ 0 ∷ i ∷ 0 ∷ 0 ∷ 0 ∷ b ∷ 0 ∷ 0 ∷ 0 ∷ []
 
--- x is opened and takes n steps; then what follows
+-- x is opened and takes n steps, none of them a help; then what follows
 abbrev pub stepping : ℕ → List Event → List Event
-stepping n after = opens x Take ∷ replicate n (moves x) ++ after
+stepping n after = opens x Take ∷ replicate n (moves x false) ++ after
 
 -- demand 3 does not hold of this history and these table words, whatever the answer bytes are
 abbrev pub Refuted : Shape → List Event → List ℕ → Type 0
@@ -109,31 +109,33 @@ unopened = (on refl, (on refl, (on refl, tt)))
 
 -- ---- the answers are those of the plain queue fed the root order, in the order of the Q's
 
--- a put of 7 in root block 1 and a take in root block 2; the take's Q comes first
+-- a put of 7 in root block 1 and a take in root block 2; the take's Q comes first, and its one step before it is a help
 abbrev pub overlapping : List Event
-overlapping = opens x (Put 7) ∷ opens y Take ∷ moves x ∷ moves y ∷ finishes y ∷ moves x ∷ finishes x ∷ []
+overlapping = opens x (Put 7) ∷ opens y Take ∷ moves x false ∷ moves y true ∷ finishes y ∷ moves x false ∷ finishes x ∷ []
 
 abbrev pub inTwoBlocks : List ℕ
 inTwoBlocks = table (sixWords 1 0 1 0 1) (sixWords 1 1 1 1 0) (putBlock 7) takeBlock
 
 abbrev pub rightLog : List ℕ
-rightLog = bytes 1 2 2 7 1 2 ++ bytes 0 1 3 0 1 1
+rightLog = bytes 1 2 2 1 7 1 2 ++ bytes 0 1 3 0 0 1 1
 
 abbrev pub wrongLogs : List (List ℕ)
 wrongLogs =
     -- the take got another value, or none; the put has the kind of a take
-    (bytes 1 2 2 8 1 2 ++ bytes 0 1 3 0 1 1)
-    ∷ (bytes 1 3 2 0 1 2 ++ bytes 0 1 3 0 1 1)
-    ∷ (bytes 1 2 2 7 1 2 ++ bytes 0 3 3 0 1 1)
-    -- a step too few; another serial, root block and process
-    ∷ (bytes 1 2 1 7 1 2 ++ bytes 0 1 3 0 1 1)
-    ∷ (bytes 1 2 2 7 2 2 ++ bytes 0 1 3 0 1 1)
-    ∷ (bytes 1 2 2 7 1 1 ++ bytes 0 1 3 0 1 1)
-    ∷ (bytes 1 2 2 7 1 2 ++ bytes 1 1 3 0 1 1)
+    (bytes 1 2 2 1 8 1 2 ++ bytes 0 1 3 0 0 1 1)
+    ∷ (bytes 1 3 2 1 0 1 2 ++ bytes 0 1 3 0 0 1 1)
+    ∷ (bytes 1 2 2 1 7 1 2 ++ bytes 0 3 3 0 0 1 1)
+    -- a step too few; a help too few, a help too many; another serial, root block and process
+    ∷ (bytes 1 2 1 1 7 1 2 ++ bytes 0 1 3 0 0 1 1)
+    ∷ (bytes 1 2 2 0 7 1 2 ++ bytes 0 1 3 0 0 1 1)
+    ∷ (bytes 1 2 2 1 7 1 2 ++ bytes 0 1 3 1 0 1 1)
+    ∷ (bytes 1 2 2 1 7 2 2 ++ bytes 0 1 3 0 0 1 1)
+    ∷ (bytes 1 2 2 1 7 1 1 ++ bytes 0 1 3 0 0 1 1)
+    ∷ (bytes 1 2 2 1 7 1 2 ++ bytes 1 1 3 0 0 1 1)
     -- the answers in root order; one lacking; one too many
-    ∷ (bytes 0 1 3 0 1 1 ++ bytes 1 2 2 7 1 2)
-    ∷ bytes 1 2 2 7 1 2
-    ∷ (rightLog ++ bytes 0 1 3 0 1 1)
+    ∷ (bytes 0 1 3 0 0 1 1 ++ bytes 1 2 2 1 7 1 2)
+    ∷ bytes 1 2 2 1 7 1 2
+    ∷ (rightLog ++ bytes 0 1 3 0 0 1 1)
     ∷ []
 
 -- answered: no other log will do
@@ -208,7 +210,7 @@ ofOneProcess log k = omega (arith, k .realTime x x2 1 1 (omega arith) (omega ari
 
 -- ---- no operation takes more than 40H + 1 steps of its own
 
-pub counted : (n : ℕ) (after : List Event) → ownSteps x (replicate n (moves x) ++ after) ≡ n + ownSteps x after
+pub counted : (n : ℕ) (after : List Event) → ownSteps x (replicate n (moves x false) ++ after) ≡ n + ownSteps x after
 unfolding rules
 counted zero after = omega arith
 counted (suc n) after = omega (arith, counted n after)
@@ -256,6 +258,6 @@ unfolding rules beginPut beginTake steps
 cleared log k = omega (arith, k .finishedOnce x refl)
 
 -- every take 'none'
-pub everyTakeNone : Demand3 2 1 putThenTake (bytes 0 1 17 0 1 1 ++ bytes 1 3 17 0 1 2) inTwoBlocks → ⊥
+pub everyTakeNone : Demand3 2 1 putThenTake (bytes 0 1 17 0 0 1 1 ++ bytes 1 3 17 0 0 1 2) inTwoBlocks → ⊥
 unfolding rules beginPut beginTake steps
-everyTakeNone k = unequal (bytes 0 1 17 0 1 1 ++ bytes 1 2 17 7 1 2) _ refl refl (k .answered)
+everyTakeNone k = unequal (bytes 0 1 17 0 0 1 1 ++ bytes 1 2 17 0 7 1 2) _ refl refl (k .answered)

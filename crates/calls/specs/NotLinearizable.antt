@@ -30,7 +30,7 @@ use Rattle.calls.specs.NotKept.{x, y, x2, apart, stepping, counted}
 unfoldable pub opening : List Event → List OpId
 opening [] = []
 opening (opens w o ∷ h) = w ∷ opening h
-opening (moves w ∷ h) = opening h
+opening (moves w helped ∷ h) = opening h
 opening (finishes w ∷ h) = opening h
 
 -- what holds of each of them holds of w, if it is one
@@ -44,7 +44,7 @@ among P (opens v o ∷ h) w e ps = on (same w v) refl e (λ i. among P h w i (ps
         let t = and-eq-true-iff (eqb (w .process) (v .process)) (eqb (w .serial) (v .serial)) .0 q in
         subst⁻¹ P (λ i. record { process = eqb-true (w .process) (v .process) (t .0) i; serial = eqb-true (w .serial) (v .serial) (t .1) i }) (ps .0)
     on false q e r = r e
-among P (moves v ∷ h) w e ps = among P h w e ps
+among P (moves v helped ∷ h) w e ps = among P h w e ps
 among P (finishes v ∷ h) w e ps = among P h w e ps
 
 -- nothing else is in an order
@@ -88,9 +88,9 @@ noValue : (n : ℕ) → Nothing ≡ Value n → ⊥
 unfolding replyKind
 noValue n = notNone (Value n) (omega arith)
 
--- an answer; a response is its reply, whatever its steps and its root block
+-- an answer; a response is its reply, whatever its steps, its helps and its root block
 abbrev pub got : OpId → Reply → AnswerRecord
-got w r = record { process = w .process; reply = r; steps = 1; serial = w .serial; block = 1 }
+got w r = record { process = w .process; reply = r; steps = 1; helps = 0; serial = w .serial; block = 1 }
 
 -- ---- a put of 7 finished before a take began: in every order the take gets 7
 
@@ -206,7 +206,7 @@ unfolding rules
 oneStepMore n f = omega (arith, counted n (finishes x ∷ []), f .within x)
 
 -- responds: an operation of n steps that has not finished
-unfinished : (n : ℕ) → isFinished x (replicate n (moves x) ++ []) ≡ false
+unfinished : (n : ℕ) → isFinished x (replicate n (moves x false) ++ []) ≡ false
 unfolding rules
 unfinished zero = refl
 unfinished (suc n) = unfinished n

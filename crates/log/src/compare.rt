@@ -24,7 +24,7 @@ fn same_sixteen(bytes: &[u8], log: &[u8], at: usize) -> bool
 // How many records at the beginning of two logs are equal, when the one with n answers gets another, a, and `equal`
 // were so far. Once they differ, later records count no more.
 pub fn equal_after(log: &[u8], n: usize, equal: usize, a: AnswerRecord) -> usize
-    requires { ⌜ (16 * n + 16 < 18446744073709551616) × (a .process < 256) × (a .steps < 65536) ⌝ }
+    requires { ⌜ (16 * n + 16 < 18446744073709551616) × (a .process < 256) × (a .steps < 256) × (a .helps < 256) ⌝ }
     ensures { λ r. ⌜ r ≡ countAfter (now (log .entry)) n equal a ⌝ }
 {
     if equal != n {

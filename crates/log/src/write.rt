@@ -7,7 +7,7 @@ ghost use Rattle.log.specs.Contracts.Leading.{withAnswer};
 // An answer written after n others. Where there are no answer bytes nothing is written: a call that only compares or
 // lists has none.
 pub fn write_answer(out: &mut [u8], n: usize, a: AnswerRecord)
-    requires { ⌜ (16 * n + 16 < 18446744073709551616) × (a .process < 256) × (a .steps < 65536) ⌝ }
+    requires { ⌜ (16 * n + 16 < 18446744073709551616) × (a .process < 256) × (a .steps < 256) × (a .helps < 256) ⌝ }
     ensures { λ _. ⌜ now (out .exit) ≡ withAnswer (now (out .entry)) n a ⌝ }
 {
     let at = 16 * n;

@@ -9,14 +9,12 @@ use Rattle.record.specs.declared.StepRecord.{StepRecord}
 use Rattle.record.specs.StepRecords.{isStep, illFormed}
 use Rattle.record.specs.AnswerRecords.{answerSize}
 use Rattle.tree.specs.Shape.{Shape, processes}
-use Rattle.tree.specs.Memory.{Memory}
 use Rattle.steps.specs.declared.Operation.{Operation}
 use Rattle.steps.specs.declared.Step.{Step}
 use Rattle.steps.specs.declared.Status.the-variants.{Busy}
 use Rattle.steps.specs.declared.Process.{Process}
-use Rattle.steps.specs.Rules.{step, go}
-use Rattle.steps.specs.Machine.{Machine, processOf, isIdle, isQ, atQ, begin, stepFrom, stepOf}
-use Rattle.stepping.specs.Contracts.Next.{moved}
+use Rattle.steps.specs.Rules.{step}
+use Rattle.steps.specs.Machine.{Machine, processOf, isIdle, isQ, atQ, begin, stepped, stepFrom, stepOf}
 use Rattle.steps.specs.Contracts.Operations.{entered, rested}
 use Rattle.steps.proofs.Inside.{is-q}
 use Rattle.calls.specs.declared.Refusal.{Refusal}
@@ -73,10 +71,9 @@ module _ (s : Shape) (room : ℕ) (m : Machine) (r : StepRecord) (formed : illFo
       step-answers = rw steps (ap (answersFrom s m (r .process)) busy)
 
       -- any step but Q
-      pub step-goes : isQ n ≡ false → (after : Memory) (x : Step) → step s (r .process) o (m .memory) n ≡ go s (r .process) o (m .memory) after x
-          → ResultOf s room m r after (Moved (moved q o x))
-      unfolding accepted refusalNumber answersFrom stepFrom go
-      step-goes e after x z = (rw (busy-tests, e), step-answers ∙ rw e, step-taken ∙ rw z)
+      pub step-goes : isQ n ≡ false → let z = step s (r .process) o (m .memory) n in ResultOf s room m r (z .memory) (Moved (stepped q z))
+      unfolding accepted refusalNumber answersFrom stepFrom
+      step-goes e = (rw (busy-tests, e), step-answers ∙ rw e, step-taken)
 
       module _ (last : isQ n ≡ true) where
         pub full-refused : room < 16 → ResultOf s room m r (m .memory) (Refused AnswersFull)

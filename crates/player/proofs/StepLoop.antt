@@ -17,13 +17,13 @@ use Rattle.steps.specs.declared.Step.the-variants.{A, V1, V2, V3, R1, R2, R3, R
 use Rattle.steps.specs.declared.Status.the-variants.{Idle, Busy}
 use Rattle.steps.specs.declared.Process.{Process}
 use Rattle.steps.specs.Process.{idle}
-use Rattle.steps.specs.Rules.{step, go}
+use Rattle.steps.specs.Rules.{Stepped, step, goTelling, go}
 use Rattle.tree.specs.Contracts.Access.{Begins}
 use Rattle.steps.specs.Contracts.Ready.{Ready}
-use Rattle.stepping.specs.Contracts.Next.{PartsBegin, Fits, FitsLeaf, operationIn, stepIn, moved, Moves}
+use Rattle.stepping.specs.Contracts.Next.{PartsBegin, Fits, FitsLeaf, operationIn, stepIn, Moves}
 use Rattle.steps.specs.Contracts.Operations.{rested}
 use Rattle.tree.proofs.NodeReads.{begins}
-use Rattle.steps.specs.Machine.{isIdle, isQ}
+use Rattle.steps.specs.Machine.{isIdle, isQ, stepped}
 use Rattle.calls.specs.declared.Refusal.the-variants.{StepWhileIdle, AnswersFull}
 use Rattle.calls.specs.Answer.{answerOf}
 use Rattle.log.specs.Contracts.Leading.{withAnswer, countAfter}
@@ -32,7 +32,8 @@ use Rattle.log.proofs.Written.{written-after}
 use Rattle.answer.proofs.PlaysLaws.{plays-ready}
 use Rattle.answer.specs.Contracts.Playing.{machineOf, Plays, Playing}
 use Rattle.player.proofs.StepWords.{stepOf, step-formed, words-step}
-use Rattle.player.proofs.LoopStates.{Call, State, shapeOf, listOf, countOf, playedTo, memoryAt, processesOf, afterMove, afterAnswer, PlaysAs, EndsWith}
+use Rattle.player.proofs.LoopStates.{Call, State, shapeOf, listOf, countOf, playedTo, memoryAt, processesOf, afterMove, afterAnswer, PlaysAs, Gives, EndsWith}
+use Rattle.player.proofs.RecordResults.{Moved}
 use Rattle.player.proofs.StepResults.{gives-idle, gives-full, gives-answer, gives-step}
 use Rattle.player.proofs.LoopInvariant.{LoopInvariant, loop-narrow, loop-laid, loop-spare, loop-plays, loop-fits, loop-record, loop-refused, loop-moves, loop-finishes}
 
@@ -124,30 +125,39 @@ module _ {c : Call} {t : State} {i first j : ℕ} (w : StepAt c t i first j) whe
     pub step-fits : {y : Step} → stepIn (q .status) ≡ y → isQ y ≡ false → Fits (c .starts) y
     step-fits {y} is goes = record { shape = s; begins = placed y (step-ready is goes) }
 
-    -- the process has become r by the rules, and memory n is left
-    abbrev pub StepsTo : Memory → Process → Type 0
-    StepsTo n r =
-        Moves q r
-        × (step s first (operationIn (q .status)) (memoryAt t) (stepIn (q .status)) ≡ go s first (operationIn (q .status)) (memoryAt t) n (stepIn (r .status)))
+    -- what the step does by the rules
+    abbrev by-rules : Stepped
+    by-rules = step s first (operationIn (q .status)) (memoryAt t) (stepIn (q .status))
 
-    pub step-moves : {y : Step} → x ≡ y → isQ y ≡ false → (table heads : List ℕ) (r : Process) → length heads ≡ length (t .heads) → length table ≡ length (t .table)
-        → (stepIn (q .status) ≡ y → Ready (c .starts) (t .heads) (t .table) (c .p + first) y → PartsBegin s (c .starts) (stepIn (q .status))
-        → StepsTo (memoryOf table heads) r)
-        → LoopInvariant c (afterMove t j r (memoryOf table heads)) (i + 1)
+    -- what is known where the process is at step y
+    abbrev At : Step → Type 0 → Type 0
+    At y P = stepIn (q .status) ≡ y → Ready (c .starts) (t .heads) (t .table) (c .p + first) y → PartsBegin s (c .starts) (stepIn (q .status)) → P
+
+    -- the process has become r by the rules, and this memory is left
+    pub telling-moves : {y : Step} → x ≡ y → isQ y ≡ false → (table heads : List ℕ) (r : Process) → length heads ≡ length (t .heads) → length table ≡ length (t .table)
+        → At y ((r ≡ stepped q by-rules) × (by-rules .memory ≡ memoryOf table heads)) → LoopInvariant c (afterMove t j r (memoryOf table heads)) (i + 1)
     unfolding isStep
-    step-moves {y} is goes table heads r eh et by-rules =
-        let n = memoryOf table heads in
+    telling-moves {y} is goes table heads r eh et left =
         let told : stepIn (q .status) ≡ y = ap stepIn busy ∙ is in
         let ready = step-ready told goes in
-        let e = by-rules told ready (subst (PartsBegin s (c .starts)) (sym told) (placed y ready)) in
-        let q' : Process = moved q (operationIn (q .status)) (stepIn (r .status)) in
+        let e = left told ready (subst (PartsBegin s (c .starts)) (sym told) (placed y ready)) in
+        let q' : Process = stepped q by-rules in
         let given =
         gives-step c t (stepOf first) q step-plays well refl (operationIn (q .status)) (stepIn (q .status)) (step-busy refl refl) (ap isQ told ∙ goes)
-        n (stepIn (r .status)) (e .1)
         in
-        subst (λ (z : Process). LoopInvariant c (afterMove t j z n) (i + 1)) (sym (e .0))
-        (subst (λ (k : ℕ). LoopInvariant c (afterMove t k q' n) (i + 1)) (sym (w .at))
-        (loop-moves (w .inv) (w .more) (stepOf first) step-is q' n (w .low) eh et given))
+        subst (λ (z : Process). LoopInvariant c (afterMove t j z (memoryOf table heads)) (i + 1)) (sym (e .0))
+        (subst (λ (k : ℕ). LoopInvariant c (afterMove t k q' (memoryOf table heads)) (i + 1)) (sym (w .at))
+        (loop-moves (w .inv) (w .more) (stepOf first) step-is q' (memoryOf table heads) (w .low) eh et
+        (subst (λ (n : Memory). Gives c t (stepOf first) n (Moved q')) (e .1) given)))
+
+    -- the same of a step that is no help
+    pub step-moves : {y : Step} → x ≡ y → isQ y ≡ false → (table heads : List ℕ) (r : Process) → length heads ≡ length (t .heads) → length table ≡ length (t .table)
+        → At y (Moves q r × (by-rules ≡ go s first (operationIn (q .status)) (memoryAt t) (memoryOf table heads) (stepIn (r .status))))
+        → LoopInvariant c (afterMove t j r (memoryOf table heads)) (i + 1)
+    unfolding goTelling go
+    step-moves is goes table heads r eh et left =
+        telling-moves is goes table heads r eh et
+        (λ told ready begins. let e = left told ready begins in (e .0 ∙ ap (stepped q) (sym (e .1)), ap (λ (z : Stepped). z .memory) (e .1)))
 
   -- Q
   module _ {o : Operation} (finish-busy : q .status ≡ Busy o Q) where

@@ -5,14 +5,12 @@ use mathlib.Core.Bool.{true, false}
 use Rattle.record.specs.declared.StepRecord.{StepRecord}
 use Rattle.record.specs.StepRecords.{isStep, illFormed}
 use Rattle.tree.specs.Shape.{processes}
-use Rattle.tree.specs.Memory.{Memory}
 use Rattle.steps.specs.declared.Operation.{Operation}
 use Rattle.steps.specs.declared.Step.{Step}
 use Rattle.steps.specs.declared.Status.the-variants.{Busy}
 use Rattle.steps.specs.declared.Process.{Process}
-use Rattle.steps.specs.Rules.{step, go}
-use Rattle.steps.specs.Machine.{processOf, isIdle, isQ}
-use Rattle.stepping.specs.Contracts.Next.{moved}
+use Rattle.steps.specs.Rules.{step}
+use Rattle.steps.specs.Machine.{processOf, isIdle, isQ, stepped}
 use Rattle.calls.specs.declared.Refusal.the-variants.{StepWhileIdle, AnswersFull}
 use Rattle.player.proofs.RecordResults.{Refused, Moved, Finished}
 use Rattle.player.proofs.ResultLaws.{idle-refused, full-refused, step-finishes, step-goes}
@@ -34,8 +32,8 @@ module _ (c : Call) (t : State) (r : StepRecord) (q : Process) (plays : PlaysAs 
       pub gives-answer : isQ n ≡ true → 16 ≤ t .left → Gives c t r (memoryAt t) (Finished o)
       gives-answer = step-finishes (shapeOf c) (t .left) (machineAt c t) r formed steps o n is-busy
 
-      pub gives-step : isQ n ≡ false → (after : Memory) (x : Step)
-          → step (shapeOf c) (r .process) o (memoryAt t) n ≡ go (shapeOf c) (r .process) o (memoryAt t) after x → Gives c t r after (Moved (moved q o x))
-      gives-step z after x e =
-          subst (λ (y : Process). Gives c t r after (Moved (moved y o x))) (plays .here)
-          (step-goes (shapeOf c) (t .left) (machineAt c t) r formed steps o n is-busy z after x e)
+      pub gives-step : isQ n ≡ false → let z = step (shapeOf c) (r .process) o (memoryAt t) n in Gives c t r (z .memory) (Moved (stepped q z))
+      gives-step e =
+          let z = step (shapeOf c) (r .process) o (memoryAt t) n in
+          subst (λ (y : Process). Gives c t r (z .memory) (Moved (stepped y z))) (plays .here)
+          (step-goes (shapeOf c) (t .left) (machineAt c t) r formed steps o n is-busy e)

@@ -36,14 +36,14 @@ lines-more answers n =
 
 -- in bytes
 module _ (answers : List ℕ) (bytes : Bytes answers) where
-  pub next-most : (n : ℕ) → length (answerLine (answerRecord (take 16 (drop n answers)))) ≤ 48
+  pub next-most : (n : ℕ) → length (answerLine (answerRecord (take 16 (drop n answers)))) ≤ 50
   next-most n = line-most (take 16 (drop n answers)) (take-bytes 16 (drop n answers) (drop-bytes n answers bytes))
 
-  pub lines-most : (n : ℕ) → length (answerLines answers n) ≤ 48 * n
+  pub lines-most : (n : ℕ) → length (answerLines answers n) ≤ 50 * n
   lines-most zero = rw lines-none (omega arith)
   lines-most (suc n) =
       rw (← add-one n, lines-more)
       (omega (arith, length-append (answerLines answers n) (answerLine (answerRecord (take 16 (drop (16 * n) answers)))), lines-most n, next-most (16 * n)))
 
-  pub text-most : (n refusal taken : ℕ) → refusal < 2 ^ 32 → taken < 2 ^ 64 → length (answerLines answers n) + length (lastLine refusal taken) ≤ 48 * n + 36
+  pub text-most : (n refusal taken : ℕ) → refusal < 2 ^ 32 → taken < 2 ^ 64 → length (answerLines answers n) + length (lastLine refusal taken) ≤ 50 * n + 36
   text-most n refusal taken h k = omega (arith, lines-most n, last-most refusal taken h k)

@@ -26,7 +26,7 @@ unfolding numberField ascii
 number-length x = omega arith
 
 pub numbers-length : (a : AnswerRecord) → length (numberFields a)
-    ≡ length (numberField (a .process)) + length (numberField (a .serial)) + length (numberField (a .steps)) + length (numberField (a .block))
+    ≡ length (numberField (a .process)) + length (numberField (a .serial)) + length (numberField (a .steps)) + length (numberField (a .helps)) + length (numberField (a .block))
 unfolding numberFields
 numbers-length a = simp length-append
 
@@ -83,7 +83,7 @@ module _ (bs : List ℕ) (bytes : Bytes bs) where
   field-below : (k n : ℕ) → numberOf (take n (drop k bs)) < 256 ^ n
   field-below k n = below n (drop k bs) (drop-bytes k bs bytes)
 
-  pub line-most : length (answerLine (answerRecord bs)) ≤ 48
+  pub line-most : length (answerLine (answerRecord bs)) ≤ 50
   unfolding answerRecord
   line-most =
       let a = answerRecord bs in
@@ -94,7 +94,8 @@ module _ (bs : List ℕ) (bytes : Bytes bs) where
         numbers-length a,
         number-most 2 (a .process) (omega (arith, below 1 bs bytes)),
         number-most 9 (a .serial) (omega (arith, field-below 8 4)),
-        number-most 4 (a .steps) (omega (arith, field-below 2 2)),
+        number-most 2 (a .steps) (omega (arith, field-below 2 1)),
+        number-most 2 (a .helps) (omega (arith, field-below 3 1)),
         number-most 9 (a .block) (omega (arith, field-below 12 4)),
         reply-most (numberOf (take 1 (drop 1 bs))) (numberOf (take 4 (drop 4 bs))) (field-below 4 4),
       )

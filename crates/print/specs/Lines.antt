@@ -23,9 +23,14 @@ replyField Done = []
 replyField (Value x) = numberField x
 replyField Nothing = ascii " none"
 
--- process, serial, steps, root block
+-- process, serial, steps, helps, root block
 unfoldable pub numberFields : AnswerRecord → List ℕ
-numberFields a = numberField (a .process) ++ numberField (a .serial) ++ numberField (a .steps) ++ numberField (a .block)
+numberFields a =
+    numberField (a .process)
+    ++ numberField (a .serial)
+    ++ numberField (a .steps)
+    ++ numberField (a .helps)
+    ++ numberField (a .block)
 
 -- the line of an answer: put or take, its numbers, and for a take the value or none
 unfoldable pub answerLine : AnswerRecord → List ℕ

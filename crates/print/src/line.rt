@@ -41,7 +41,7 @@ fn put_reply(reply: Reply, out: &mut [u8], at: usize) -> usize
     }
 }
 
-// Process, serial, steps and root block.
+// Process, serial, steps, helps and root block.
 fn put_numbers(a: AnswerRecord, out: &mut [u8], at: usize) -> usize
     requires { ⌜ at + length (numberFields a) ≤ length (now out) ⌝ }
     ensures { λ r. ⌜ Stored (now (out .entry)) at (numberFields a) (now (out .exit)) r ⌝ }
@@ -49,7 +49,8 @@ fn put_numbers(a: AnswerRecord, out: &mut [u8], at: usize) -> usize
     let after_process = put_number(a.process as usize, out, at);
     let after_serial = put_number(a.serial as usize, out, after_process);
     let after_steps = put_number(a.steps as usize, out, after_serial);
-    put_number(a.block as usize, out, after_steps)
+    let after_helps = put_number(a.helps as usize, out, after_steps);
+    put_number(a.block as usize, out, after_helps)
 }
 
 // The line of an answer.

@@ -7,9 +7,9 @@ ghost use lib.ListN.{length};
 ghost use Rattle.base.specs.Contracts.Stored.{Stored};
 ghost use Rattle.print.specs.Printed.{answerLines, printed};
 
-// One line an answer. A line has at most 48 bytes.
+// One line an answer. A line has at most 50 bytes.
 fn put_lines(answers: &[u8], n: usize, out: &mut [u8]) -> usize
-    requires { ⌜ (16 * n ≤ length (now answers)) × (48 * n ≤ length (now out)) ⌝ }
+    requires { ⌜ (16 * n ≤ length (now answers)) × (50 * n ≤ length (now out)) ⌝ }
     ensures { λ r. ⌜ Stored (now (out .entry)) 0 (answerLines (now (answers .entry)) n) (now (out .exit)) r ⌝ }
 {
     let mut next = 0;
@@ -23,9 +23,9 @@ fn put_lines(answers: &[u8], n: usize, out: &mut [u8]) -> usize
 
 // The text of n answers, a refusal number and the records taken. The last line has at most 36 bytes.
 pub fn put_printed(answers: &[u8], n: usize, refusal: u32, taken: usize, out: &mut [u8]) -> usize
-    requires { ⌜ (16 * n ≤ length (now answers)) × (48 * n + 36 ≤ length (now out)) ⌝ }
+    requires { ⌜ (16 * n ≤ length (now answers)) × (50 * n + 36 ≤ length (now out)) ⌝ }
     ensures { λ r. ⌜ Stored (now (out .entry)) 0 (printed (now (answers .entry)) n refusal taken) (now (out .exit)) r ⌝ }
-    ensures { λ r. ⌜ r ≤ 48 * n + 36 ⌝ }
+    ensures { λ r. ⌜ r ≤ 50 * n + 36 ⌝ }
 {
     let end = put_lines(answers, n, out);
     put_last(refusal, taken, out, end)

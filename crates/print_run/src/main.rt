@@ -11,9 +11,9 @@ ghost use Rattle.base.specs.Contracts.Stored.{Stored};
 ghost use Rattle.print.specs.Printed.{printRun, ReadFrom};
 
 // Writes the text of every input of which this was read: `records`, the bytes that the record buffer holds, and `next`,
-// the byte after them, if there is one. The longest text has room: 96 lines of at most 48 bytes each, and a last line
+// the byte after them, if there is one. The longest text has room: 96 lines of at most 50 bytes each, and a last line
 // of at most 36.
-fn print_input(records: &[u8], next: &[u8], out: &mut [u8; 4644]) -> usize
+fn print_input(records: &[u8], next: &[u8], out: &mut [u8; 4836]) -> usize
     requires { ⌜ ReadFrom (now records ++ now next) (now records) (now next) ⌝ }
     ensures { λ r. ⌜ Counts r (now (out .exit)) ⌝ }
     ensures { λ r. ⌜ ((input : List ℕ) → ReadFrom input (now (records .entry)) (now (next .entry)) → Stored (now (out .entry)) 0 (printRun input) (now (out .exit)) r) ⌝ }
@@ -44,7 +44,7 @@ fn read_next(got: usize, next: &mut [u8]) -> usize
 fn main() {
     let mut records = [0u8; 65536];
     let mut next = [0u8; 1];
-    let mut out = [0u8; 4644];
+    let mut out = [0u8; 4836];
     let got = io::read_full(0, &mut records);
     let more = read_next(got, &mut next);
     let end = print_input(&records[..got], &next[..more], &mut out);

@@ -13,7 +13,8 @@ use Rattle.record.specs.ReadAnswers.{replyFor, answerRecord}
 -- the fields fit their bytes
 pub record Fitting (a : AnswerRecord) : Type 0 where
   pub process : a .process < 2 ^ 8
-  pub steps : a .steps < 2 ^ 16
+  pub steps : a .steps < 2 ^ 8
+  pub helps : a .helps < 2 ^ 8
   pub value : replyValue (a .reply) < 2 ^ 32
   pub serial : a .serial < 2 ^ 32
   pub block : a .block < 2 ^ 32
@@ -36,7 +37,8 @@ record-back a f =
     record {
       process = number-back 1 (a .process) (f .process) i;
       reply = reply-back (a .reply) (f .value) i;
-      steps = number-back 2 (a .steps) (f .steps) i;
+      steps = number-back 1 (a .steps) (f .steps) i;
+      helps = number-back 1 (a .helps) (f .helps) i;
       serial = number-back 4 (a .serial) (f .serial) i;
       block = number-back 4 (a .block) (f .block) i;
     }

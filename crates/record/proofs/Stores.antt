@@ -31,7 +31,10 @@ word-bytes x =
     let high : x / 65536 ≡ x / 256 / 256 = omega arith in
     rw (low, next, high)
 
--- what answer records and order records begin with: two bytes and a half
+-- what an answer record begins with, four bytes, and an order record, two bytes and a half
+abbrev four : ℕ → ℕ → ℕ → ℕ → List ℕ
+four x y z w = bytesOf 1 x ++ bytesOf 1 y ++ bytesOf 1 z ++ bytesOf 1 w
+
 abbrev head : ℕ → ℕ → ℕ → List ℕ
 head x y z = bytesOf 1 x ++ bytesOf 1 y ++ bytesOf 2 z
 
@@ -42,6 +45,15 @@ module _ (l : List ℕ) (i : ℕ) where
 
   pub word-stored : (x : ℕ) → sets (sets l i (bytesOf 2 (x % 65536))) (i + 2) (bytesOf 2 (x / 65536)) ≡ sets l i (bytesOf 4 x)
   word-stored x = then-stored l (bytesOf 2 (x % 65536)) (bytesOf 2 (x / 65536)) i 2 (bytes-length 2 (x % 65536)) ∙ ap (sets l i) (word-bytes x)
+
+  pub four-stored : (x y z w : ℕ)
+      → sets (sets (sets (sets l i (bytesOf 1 x)) (i + 1) (bytesOf 1 y)) (i + 2) (bytesOf 1 z)) (i + 3) (bytesOf 1 w) ≡ sets l i (four x y z w)
+  four-stored x y z w =
+      rw (
+        then-stored l (bytesOf 1 x) (bytesOf 1 y) i 1 (bytes-length 1 x),
+        then-stored l (bytesOf 1 x ++ bytesOf 1 y) (bytesOf 1 z) i 2 (simp (length-append, bytes-length)),
+      )
+      (then-stored l (bytesOf 1 x ++ bytesOf 1 y ++ bytesOf 1 z) (bytesOf 1 w) i 3 (simp (length-append, bytes-length)))
 
   pub head-stored : (x y z : ℕ) → sets (sets (sets l i (bytesOf 1 x)) (i + 1) (bytesOf 1 y)) (i + 2) (bytesOf 2 z) ≡ sets l i (head x y z)
   head-stored x y z =
@@ -54,11 +66,11 @@ module _ (l : List ℕ) (i : ℕ) where
   order-stored x = then-stored l (head (x .process) (x .kind) (x .serial)) _ i 4 (simp (length-append, bytes-length))
 
   pub answer-stored : (a : AnswerRecord)
-      → sets (sets (sets (sets l i (head (a .process) (replyKind (a .reply)) (a .steps))) (i + 4) (bytesOf 4 (replyValue (a .reply))))
+      → sets (sets (sets (sets l i (four (a .process) (replyKind (a .reply)) (a .steps) (a .helps))) (i + 4) (bytesOf 4 (replyValue (a .reply))))
       (i + 8) (bytesOf 4 (a .serial))) (i + 12) (bytesOf 4 (a .block)) ≡ sets l i (answerBytes a)
   unfolding answerBytes
   answer-stored a =
-      let first : List ℕ = head (a .process) (replyKind (a .reply)) (a .steps) in
+      let first : List ℕ = four (a .process) (replyKind (a .reply)) (a .steps) (a .helps) in
       let value : List ℕ = bytesOf 4 (replyValue (a .reply)) in
       let serial : List ℕ = bytesOf 4 (a .serial) in
       rw (

@@ -1,4 +1,4 @@
--- Answer records: 16 bytes, a process, a kind, own steps, a value, a serial and a root block.
+-- Answer records: 16 bytes, a process, a kind, own steps, helps, a value, a serial and a root block.
 use Prim.Native.Nat.{ℕ}
 use mathlib.Core.List.{List, _++_, flatMap}
 use Rattle.record.specs.declared.Reply.{Reply}
@@ -26,7 +26,8 @@ unfoldable pub answerBytes : AnswerRecord → List ℕ
 answerBytes a =
     bytesOf 1 (a .process)
     ++ bytesOf 1 (replyKind (a .reply))
-    ++ bytesOf 2 (a .steps)
+    ++ bytesOf 1 (a .steps)
+    ++ bytesOf 1 (a .helps)
     ++ bytesOf 4 (replyValue (a .reply))
     ++ bytesOf 4 (a .serial)
     ++ bytesOf 4 (a .block)

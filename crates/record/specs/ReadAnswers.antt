@@ -19,7 +19,8 @@ answerRecord bs =
     record {
       process = numberOf (take 1 bs);
       reply = replyFor (numberOf (take 1 (drop 1 bs))) (numberOf (take 4 (drop 4 bs)));
-      steps = numberOf (take 2 (drop 2 bs));
+      steps = numberOf (take 1 (drop 2 bs));
+      helps = numberOf (take 1 (drop 3 bs));
       serial = numberOf (take 4 (drop 8 bs));
       block = numberOf (take 4 (drop 12 bs));
     }

@@ -29,15 +29,15 @@ pub fn reply_value(x: Reply) -> u32
     }
 }
 
-// Stores an answer record in the sixteen bytes from an index on. The caller shows that the process and the steps fit
-// their bytes.
+// Stores an answer record in the sixteen bytes from an index on. The caller shows that the process, the steps and the
+// helps fit their bytes.
 pub fn put_answer(out: &mut [u8], at: usize, a: AnswerRecord)
-    requires { ⌜ (at + 16 ≤ length (now out)) × (a .process < 256) × (a .steps < 65536) ⌝ }
+    requires { ⌜ (at + 16 ≤ length (now out)) × (a .process < 256) × (a .steps < 256) × (a .helps < 256) ⌝ }
     ensures { λ _. ⌜ now (out .exit) ≡ sets (now (out .entry)) at (answerBytes a) ⌝ }
 {
     // A field that is an enum is copied before it is passed on.
     let reply = a.reply;
-    bytes::put_head(out, at, a.process, reply_kind(reply), a.steps);
+    bytes::put_four(out, at, a.process, reply_kind(reply), a.steps, a.helps);
     bytes::put_word(out, at + 4, reply_value(reply));
     bytes::put_word(out, at + 8, a.serial);
     bytes::put_word(out, at + 12, a.block);
@@ -66,7 +66,8 @@ pub fn answer_record(answers: &[u8], at: usize) -> AnswerRecord
     AnswerRecord {
         process: bytes::byte_at(answers, at),
         reply: reply_for(kind, value),
-        steps: bytes::half_at(answers, at + 2),
+        steps: bytes::byte_at(answers, at + 2),
+        helps: bytes::byte_at(answers, at + 3),
         serial: bytes::word_at(answers, at + 8),
         block: bytes::word_at(answers, at + 12),
     }

@@ -57,7 +57,18 @@ pub fn put_word(bytes: &mut [u8], at: usize, x: u32)
     put_half(bytes, at + 2, x / 65536);
 }
 
-// Stores what answer records and order records begin with: two bytes and a half.
+// Stores what an answer record begins with: four bytes.
+pub fn put_four(bytes: &mut [u8], at: usize, x: u32, y: u32, z: u32, w: u32)
+    requires { ⌜ (at + 4 ≤ length (now bytes)) × (x < 256) × (y < 256) × (z < 256) × (w < 256) ⌝ }
+    ensures { λ _. ⌜ now (bytes .exit) ≡ sets (now (bytes .entry)) at (bytesOf 1 x ++ bytesOf 1 y ++ bytesOf 1 z ++ bytesOf 1 w) ⌝ }
+{
+    put_byte(bytes, at, x);
+    put_byte(bytes, at + 1, y);
+    put_byte(bytes, at + 2, z);
+    put_byte(bytes, at + 3, w);
+}
+
+// Stores what an order record begins with: two bytes and a half.
 pub fn put_head(bytes: &mut [u8], at: usize, x: u32, y: u32, z: u32)
     requires { ⌜ (at + 4 ≤ length (now bytes)) × (x < 256) × (y < 256) × (z < 65536) ⌝ }
     ensures { λ _. ⌜ now (bytes .exit) ≡ sets (now (bytes .entry)) at (bytesOf 1 x ++ bytesOf 1 y ++ bytesOf 2 z) ⌝ }

@@ -25,6 +25,7 @@ pub struct AnswerRecord {
     pub process: u32,
     pub reply: Reply,
     pub steps: u32,
+    pub helps: u32,
     pub serial: u32,
     pub block: u32,
 }

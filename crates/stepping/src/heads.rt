@@ -1,7 +1,9 @@
 // The named steps that look at heads alone. They go on alike whatever the table is.
+use crate::sequence::help_of;
 use crate::sequence::resume;
 use crate::turn::by_fields;
 use crate::turn::moved;
+use crate::turn::moved_telling;
 use crate::turn::step_in;
 use steps::After;
 use steps::Process;
@@ -13,7 +15,7 @@ use tree::heads::raise;
 ghost use mathlib.Core.Path.{_≡_};
 ghost use Prim.Native.Nat.{ℕ, _+_, _*_, _/_, _≤_, _<_};
 ghost use lib.ListN.{length, getD};
-ghost use Rattle.stepping.specs.Contracts.Next.{stepIn, StepsByHeads};
+ghost use Rattle.stepping.specs.Contracts.Next.{stepIn, StepsByHeads, StepsTelling};
 ghost use Rattle.steps.specs.Contracts.Ready.{Children};
 
 // V1: the parent's head is what v's block is to remember as its superblock.
@@ -44,10 +46,10 @@ pub fn step_v1(heads: &[u32], q: Process) -> Process
     )
 }
 
-// V3: the head of v is raised past the block at h, and what was put off goes on.
+// V3: the head of v is raised past the block at h, and what was put off goes on. Whether it moved is passed on.
 pub fn step_v3(heads: &mut [u32], q: Process) -> Process
-    requires { ⌜ (q .steps < 65536) × ((a : After) (w : Visit) (v h : ℕ) → stepIn (q .status) ≡ Step.V3 a w v h → (v < length (now heads)) × (h < 65536)) ⌝ }
-    ensures { λ r. ⌜ StepsByHeads (λ P. (a : After) (w : Visit) (v h : ℕ) → P (Step.V3 a w v h)) (now (heads .entry)) (now (heads .exit)) q r ⌝ }
+    requires { ⌜ (q .steps < 65536) × (q .helps < 65536) × ((a : After) (w : Visit) (v h : ℕ) → stepIn (q .status) ≡ Step.V3 a w v h → (v < length (now heads)) × (h < 65536)) ⌝ }
+    ensures { λ r. ⌜ StepsTelling (λ P. (a : After) (w : Visit) (v h : ℕ) → P (Step.V3 a w v h)) (now (heads .entry)) (now (heads .exit)) q r ⌝ }
 {
     let Step::V3 {
         after,
@@ -58,8 +60,8 @@ pub fn step_v3(heads: &mut [u32], q: Process) -> Process
     else {
         return q;
     };
-    raise(heads, node, place);
-    moved(q, resume(after, visit))
+    let raised = raise(heads, node, place);
+    moved_telling(q, resume(after, visit), help_of(after, raised))
 }
 
 // R1: the head of v is the place at which this refresh is to write.

@@ -5,7 +5,7 @@ use steps::Step;
 use steps::Visit;
 ghost use mathlib.Core.Path.{_≡_};
 ghost use Rattle.stepping.specs.Contracts.Sequence.{afterHelp};
-ghost use Rattle.steps.specs.Rules.{above as aboveOf, resume as resumeOf, advance as advanceOf, afterRefresh};
+ghost use Rattle.steps.specs.Rules.{above as aboveOf, resume as resumeOf, advance as advanceOf, afterRefresh, helpOf};
 
 // After the last refresh of v its parent is refreshed. Nothing is above the root (node 1), so there the operation is
 // answered.
@@ -45,6 +45,16 @@ pub fn resume(a: After, w: Visit) -> Step
             node: w.node,
         },
         After::Up => above(w.node),
+    }
+}
+
+// What V3 tells, passed on by who began the advance: only that of a child is a help.
+pub fn help_of(a: After, moved: bool) -> bool
+    ensures { λ r. ⌜ r ≡ helpOf a moved ⌝ }
+{
+    match a {
+        After::Right | After::Ends => moved,
+        After::Again | After::Up => false,
     }
 }
 

@@ -6,8 +6,12 @@ use steps::Step;
 use steps::Visit;
 ghost use mathlib.Core.Bool.{false};
 ghost use mathlib.Core.Path.{_≡_};
-ghost use Prim.Native.Nat.{_<_};
-ghost use Rattle.steps.specs.Machine.{isIdle};
+ghost use Prim.Native.Nat.{ℕ, _+_, _<_};
+ghost use Rattle.base.specs.Choice.{if_then_else_};
+ghost use Rattle.tree.specs.Shape.{Shape};
+ghost use Rattle.tree.specs.Memory.{Memory};
+ghost use Rattle.steps.specs.Rules.{goTelling};
+ghost use Rattle.steps.specs.Machine.{isIdle, stepped};
 ghost use Rattle.stepping.specs.Contracts.Next.{operationIn, stepIn, moved as movedOf};
 
 // The operation that a busy process is inside of.
@@ -33,7 +37,7 @@ pub fn step_in(q: Process) -> Step
     }
 }
 
-// A busy process q after its step, with step n next.
+// A busy process q after a step that is no help, with step n next.
 pub fn moved(q: Process, n: Step) -> Process
     requires { ⌜ (q .steps < 65536) × (isIdle (q .status) ≡ false) ⌝ }
     ensures { λ r. ⌜ r ≡ movedOf q (operationIn (q .status)) n ⌝ }
@@ -42,6 +46,31 @@ pub fn moved(q: Process, n: Step) -> Process
         status: Status::Busy(operation_in(q), n),
         begun: q.begun,
         steps: q.steps + 1,
+        helps: q.helps,
+    }
+}
+
+// The helps after a step that was one or not.
+fn helps_after(helps: u32, helped: bool) -> u32
+    requires { ⌜ helps < 65536 ⌝ }
+    ensures { λ r. ⌜ r ≡ (if helped then helps + 1 else helps) ⌝ }
+{
+    if helped {
+        return helps + 1;
+    }
+    helps
+}
+
+// A busy process q after its step, with step n next, which tells whether it was a help.
+pub fn moved_telling(q: Process, n: Step, helped: bool) -> Process
+    requires { ⌜ (q .steps < 65536) × (q .helps < 65536) × (isIdle (q .status) ≡ false) ⌝ }
+    ensures { λ r. ⌜ ((s : Shape) (k : ℕ) (m after : Memory) → r ≡ stepped q (goTelling s k (operationIn (q .status)) m after n helped)) ⌝ }
+{
+    Process {
+        status: Status::Busy(operation_in(q), n),
+        begun: q.begun,
+        steps: q.steps + 1,
+        helps: helps_after(q.helps, helped),
     }
 }
 

@@ -25,7 +25,7 @@ use Rattle.steps.specs.declared.After.the-variants.{Up}
 use Rattle.steps.specs.declared.Built.{Built}
 use Rattle.steps.specs.Rules.{afterFailed, afterRefresh, plusOperation, blockOf}
 use Rattle.steps.proofs.Stages.{made, Stage, advancing, Holds}
-use Rattle.steps.proofs.Turns.{Turn, afterHelp, rests, adds, supers, raises, starts, helps, endsLeft, endsRight, counts, makes, finds, writes, meets, finishes}
+use Rattle.steps.proofs.Turns.{Turn, afterHelp, rests, adds, supers, raises, starts, assists, endsLeft, endsRight, counts, makes, finds, writes, meets, finishes}
 use Rattle.steps.proofs.Progress.{LeafOpen, OwnLeaf, Threshold, Refreshing, Passing, Failed, AfterAdvance, Advancing, Building, Carried}
 use Rattle.steps.proofs.Others.{Effect, Registers, hand-below, reached, covered-stable, owed-stable, refreshing-stable, after-stable, carried-stable, sound'}
 use Rattle.steps.proofs.Effects.{plus-one, made-has, build-fresh}
@@ -128,7 +128,7 @@ module _ (s : Shape) (m : Memory) (sized : Sized s m) (sound : Sound s m) (hold 
         (after-stable s m (raise m v h) sound hold hold' k kp o eff others regs k kp b w a v h (p .present) (p .then))
     carried-turn (starts v q) e f eff own p =
         started s m sound hold hold' k kp o eff others regs b v q (λ d u h z r. (subst (λ (y : Stage). Holds d y u h z) f r) .2) p
-    carried-turn (helps w d c g) e f eff own p =
+    carried-turn (assists w d c g) e f eff own p =
         record {
           node = child-node s d (w .node) (refresh-inner w (p .refreshing));
           present = present-count (block s m (childOf d (w .node)) c) g;

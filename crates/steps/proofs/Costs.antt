@@ -23,7 +23,7 @@ use Rattle.steps.specs.declared.Step.{Step}
 use Rattle.steps.specs.declared.Step.the-variants.{A, V1, V2, V3, R1, R2, R3, R4, R5, C1, C2, C3L, C3R, C3N, C4, Q}
 use Rattle.steps.specs.declared.Status.{Status}
 use Rattle.steps.specs.declared.Status.the-variants.{Idle, Busy}
-use Rattle.steps.specs.Rules.{above, resume, advance, afterFailed, afterRefresh, help, sameTotals, go, step}
+use Rattle.steps.specs.Rules.{above, resume, advance, afterFailed, afterRefresh, help, sameTotals, goTelling, go, step}
 use Rattle.steps.proofs.Stages.{Stage, resting, adding, advancing, starting, building, answering, stage}
 
 -- ---- the costs
@@ -209,7 +209,7 @@ module _ (s : Shape) where
 
 pub rest-step : (s : Shape) → 1 ≤ s .height → (k : ℕ) → k < processes s → (o : Operation) (m : Memory) (n : Step) → StepNodes s n
     → restOf s (step s k o m n .next) < rest s n
-unfolding step go rest restAfter
+unfolding step goTelling go rest restAfter
 rest-step s tall k kp o m A n =
     let h : ℕ = headOf m (leafOf s k) in
     omega (arith, rest-advance s (record { node = leafOf s k; refresh = First; head = h }) Up (leafOf s k) h, after-leaf s k kp h)

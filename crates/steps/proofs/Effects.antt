@@ -28,7 +28,7 @@ use Rattle.steps.specs.declared.After.{After}
 use Rattle.steps.specs.declared.Built.{Built}
 use Rattle.steps.specs.Rules.{plusOperation, built, blockOf}
 use Rattle.steps.proofs.Stages.{Tally, uncounted, countedBoth, Hand, none, one, two, made, Stage, adding, advancing, building, HasEnd, Holds, ends-stay, above-empty, after-empty}
-use Rattle.steps.proofs.Turns.{Turn, rests, adds, supers, raises, starts, helps, endsLeft, endsRight, counts, makes, finds, writes, meets, finishes}
+use Rattle.steps.proofs.Turns.{Turn, rests, adds, supers, raises, starts, assists, endsLeft, endsRight, counts, makes, finds, writes, meets, finishes}
 use Rattle.steps.proofs.Progress.{LeafOpen, OwnLeaf, Building, Carried}
 use Rattle.steps.proofs.Others.{LeafWrote, InnerWrote, Effect}
 
@@ -256,7 +256,7 @@ module _ (s : Shape) (k : ℕ) (o : Operation) (m : Memory) where
       effect (supers w a v h z) own p = setting sized w a v h z (p .node) (p .present)
       effect (raises w a v h) own p = raising w a v h (p .present) (λ d u g e q. after-empty a w d u g e q)
       effect (starts v q) own p = still (λ d u h e z. absurd (z .2))
-      effect (helps w d c f) own p = still (λ d' u h e q. absurd q)
+      effect (assists w d c f) own p = still (λ d' u h e q. absurd q)
       effect (endsLeft w l f) own p = still (gains-left w l f)
       effect (endsRight w l r f) own p = still (gains-right w l r f)
       effect (counts w l r x y f) own p = still (λ d u h e q. inl (q .0, q .1, ends-stay l r y x d e (q .2)))

@@ -1,4 +1,4 @@
--- A step stays inside its operation, and Q alone ends it and changes no memory.
+-- A step stays inside its operation, and Q alone ends it, changes no memory and is no help.
 use Prim.Native.Nat.{ℕ}
 use mathlib.Core.Path.{_≡_, refl, ap, sym, _∙_}
 use mathlib.Core.Logic.{_⊎_, inl, inr}
@@ -9,7 +9,7 @@ use Rattle.steps.specs.declared.Operation.{Operation}
 use Rattle.steps.specs.declared.Step.{Step}
 use Rattle.steps.specs.declared.Step.the-variants.{A, V1, V2, V3, R1, R2, R3, R4, R5, C1, C2, C3L, C3R, C3N, C4, Q}
 use Rattle.steps.specs.declared.Status.the-variants.{Idle, Busy}
-use Rattle.steps.specs.Rules.{go, step}
+use Rattle.steps.specs.Rules.{goTelling, go, step}
 use Rattle.steps.specs.Machine.{isIdle, isQ}
 
 -- a step that is not Q leads to a step of the same operation
@@ -17,7 +17,7 @@ abbrev Goes : Step → Type 0
 Goes n = (isQ n ≡ false) × ((s : Shape) (k : ℕ) (o : Operation) (m : Memory) → (n' : Step) × (step s k o m n .next ≡ Busy o n'))
 
 goes : (n : Step) → (n ≡ Q) ⊎ Goes n
-unfolding step go isQ
+unfolding step goTelling go isQ
 goes A = inr (refl, λ s k o m. (_, refl))
 goes (V1 a w v h) = inr (refl, λ s k o m. (_, refl))
 goes (V2 a w v h x) = inr (refl, λ s k o m. (_, refl))
@@ -54,6 +54,11 @@ module _ (s : Shape) (k : ℕ) (o : Operation) (m : Memory) where
 
   pub q-next : (n : Step) → isQ n ≡ true → step s k o m n .next ≡ Idle
   q-next n q = ap (λ (x : Step). step s k o m x .next) (is-q n q) ∙ q-idle
+
+  -- Q is no help
+  pub q-helps-none : (n : Step) → isQ n ≡ true → step s k o m n .helped ≡ false
+  unfolding step
+  q-helps-none n q = ap (λ (x : Step). step s k o m x .helped) (is-q n q)
 
   -- after a step that leaves the process busy it is inside the same operation, and the step was not Q
   pub next-busy : (n : Step) (o' : Operation) (n' : Step) → step s k o m n .next ≡ Busy o' n' → (isQ n ≡ false) × (o ≡ o')

@@ -19,7 +19,7 @@ use Rattle.steps.specs.declared.Step.the-variants.{A}
 use Rattle.steps.specs.declared.Process.{Process}
 use Rattle.steps.specs.Machine.{Machine, processOf}
 use Rattle.steps.proofs.Stages.{Stage, resting, adding, advancing, starting, building, answering, stage, stageOf, Holds}
-use Rattle.steps.proofs.Turns.{Turn, rests, adds, supers, raises, starts, helps, endsLeft, endsRight, counts, makes, finds, writes, meets, finishes}
+use Rattle.steps.proofs.Turns.{Turn, rests, adds, supers, raises, starts, assists, endsLeft, endsRight, counts, makes, finds, writes, meets, finishes}
 use Rattle.steps.proofs.Progress.{OwnLeaf, Refreshing, AfterAdvance, Carried}
 use Rattle.steps.proofs.Others.{Registers, hand-below}
 use Rattle.steps.proofs.Costs.{AfterNodes, StageNodes, StepNodes, rest, restOf}
@@ -30,6 +30,7 @@ pub record ProcessSound (s : Shape) (m : Memory) (hold : ℕ → Stage) (k : ℕ
   pub leaf : OwnLeaf s m k (p .begun) (stageOf (p .status))
   pub carried : Carried s m hold k (p .begun) (stageOf (p .status))
   pub bounded : p .steps + restOf s (p .status) ≤ rest s A
+  pub helped : p .helps ≤ p .steps
 
 -- the stages of the processes
 abbrev pub holding : Machine → ℕ → Stage
@@ -88,7 +89,7 @@ module _ (s : Shape) (m : Memory) (hold : ℕ → Stage) (k : ℕ) (kp : k < pro
   turn-sized (supers w a v h z) p sz = write-sized s m v h _ sz (p .node)
   turn-sized (raises w a v h) p sz = raise-sized m v h s sz
   turn-sized (starts v q) p sz = sz
-  turn-sized (helps w d c f) p sz = sz
+  turn-sized (assists w d c f) p sz = sz
   turn-sized (endsLeft w l f) p sz = sz
   turn-sized (endsRight w l r f) p sz = sz
   turn-sized (counts w l r x y f) p sz = sz

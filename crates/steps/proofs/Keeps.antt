@@ -6,6 +6,7 @@ use mathlib.Core.Path.{_≡_, ap, sym, _∙_, subst}
 use mathlib.Core.Logic.{_≢_}
 use lib.ListN.{length, length-set, length-replicate, getD-replicate}
 use lib.Seq.{getD-set-same, getD-set-other}
+use Rattle.base.proofs.Cases.{both}
 use Rattle.tree.specs.Shape.{Shape, processes, leafOf}
 use Rattle.tree.specs.Memory.{Memory}
 use Rattle.tree.specs.Contracts.Invariant.{Sized}
@@ -19,7 +20,8 @@ use Rattle.steps.specs.declared.Status.the-variants.{Idle, Busy}
 use Rattle.steps.specs.declared.Process.{Process}
 use Rattle.steps.specs.Process.{idle}
 use Rattle.steps.specs.Rules.{Stepped, step}
-use Rattle.steps.specs.Machine.{Machine, start, processOf, withProcess, begin, stepFrom, stepOf}
+use Rattle.steps.specs.Machine.{Machine, start, processOf, withProcess, begin, stepped, stepFrom, stepOf}
+use Rattle.steps.specs.Contracts.Operations.{entered}
 use Rattle.steps.proofs.Stages.{Stage, stage, stageOf}
 use Rattle.steps.proofs.Turns.{turn}
 use Rattle.steps.proofs.Progress.{LeafDone, LeafOpen, OwnLeaf, Carried}
@@ -64,6 +66,7 @@ module _ (s : Shape) (m : Machine) (inv : Invariant s m) (k : ℕ) (kp : k < pro
           leaf = own-stable eff j jp (processOf m j .begun) (λ e. absurd (ne e)) (holding m j) (q .leaf);
           carried = carried-stable s (m .memory) n (inv .sound) (holding m) (holding after) k kp o eff' others (registers s m inv) j jp (processOf m j .begun) (holding m j) (q .carried);
           bounded = q .bounded;
+          helped = q .helped;
         }
 
     keeps : Sized s n → ProcessSound s n (holding after) k p → Invariant s after
@@ -90,7 +93,7 @@ module _ (s : Shape) (m : Machine) (inv : Invariant s m) (k : ℕ) (kp : k < pro
     leaf-open d = record { some = omega arith; ends = λ i l. d .ends i (omega arith); head = d .head }
 
     -- the process, and the others
-    pub begun-here : processOf (begin m k o) k ≡ record { status = Busy o A; begun = processOf m k .begun + 1; steps = 0 }
+    pub begun-here : processOf (begin m k o) k ≡ entered (processOf m k) o
     unfolding begin
     begun-here = process-here s m (inv .counted) k kp _ (m .memory)
 
@@ -107,6 +110,7 @@ module _ (s : Shape) (m : Machine) (inv : Invariant s m) (k : ℕ) (kp : k < pro
           leaf = leaf-open (subst (λ (x : Status). OwnLeaf s (m .memory) k (processOf m k .begun) (stageOf x)) rests (inv .process k kp .leaf));
           carried = tt;
           bounded = omega arith;
+          helped = omega arith;
         })
 
 -- ---- a step
@@ -120,7 +124,7 @@ module _ (s : Shape) (tall : 1 ≤ s .height) (m : Machine) (inv : Invariant s m
     p = processOf m k
 
     abbrev next : Process
-    next = record { status = r .next; begun = p .begun; steps = p .steps + 1 }
+    next = stepped p r
 
     at : holding m k ≡ stage n
     at = ap stageOf busy
@@ -151,21 +155,22 @@ module _ (s : Shape) (tall : 1 ≤ s .height) (m : Machine) (inv : Invariant s m
               (others s m inv k kp next (r .memory) o step-effect) (registers s m inv) (p .begun) (inv .process k kp .within) (turn s k o (m .memory) n) at
               (here s m inv k kp next (r .memory) o step-effect) (eff' s m inv k kp next (r .memory) o step-effect) own carried;
           bounded = omega (arith, subst (λ (x : Status). p .steps + restOf s x ≤ rest s A) busy (inv .process k kp .bounded), rest-lower);
+          helped = both (λ (n : ℕ). n ≤ p .steps + 1) (r .helped) (omega (arith, inv .process k kp .helped)) (omega (arith, inv .process k kp .helped));
         }
 
     -- the operation has not taken all the own steps that it may take
     pub steps-left : p .steps < rest s A
     steps-left = omega (arith, own-sound .bounded)
 
-    stepped : Invariant s (stepFrom s m k (Busy o n))
+    from-keeps : Invariant s (stepFrom s m k (Busy o n))
     unfolding stepFrom
-    stepped =
+    from-keeps =
         keeps s m inv k kp next (r .memory) o step-effect
         (turn-sized s (m .memory) (holding m) k kp (p .begun) (turn s k o (m .memory) n) carried (inv .sized)) own-sound
 
     pub step-keeps : Invariant s (stepOf s m k)
     unfolding stepOf
-    step-keeps = subst (λ (x : Status). Invariant s (stepFrom s m k x)) (sym busy) stepped
+    step-keeps = subst (λ (x : Status). Invariant s (stepFrom s m k x)) (sym busy) from-keeps
 
     -- what a step leaves: the memory, the process and the others
     stepped-machine : stepOf s m k ≡ withProcess m k next (r .memory)
@@ -196,6 +201,7 @@ module _ (s : Shape) where
         leaf = record { ends = λ i l. cleared-count s (leafOf s k) i; head = cleared-head s (leafOf s k) };
         carried = tt;
         bounded = omega arith;
+        helped = omega arith;
       }
 
   pub start-invariant : Invariant s (start s)

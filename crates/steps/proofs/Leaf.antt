@@ -19,7 +19,7 @@ use Rattle.steps.specs.declared.After.the-variants.{Right, Ends, Again, 
 use Rattle.steps.specs.declared.Step.{Step}
 use Rattle.steps.specs.Rules.{above, resume}
 use Rattle.steps.proofs.Stages.{stage, aboveStage, Hand, made, Stage, resting, adding, advancing, starting, building, answering, afterStage}
-use Rattle.steps.proofs.Turns.{Turn, rests, adds, supers, raises, starts, helps, endsLeft, endsRight, counts, makes, finds, writes, meets, finishes}
+use Rattle.steps.proofs.Turns.{Turn, rests, adds, supers, raises, starts, assists, endsLeft, endsRight, counts, makes, finds, writes, meets, finishes}
 use Rattle.steps.proofs.Progress.{LeafEnds, LeafDone, LeafOpen, LeafMoving, OwnLeaf, Carried}
 use Rattle.steps.proofs.Others.{LeafWrote, Effect}
 
@@ -147,7 +147,7 @@ module _ (s : Shape) (k : ℕ) (kp : k < processes s) (o : Operation) (m : Memor
   own-turn (supers w a v h z) eff d p = own-stable eff k kp b (λ e. not-adding) (advancing w a v h) d
   own-turn (raises w a v h) eff d p = own-after a w (raised w a v h eff (p .present) (p .node) d)
   own-turn (starts v q) eff d p = d
-  own-turn (helps w z c f) eff d p = moving d
+  own-turn (assists w z c f) eff d p = moving d
   own-turn (endsLeft w l f) eff d p = d
   own-turn (endsRight w l r f) eff d p = d
   own-turn (counts w l r x y f) eff d p = d

@@ -18,7 +18,7 @@ use Rattle.steps.specs.declared.After.the-variants.{Right, Ends, Up}
 use Rattle.steps.specs.declared.Built.{Built}
 use Rattle.steps.specs.declared.Step.{Step}
 use Rattle.steps.specs.declared.Step.the-variants.{A, V1, V2, V3, R1, R2, R3, R4, R5, C1, C2, C3L, C3R, C3N, C4, Q}
-use Rattle.steps.specs.Rules.{resume, afterRefresh, help, plusOperation, sameTotals, built, blockOf, go, step}
+use Rattle.steps.specs.Rules.{resume, afterRefresh, help, plusOperation, sameTotals, built, blockOf, goTelling, go, step}
 use Rattle.steps.proofs.Stages.{Tally, uncounted, countedLeft, countedBoth, none, one, two, made}
 use Rattle.steps.proofs.Stages.{Stage, resting, adding, advancing, starting, building, answering, stage, stageOf, aboveStage, afterStage, stage-advance}
 use Rattle.steps.proofs.Progress.{Tallied}
@@ -43,7 +43,7 @@ pub data Turn (s : Shape) (k : ℕ) (o : Operation) (m : Memory) : Stage → Mem
   -- R1
   starts : (v : ℕ) (q : Refresh) → Turn s k o m (starting v q) m (building (record { node = v; refresh = q; head = headOf m v }) none)
   -- R3 and R5 that find a block
-  helps : (w : Visit) (d : Side) (c : ℕ) → absent (block s m (childOf d (w .node)) c) ≡ false
+  assists : (w : Visit) (d : Side) (c : ℕ) → absent (block s m (childOf d (w .node)) c) ≡ false
       → Turn s k o m (building w none) m (advancing w (afterHelp d) (childOf d (w .node)) c)
   -- C1, C2: the end is the place before the child's head
   endsLeft : (w : Visit) (l : ℕ) → l ≡ headOf m (leftOf (w .node)) - 1 → Turn s k o m (building w none) m (building w (one l))
@@ -71,7 +71,7 @@ module _ (s : Shape) (k : ℕ) (o : Operation) (m : Memory) where
   help-turn w d c e =
       cases (λ (n : Step). Turn s k o m (building w none) m (stage n)) (absent (block s m (childOf d (w .node)) c))
       (λ f. rw e (rests (building w none)))
-      (λ f. rw (stage-advance w (afterHelp d) (childOf d (w .node)) c) (helps w d c f))
+      (λ f. rw (stage-advance w (afterHelp d) (childOf d (w .node)) c) (assists w d c f))
 
   write-turn : (w : Visit) (n : Built) (b : Bool) → absent (block s m (w .node) (w .head)) ≡ b
       → Turn s k o m (building w (made n)) (writeIfAbsent s m (w .node) (w .head) (blockOf n)) (advancing w (afterRefresh (w .refresh) b) (w .node) (w .head))
@@ -80,7 +80,7 @@ module _ (s : Shape) (k : ℕ) (o : Operation) (m : Memory) where
   write-turn w n false e = rw e (meets w n e)
 
   pub turn : (n : Step) → Turn s k o m (stage n) (step s k o m n .memory) (stageOf (step s k o m n .next))
-  unfolding step go resume
+  unfolding step goTelling go resume
   turn A = rw (stage-advance _ Up (leafOf s k) (headOf m (leafOf s k))) adds
   turn (V1 a w v h) = rests (advancing w a v h)
   turn (V2 a w v h x) = supers w a v h x

@@ -3,6 +3,7 @@ use Prim.Native.Nat.{ℕ, _+_, _*_}
 use mathlib.Core.Bool.{Bool, true, false}
 use mathlib.Core.List.{List}
 use lib.ListN.{getD, set, replicate}
+use Rattle.base.specs.Choice.{if_then_else_}
 use Rattle.tree.specs.Shape.{Shape, processes}
 use Rattle.tree.specs.Layout.{wordsNeeded}
 use Rattle.steps.specs.declared.Operation.{Operation}
@@ -13,7 +14,7 @@ use Rattle.steps.specs.declared.Status.the-variants.{Idle, Busy}
 use Rattle.steps.specs.declared.Process.{Process}
 use Rattle.steps.specs.Process.{idle}
 use Rattle.tree.specs.Memory.{Memory, memoryOf}
-use Rattle.steps.specs.Rules.{step}
+use Rattle.steps.specs.Rules.{Stepped, step}
 
 pub record Machine : Type 0 where
   pub memory : Memory
@@ -64,15 +65,26 @@ atQ (Busy o n) = isQ n
 -- a begin: process k opens operation o, and comes to A
 unfoldable pub begin : Machine → ℕ → Operation → Machine
 begin m k o =
-    withProcess m k (record { status = Busy o A; begun = processOf m k .begun + 1; steps = 0 }) (m .memory)
+    withProcess m k (record { status = Busy o A; begun = processOf m k .begun + 1; steps = 0; helps = 0 }) (m .memory)
+
+-- process p after a step: one own step more, and one help more if it was one
+abbrev pub stepped : Process → Stepped → Process
+stepped p r =
+    record { status = r .next; begun = p .begun; steps = p .steps + 1; helps = if r .helped then p .helps + 1 else p .helps }
 
 -- one step of process k, whose status is given; an idle process has none
 unfoldable pub stepFrom : Shape → Machine → ℕ → Status → Machine
 stepFrom s m k Idle = m
 stepFrom s m k (Busy o n) =
-    let r = step s k o (m .memory) n in
-    let p = processOf m k in
-    withProcess m k (record { status = r .next; begun = p .begun; steps = p .steps + 1 }) (r .memory)
+    let r = step s k o (m .memory) n in withProcess m k (stepped (processOf m k) r) (r .memory)
 
 unfoldable pub stepOf : Shape → Machine → ℕ → Machine
 stepOf s m k = stepFrom s m k (processOf m k .status)
+
+-- what that step tells: whether it is a help
+unfoldable pub helpFrom : Shape → Machine → ℕ → Status → Bool
+helpFrom s m k Idle = false
+helpFrom s m k (Busy o n) = step s k o (m .memory) n .helped
+
+unfoldable pub helpBy : Shape → Machine → ℕ → Bool
+helpBy s m k = helpFrom s m k (processOf m k .status)

@@ -7,7 +7,7 @@ use Rattle.steps.specs.declared.Status.the-variants.{Idle}
 
 -- idle, with no operations begun
 unfoldable pub idle : Process
-idle = record { status = Idle; begun = 0; steps = 0 }
+idle = record { status = Idle; begun = 0; steps = 0; helps = 0 }
 
 -- p is 2, 4 or 8
 unfoldable pub processesAllowed : ℕ → Bool

@@ -1,6 +1,6 @@
 -- The step rules: what each named step does to the shared memory, and which step comes next.
 use Prim.Native.Nat.{ℕ, _+_, _-_}
-use mathlib.Core.Bool.{Bool, _&&_}
+use mathlib.Core.Bool.{Bool, false, _&&_}
 use lib.Dec.{eqb}
 use Rattle.base.specs.Choice.{if_then_else_}
 use Rattle.tree.specs.declared.Block.{Block}
@@ -18,7 +18,7 @@ use Rattle.steps.specs.declared.Step.{Step}
 use Rattle.steps.specs.declared.Step.the-variants.{A, V1, V2, V3, R1, R2, R3, R4, R5, C1, C2, C3L, C3R, C3N, C4, Q}
 use Rattle.steps.specs.declared.Status.{Status}
 use Rattle.steps.specs.declared.Status.the-variants.{Idle, Busy}
-use Rattle.tree.specs.Memory.{Memory, headOf, block, write, writeIfAbsent, setSuper, raise}
+use Rattle.tree.specs.Memory.{Memory, headOf, block, write, writeIfAbsent, setSuper, headIs, raise}
 use Rattle.tree.specs.Size.{rootSize}
 
 -- ---- the order of the steps
@@ -47,6 +47,14 @@ afterFailed Second = Up
 unfoldable pub afterRefresh : Refresh → Bool → After
 afterRefresh x success = if success then Up else afterFailed x
 
+-- V3 tells whether it moved the head, and who began the advance passes it on: of a child, which is R3's and R5's, it is
+-- a help if it moved; of the own leaf, which is A's, and of the refreshed node, which is C4's, it is none
+unfoldable pub helpOf : After → Bool → Bool
+helpOf Right moved = moved
+helpOf Ends moved = moved
+helpOf Again moved = false
+helpOf Up moved = false
+
 -- R3 and R5: the child's block at c is looked at; if present, advance (child, c)
 unfoldable pub help : Shape → Memory → Visit → After → ℕ → ℕ → Step
 help s m w a child c = if absent (block s m child c) then resume a w else advance w a child c
@@ -74,25 +82,31 @@ blockOf n =
 
 -- ---- the rules
 
--- what a step leaves: the memory, and where the process then is
+-- what a step leaves: the memory, and where the process then is; and what it tells, whether it was a help: a move of a
+-- child's head inside a refresh
 pub record Stepped : Type 0 where
   pub memory : Memory
   pub next : Status
+  pub helped : Bool
 
 -- a step of process k, inside operation o, on memory m: a line a named step
 module _ (s : Shape) (k : ℕ) (o : Operation) (m : Memory) where
+  unfoldable pub goTelling : Memory → Step → Bool → Stepped
+  goTelling after n helped = record { memory = after; next = Busy o n; helped = helped }
+
   unfoldable pub go : Memory → Step → Stepped
-  go after n = record { memory = after; next = Busy o n }
+  unfolding goTelling
+  go after n = goTelling after n false
 
   unfoldable pub step : Step → Stepped
-  unfolding go
+  unfolding goTelling go
   step A =
       let v = leafOf s k in
       let h = headOf m v in
       go (write s m v h (plusOperation o (block s m v (h - 1)))) (advance (record { node = v; refresh = First; head = h }) Up v h)
   step (V1 a w v h) = go m (V2 a w v h (headOf m (parentOf v)))
   step (V2 a w v h x) = go (setSuper s m v h x) (V3 a w v h)
-  step (V3 a w v h) = go (raise m v h) (resume a w)
+  step (V3 a w v h) = goTelling (raise m v h) (resume a w) (helpOf a (headIs m v h))
   step (R1 x v) = go m (R2 (record { node = v; refresh = x; head = headOf m v }))
   step (R2 w) = go m (R3 w (headOf m (leftOf (w .node))))
   step (R3 w c) = go m (help s m w Right (leftOf (w .node)) c)
@@ -111,4 +125,4 @@ module _ (s : Shape) (k : ℕ) (o : Operation) (m : Memory) where
       let v = w .node in
       let h = w .head in
       go (writeIfAbsent s m v h (blockOf n)) (advance w (afterRefresh (w .refresh) (absent (block s m v h))) v h)
-  step Q = record { memory = m; next = Idle }
+  step Q = record { memory = m; next = Idle; helped = false }

@@ -127,12 +127,13 @@ pub enum Status {
     Busy(Operation, Step),
 }
 
-// A process, the operations that it has begun, and the own steps of the one that it is inside of. With `begun` of eight
-// bytes it takes 64, so that its place among the processes is found by a shift.
+// A process, the operations that it has begun, and the own steps and the helps of the one that it is inside of. With
+// `begun` of eight bytes it takes 64, so that its place among the processes is found by a shift.
 pub struct Process {
     pub status: Status,
     pub begun: u64,
     pub steps: u32,
+    pub helps: u32,
 }
 
 impl Process {
@@ -149,6 +150,7 @@ impl Process {
             status: Status::Idle,
             begun: 0,
             steps: 0,
+            helps: 0,
         }
     }
 
@@ -179,6 +181,7 @@ impl Process {
             status: Status::Busy(o, Step::A),
             begun: self.begun + 1,
             steps: 0,
+            helps: 0,
         }
     }
 
@@ -191,6 +194,7 @@ impl Process {
             status: Status::Idle,
             begun: self.begun,
             steps: self.steps + 1,
+            helps: self.helps,
         }
     }
 

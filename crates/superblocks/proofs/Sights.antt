@@ -25,7 +25,7 @@ use Rattle.steps.specs.declared.After.the-variants.{Right, Ends, Again, Up}
 use Rattle.steps.specs.declared.Step.{Step}
 use Rattle.steps.specs.declared.Step.the-variants.{A, V1, V2, V3, R1, R2, R3, R4, R5, C1, C2, C3L, C3R, C3N, C4, Q}
 use Rattle.steps.specs.declared.Status.the-variants.{Busy}
-use Rattle.steps.specs.Rules.{above, resume, advance, afterFailed, afterRefresh, help, sameTotals, built, go, step}
+use Rattle.steps.specs.Rules.{above, resume, advance, afterFailed, afterRefresh, help, sameTotals, built, goTelling, go, step}
 use Rattle.steps.proofs.Stages.{Stage, stage}
 use Rattle.steps.proofs.Progress.{Carried}
 use Rattle.superblocks.proofs.Marks.{looking, advances, helpSight, Covers, covers-rises, Seen}
@@ -98,7 +98,7 @@ module _ (s : Shape) (m : Memory) (sound : Sound s m) (o : Operation) (u i z : �
     -- every step
     pub seen-turn : (n : Step) (d : Side) → Present s m (childOf d u) i → i ≤ headOf m (childOf d u) → Carried s m hold k b (stage n) → Seen m d u i z (Busy o n)
         → Seen (step s k o m n .memory) d u i z (step s k o m n .next)
-    unfolding step go resume setSuper write headOf built
+    unfolding step goTelling go resume setSuper write headOf built
     seen-turn A d here low carried q = seen-advance d _ _ Up (leafOf s k) (headOf m (leafOf s k)) (λ e l. tt)
     seen-turn (V1 a w v h) d here low carried q = q
     seen-turn (V2 a w v h x) d here low carried q = λ e l. covers-rises m (setSuper s m v h x) d u i (le-refl _) (helpSight a d v h) (q e l)

@@ -26,7 +26,7 @@ use Rattle.steps.specs.declared.Step.{Step}
 use Rattle.steps.specs.declared.Step.the-variants.{A, V1, V2, V3, R1, R2, R3, R4, R5, C1, C2, C3L, C3R, C3N, C4, Q}
 use Rattle.steps.specs.declared.Status.{Status}
 use Rattle.steps.specs.declared.Status.the-variants.{Busy}
-use Rattle.steps.specs.Rules.{above, resume, advance, afterRefresh, help, plusOperation, sameTotals, blockOf, go, step}
+use Rattle.steps.specs.Rules.{above, resume, advance, afterRefresh, help, plusOperation, sameTotals, blockOf, goTelling, go, step}
 use Rattle.steps.proofs.Stages.{Stage, stage}
 use Rattle.steps.proofs.Progress.{OwnLeaf, Carried}
 use Rattle.steps.proofs.Invariant.{step-nodes}
@@ -159,7 +159,7 @@ plus-super Take b = refl
 module _ (s : Shape) (m : Memory) (sized : Sized s m) (sound : Sound s m) (hold : ℕ → Stage) (k : ℕ) (kp : k < processes s) (o : Operation) (b : ℕ) where
   pub traces : (n : Step) → OwnLeaf s m k b (stage n) → Carried s m hold k b (stage n) → ((v i z : ℕ) → Asks v i z (Busy o n) → 1 < v → super s m v i ≡ 0 → 1 ≤ z)
       → ((v i : ℕ) → 1 < v → Raises v i (Busy o n) → 1 ≤ super s m v i) → Traces s m (Busy o n) (step s k o m n .memory) (step s k o m n .next)
-  unfolding step go write writeIfAbsent setSuper raise headOf blockOf
+  unfolding step goTelling go write writeIfAbsent setSuper raise headOf blockOf
   traces A own carried some set =
       let h = headOf m (leafOf s k) in
       let none = own .ends h (omega (arith, own .some, own .head)) in

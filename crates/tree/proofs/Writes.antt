@@ -7,7 +7,6 @@ use mathlib.Core.Logic.{_≢_}
 use mathlib.Core.List.{List}
 use lib.ListN.{length, getD, take, drop, length-take, length-drop, length-set, List·getD-eq-default}
 use lib.Seq.{getD-set-same}
-use lib.Dec.{eqb}
 use borrow.Author.Tests.{eqb-true, eq-eqb}
 use Rattle.base.proofs.Cases.{cases, both}
 use Rattle.base.proofs.Stores.{set-cases}
@@ -15,7 +14,7 @@ use Rattle.tree.specs.declared.Block.{Block}
 use Rattle.tree.specs.Shape.{Shape, processes, lastPlace}
 use Rattle.tree.specs.Layout.{partStart, partWords, partOf}
 use Rattle.tree.specs.Blocks.{wordIn, blockIn, withBlock, blockAt, withBlockAt}
-use Rattle.tree.specs.Memory.{Memory, headOf, block, write, raise}
+use Rattle.tree.specs.Memory.{Memory, headOf, block, write, headIs, raise}
 use Rattle.tree.proofs.Parts.{part-same, part-other, part-length}
 use Rattle.tree.proofs.BlockWrites.{block-same, block-other, block-length}
 use Rattle.tree.proofs.Sizes.{words-of, part-within}
@@ -89,14 +88,14 @@ module _ (m : Memory) (v h : ℕ) where
   -- to show something of a head after v's was to be raised from h, show it of h + 1, if it is v's and was h, and of
   -- what it was
   pub raise-cases : (P : ℕ → Type 0) (u : ℕ) → (u ≡ v → headOf m u ≡ h → P (h + 1)) → P (headOf m u) → P (headOf (raise m v h) u)
-  unfolding headOf raise
+  unfolding headOf headIs raise
   raise-cases P u here there =
-      cases (λ (l : List ℕ). P (getD l u 1)) (eqb (headOf m v) h)
+      cases (λ (l : List ℕ). P (getD l u 1)) (headIs m v h)
       (λ e. set-cases P (m .heads) v u (h + 1) 1 (λ f. here f (rw f (eqb-true (headOf m v) h e))) there)
       (λ e. there)
 
   pub raise-here : v < length (m .heads) → headOf m v ≡ h → headOf (raise m v h) v ≡ h + 1
-  unfolding headOf raise
+  unfolding headOf headIs raise
   raise-here l e = rw (eq-eqb (headOf m v) h e) (getD-set-same (m .heads) v (h + 1) 1 l)
 
   -- after it the head is past h, if it was not below
@@ -112,5 +111,5 @@ module _ (m : Memory) (v h : ℕ) where
   raise-sized s sz =
       record {
         words = sz .words;
-        heads = both (λ (l : List ℕ). length l ≡ 2 * processes s) (eqb (headOf m v) h) (length-set (m .heads) v (h + 1) ∙ sz .heads) (sz .heads);
+        heads = both (λ (l : List ℕ). length l ≡ 2 * processes s) (headIs m v h) (length-set (m .heads) v (h + 1) ∙ sz .heads) (sz .heads);
       }

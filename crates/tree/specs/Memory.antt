@@ -1,5 +1,6 @@
 -- What the processes share, and the ways in which a step changes it.
 use Prim.Native.Nat.{ℕ, _+_}
+use mathlib.Core.Bool.{Bool}
 use mathlib.Core.List.{List}
 use lib.ListN.{getD, set}
 use lib.Dec.{eqb}
@@ -48,6 +49,10 @@ withSuper b x =
 unfoldable pub setSuper : Shape → Memory → ℕ → ℕ → ℕ → Memory
 setSuper s m v i x = write s m v i (withSuper (block s m v i) x)
 
+-- whether v's head is h, so that raising it from h moves it
+unfoldable pub headIs : Memory → ℕ → ℕ → Bool
+headIs m v h = eqb (headOf m v) h
+
 -- v's head raised from h to h + 1, if it is h
 unfoldable pub raise : Memory → ℕ → ℕ → Memory
-raise m v h = record { table = m .table; heads = if eqb (headOf m v) h then set (m .heads) v (h + 1) else m .heads }
+raise m v h = record { table = m .table; heads = if headIs m v h then set (m .heads) v (h + 1) else m .heads }

@@ -46,7 +46,9 @@ struct Process {
     kind: u32,
     value: u32,
     begun: u32,
-    steps: u32,
+    /// As two words they would not fit in the line.
+    steps: u16,
+    helps: u16,
 }
 
 #[derive(Clone, Copy)]
@@ -199,7 +201,8 @@ impl Memory {
             }
         }
         let words = answer.cast::<u32>();
-        words.write_unaligned((k | kind << 8 | q.steps << 16).to_le());
+        let counts = u32::from(q.steps) | u32::from(q.helps) << 8;
+        words.write_unaligned((k | kind << 8 | counts << 16).to_le());
         words.add(1).write_unaligned(value.to_le());
         words.add(2).write_unaligned(serial.to_le());
         words.add(3).write_unaligned(b.to_le());
@@ -266,6 +269,8 @@ impl Process {
                 let head = memory.head(self.below);
                 if *head == self.place {
                     *head += 1;
+                    // A child of the refreshed node; else it is the own leaf or that node.
+                    self.helps += (self.below != self.node) as u16;
                 }
                 // Q stands for the way up.
                 match self.after {
@@ -413,6 +418,7 @@ unsafe fn play(
             }
             q.begun += 1;
             q.steps = 0;
+            q.helps = 0;
             q.kind = u32::from(kind);
             q.value = value;
             q.next = A;

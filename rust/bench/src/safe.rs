@@ -79,7 +79,9 @@ enum Activity {
 struct Process {
     activity: Activity,
     begun: u32,
-    steps: u16,
+    steps: u8,
+    /// Heads of children that the operation moved inside refreshes.
+    helps: u8,
 }
 
 /// The blocks of all nodes and their heads.
@@ -123,9 +125,10 @@ impl Memory<'_> {
         index < self.first[node as usize + 1] && present(&self.blocks[index])
     }
 
-    /// Any step but Q; `step` becomes the one that follows it.
+    /// Any step but Q; `step` becomes the one that follows it. Whether it moved a child's head
+    /// inside a refresh.
     #[inline]
-    fn step(&mut self, leaf: u32, operation: Operation, step: &mut Step) {
+    fn step(&mut self, leaf: u32, operation: Operation, step: &mut Step) -> bool {
         match *step {
             Step::A => *step = self.append(leaf, operation),
             Step::V1(refresh, advance) => {
@@ -140,10 +143,12 @@ impl Memory<'_> {
             }
             Step::V3(refresh, advance) => {
                 let head = &mut self.heads[advance.node as usize];
-                if *head == advance.place {
+                let moves = *head == advance.place;
+                if moves {
                     *head += 1;
                 }
                 *step = resume(refresh, advance.after);
+                return moves && matches!(advance.after, After::Right | After::Ends);
             }
             Step::R1 { node, tries } => {
                 let head = self.head(node);
@@ -189,6 +194,7 @@ impl Memory<'_> {
             }
             Step::Q => unreachable!("Q is answered, not stepped"),
         }
+        false
     }
 
     #[inline]
@@ -285,15 +291,9 @@ impl Memory<'_> {
         self.block(node, place)[LEFT]
     }
 
-    fn answer(
-        &self,
-        process: u8,
-        leaf: u32,
-        operation: Operation,
-        serial: u32,
-        steps: u16,
-    ) -> [u8; 16] {
-        let (b, rank) = self.root_block(leaf, serial);
+    fn answer(&self, k: u8, process: &Process, operation: Operation) -> [u8; 16] {
+        let serial = process.begun;
+        let (b, rank) = self.root_block(self.p + u32::from(k), serial);
         let (kind, value) = match operation {
             Operation::Put(_) => (1, 0),
             Operation::Take => {
@@ -307,9 +307,10 @@ impl Memory<'_> {
             }
         };
         let mut bytes = [0; 16];
-        bytes[0] = process;
+        bytes[0] = k;
         bytes[1] = kind;
-        bytes[2..4].copy_from_slice(&steps.to_le_bytes());
+        bytes[2] = process.steps;
+        bytes[3] = process.helps;
         bytes[4..8].copy_from_slice(&value.to_le_bytes());
         bytes[8..12].copy_from_slice(&serial.to_le_bytes());
         bytes[12..16].copy_from_slice(&b.to_le_bytes());
@@ -402,6 +403,7 @@ pub fn run(p: u32, l: u32, records: &[u8], table: &mut [u32], answers: &mut [u8]
         activity: Activity::Idle,
         begun: 0,
         steps: 0,
+        helps: 0,
     }; 8];
     let mut room = answers.as_chunks_mut().0.iter_mut();
     let mut ran = Ran::default();
@@ -428,6 +430,7 @@ pub fn run(p: u32, l: u32, records: &[u8], table: &mut [u32], answers: &mut [u8]
             (Act::Begin(operation), Activity::Idle) => {
                 process.begun += 1;
                 process.steps = 0;
+                process.helps = 0;
                 process.activity = Activity::Busy {
                     operation,
                     step: Step::A,
@@ -444,14 +447,16 @@ pub fn run(p: u32, l: u32, records: &[u8], table: &mut [u32], answers: &mut [u8]
                     ran.refusal = 9;
                     break;
                 };
-                let (serial, steps) = (process.begun, process.steps + 1);
-                *answer = memory.answer(k as u8, leaf, *operation, serial, steps);
+                let operation = *operation;
+                process.steps += 1;
+                *answer = memory.answer(k as u8, process, operation);
                 process.activity = Activity::Idle;
                 ran.answers += 1;
             }
             (Act::Step, Activity::Busy { operation, step }) => {
-                memory.step(leaf, *operation, step);
+                let helped = memory.step(leaf, *operation, step);
                 process.steps += 1;
+                process.helps += u8::from(helped);
             }
         }
         ran.taken += 1;

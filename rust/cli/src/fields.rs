@@ -59,7 +59,8 @@ pub const ANSWER: Sort = Sort {
     fields: &[
         PROCESS,
         kind(&[(1, "put done"), (2, "value"), (3, "none")]),
-        plain("own steps", 2, 2, "of the operation, from A to Q"),
+        plain("own steps", 2, 1, "of the operation, from A to Q"),
+        plain("helps", 3, 1, "heads moved for other processes' blocks"),
         plain("value", 4, 4, "that a take got; else 0"),
         plain(
             "serial",
@@ -181,11 +182,12 @@ mod tests {
         let answer = <[u8; 16]>::from(Answer {
             process: 3,
             outcome: Outcome::Value(9),
-            steps: 0x0102,
+            steps: 121,
+            helps: 5,
             serial: 300,
             root_block: 4000,
         });
-        assert_eq!(numbers(&ANSWER, &answer), [3, 2, 0x0102, 9, 300, 4000]);
+        assert_eq!(numbers(&ANSWER, &answer), [3, 2, 121, 5, 9, 300, 4000]);
         let order = <[u8; 8]>::from(Order {
             process: 3,
             kind: Kind::Take,

@@ -8,8 +8,8 @@ pub fn step(record: Record) -> String {
     Line { record, count: 1 }.to_string()
 }
 
-/// An answer record as the printing program has it: put or take, process, serial, own steps, root
-/// block, and for a take the value or `none`. Bytes that are no answer are shown as they are.
+/// An answer record as the printing program has it: put or take, process, serial, own steps, helps,
+/// root block, and for a take the value or `none`. Bytes that are no answer are shown as they are.
 pub fn answer(record: [u8; Answer::BYTES]) -> String {
     let Ok(answer) = Answer::try_from(record) else {
         return bytes(&record);
@@ -18,11 +18,12 @@ pub fn answer(record: [u8; Answer::BYTES]) -> String {
         process,
         serial,
         steps,
+        helps,
         root_block,
         outcome,
     } = answer;
     let line = format!(
-        "{} {process} {serial} {steps} {root_block}",
+        "{} {process} {serial} {steps} {helps} {root_block}",
         kind(outcome.kind())
     );
     match outcome {

@@ -1,6 +1,8 @@
 //! `otq check`.
 
-use crate::support::{content, file, otq, with_numbers, written, LOG, STEPS, TEXT, TORN, WRONG};
+use crate::support::{
+    content, file, otq, with_numbers, written, LOG, NO_HELPS, STEPS, TEXT, TORN, WRONG,
+};
 
 /// What `check` says of a log, with the example's steps.
 fn checked(name: &str, log: &[u8], more: &[&str]) -> crate::support::Said {
@@ -22,51 +24,87 @@ fn the_same_log() {
     assert_eq!(written(&["check", &empty, &empty]), "same, 0 answers\n");
 }
 
-const DIFFERENCE: &str = "\
+/// What is told of a difference at answer 4: its rows of helps and value, and the first byte.
+fn difference(helps: &str, value: &str, byte: &str) -> String {
+    format!(
+        "\
 differs at answer 4, byte 48 of the log
               by the rules   in the log
   process     0              0
   kind        2 value        2 value
   own steps   20             20
-  value       30             40             <
+  helps       {helps}
+  value       {value}
   serial      2              2
   root block  2              2
-  the first byte that differs is byte 52 of the log: 1e by the rules, 28 in the log
-";
+  the first byte that differs is byte {byte} in the log
+  the operation ended with record 92, byte 728: step 0 (00 00 00 00 00 00 00 00)"
+    )
+}
 
-#[test]
-fn a_wrong_answer() {
-    let ended = "  the operation ended with record 92, byte 728: step 0 (00 00 00 00 00 00 00 00)";
+/// This is told of the log, and no other difference.
+fn assert_differs(log: &str, told: &str) {
     let lengths = "the log has 6 answers, the rules give 6 answers";
-    let said = otq(&with_numbers("check", &[STEPS, WRONG]));
-    let expected = format!("{DIFFERENCE}{ended}\n{lengths}; --all tells every difference\n");
+    let said = otq(&with_numbers("check", &[STEPS, log]));
+    let expected = format!("{told}\n{lengths}; --all tells every difference\n");
     assert_eq!(
         (said.status, said.out, said.err.as_str()),
         (1, expected, "")
     );
-    let said = otq(&["check", TEXT, WRONG, "--all"]);
-    let expected = format!("{DIFFERENCE}{ended}, {TEXT}:16\n1 difference; {lengths}\n");
+    let said = otq(&["check", TEXT, log, "--all"]);
+    let expected = format!("{told}, {TEXT}:16\n1 difference; {lengths}\n");
     assert_eq!((said.status, said.out), (1, expected));
 }
 
 #[test]
-fn json_of_a_wrong_answer() {
-    let said = otq(&["check", TEXT, WRONG, "--json"]);
-    let rest = r#""own_steps": 20, "value": VALUE, "serial": 2, "root_block": 2}"#;
-    let side = |value| {
+fn a_wrong_answer() {
+    let value = "30             40             <";
+    let byte = "52 of the log: 1e by the rules, 28";
+    assert_differs(WRONG, &difference("1              1", value, byte));
+}
+
+/// A log that differs in byte 3 of an answer alone.
+#[test]
+fn a_wrong_help() {
+    let helps = "1              0              <";
+    let byte = "51 of the log: 01 by the rules, 00";
+    assert_differs(NO_HELPS, &difference(helps, "30             30", byte));
+}
+
+#[test]
+fn json_of_wrong_answers() {
+    let side = |helps: u8, value: u8| {
         format!(
-            r#"{{"process": 0, "kind": "value", {}"#,
-            rest.replace("VALUE", value)
+            r#"{{"process": 0, "kind": "value", "own_steps": 20, "helps": {helps}, "value": {value}, "serial": 2, "root_block": 2}}"#
         )
     };
-    let expected = format!(
-        r#"{{"verdict": "differs", "refusal": null, "answers_in_log": 6, "differences": [{{"index": 3, "byte": 52, "record": 92, "line": 16, "by_rules": {}, "in_log": {}}}], "count": null}}"#,
-        side("30"),
-        side("40")
-    );
-    assert_eq!((said.status, said.out), (1, format!("{expected}\n")));
-    let all = otq(&["check", TEXT, WRONG, "--json", "--all"]);
-    assert_eq!(all.out, format!("{expected}\n").replace("null}\n", "1}\n"));
+    for (log, byte, in_log) in [(WRONG, 52, side(1, 40)), (NO_HELPS, 51, side(0, 30))] {
+        let said = otq(&["check", TEXT, log, "--json"]);
+        let by_rules = side(1, 30);
+        let expected = format!(
+            r#"{{"verdict": "differs", "refusal": null, "answers_in_log": 6, "differences": [{{"index": 3, "byte": {byte}, "record": 92, "line": 16, "by_rules": {by_rules}, "in_log": {in_log}}}], "count": null}}"#
+        );
+        assert_eq!((said.status, said.out), (1, format!("{expected}\n")));
+        let all = otq(&["check", TEXT, log, "--json", "--all"]);
+        assert_eq!(all.out, format!("{expected}\n").replace("null}\n", "1}\n"));
+    }
+}
+
+/// Each byte of each answer counts, that of the steps and that of the helps too.
+#[test]
+fn every_byte_counts() {
+    let log = content(LOG);
+    for byte in 0..log.len() {
+        let mut wrong = log.clone();
+        wrong[byte] ^= 1;
+        let said = checked("one-byte-wrong.log", &wrong, &["--all"]);
+        let first = format!("\n  the first byte that differs is byte {byte} of the log: ");
+        assert_eq!(said.status, 1, "{byte}");
+        assert!(
+            said.out.contains(&first) && said.out.matches('<').count() == 1,
+            "{said:?}"
+        );
+    }
 }
 
 /// The record that ended each operation, found for every answer of the log.

@@ -38,11 +38,14 @@ fn records() {
         "step record, 8 bytes",
         "answer record, 16 bytes",
         "order record, 8 bytes",
-        "  2 to 3      own steps   of the operation, from A to Q",
+        "  2           own steps   of the operation, from A to Q",
+        "  3           helps       heads moved for other processes' blocks",
         "  1           kind        1 put done, 2 value, 3 none",
     ] {
         assert!(records.contains(&format!("{line}\n")), "{line}");
     }
+    let help = "\nA help is the move of a head for another process's block: ";
+    assert!(records.contains(help), "{records}");
 }
 
 #[test]

@@ -66,7 +66,7 @@ fn a_huge_list_of_steps() {
     let said = otq_limited(&with_numbers("run", &[&huge]));
     assert_eq!(
         (said.status, said.out.as_str()),
-        (3, "put 0 1 17 1\nend 7 18\n")
+        (3, "put 0 1 17 0 1\nend 7 18\n")
     );
 }
 
@@ -126,7 +126,7 @@ fn huge_texts() {
         let said = otq_limited(&["run", list]);
         assert_eq!(
             (said.status, said.out.as_str()),
-            (3, "put 0 1 31 1\nend 7 32\n"),
+            (3, "put 0 1 31 0 1\nend 7 32\n"),
             "{list}"
         );
         assert!(said.err.contains(&format!(", {list}:{line}\n")), "{said:?}");

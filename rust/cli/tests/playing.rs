@@ -5,8 +5,8 @@ use crate::support::{
 };
 use std::fs;
 
-const PRINT: &str = "put 0 1 17 1\nput 1 1 32 2\ntake 1 2 17 3 40\ntake 0 2 20 2 30\n\
-                     take 1 3 15 4 none\nput 0 3 17 5\nend 0 124\n";
+const PRINT: &str = "put 0 1 17 0 1\nput 1 1 32 0 2\ntake 1 2 17 0 3 40\ntake 0 2 20 1 2 30\n\
+                     take 1 3 15 0 4 none\nput 0 3 17 0 5\nend 0 124\n";
 
 #[test]
 fn text_and_records_play_alike() {
@@ -45,7 +45,7 @@ fn a_torn_list() {
     let whole = otq(&with_numbers("run", &[TORN, "--whole"]));
     assert_eq!(
         (whole.status, whole.out.as_str()),
-        (0, "put 0 1 17 1\nput 1 1 32 2\nend 0 61\n")
+        (0, "put 0 1 17 0 1\nput 1 1 32 0 2\nend 0 61\n")
     );
     let message = format!("otq: {TORN}: left out the last 3 bytes, from byte 488 on\n");
     assert_eq!(whole.err, message);
@@ -93,7 +93,7 @@ const REFUSED: [[&str; 4]; 10] = [
     [
         "step-while-idle",
         "processes 2\nput 1 by 0\nstep 0 x17\nstep 0\n",
-        "put 0 1 17 1\nend 7 18\n",
+        "put 0 1 17 0 1\nend 7 18\n",
         "otq: refused with 7: a process steps while it is inside no operation\n  \
          record 19, byte 144: step 0 (00 00 00 00 00 00 00 00), FILE:4\n  \
          the last operation of process 0 ended with record 18\n  \
@@ -110,7 +110,7 @@ const REFUSED: [[&str; 4]; 10] = [
     [
         "begun-all",
         "processes 2\noperations 1\nput 1 by 0\nstep 0 x17\nput 2 by 0\n",
-        "put 0 1 17 1\nend 8 18\n",
+        "put 0 1 17 0 1\nend 8 18\n",
         "otq: refused with 8: a process begins more operations than it may\n  \
          record 19, byte 144: put 2 by 0 (00 01 00 00 02 00 00 00), FILE:5\n  \
          process 0 has begun 1 operation, and L is 1\n  \
@@ -227,9 +227,13 @@ fn a_log_in_the_place_of_the_steps() {
 #[test]
 fn json() {
     let words = with_numbers("run", &[TORN, "--json", "--whole"]);
-    let answers = r#"{"process": 0, "kind": "put done", "own_steps": 17, "value": 0, "serial": 1, "root_block": 1}, {"process": 1, "kind": "put done", "own_steps": 32, "value": 0, "serial": 1, "root_block": 2}"#;
+    let answers = r#"{"process": 0, "kind": "put done", "own_steps": 17, "helps": 0, "value": 0, "serial": 1, "root_block": 1}, {"process": 1, "kind": "put done", "own_steps": 32, "helps": 0, "value": 0, "serial": 1, "root_block": 2}"#;
     let expected = format!(r#"{{"refusal": null, "taken": 61, "answers": [{answers}]}}"#);
     assert_eq!(otq(&words).out, format!("{expected}\n"));
+    // Process 1 helps, and process 0 does not.
+    let helped = written(&["run", "--json", "examples/known/M6.txt"]);
+    let answers = r#""answers": [{"process": 1, "kind": "put done", "own_steps": 20, "helps": 1, "value": 0, "serial": 1, "root_block": 1}, {"process": 0, "kind": "put done", "own_steps": 15, "helps": 0, "value": 0, "serial": 1, "root_block": 1}]"#;
+    assert!(helped.contains(answers), "{helped}");
     let refused = otq(&["run", "--json", "examples/known/M9.txt"]);
     assert_eq!(refused.status, 3);
     let refusal = r#"{"number": 6, "name": "BeginWhileBusy", "meaning": "a process begins an operation while it is inside another", "record": 2, "byte": 8, "line": 5, "words": "put 2 by 0", "standing": "process 0 is still inside the operation that record 1 began", "likely_cause": null}"#;

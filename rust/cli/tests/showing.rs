@@ -9,10 +9,12 @@ fn steps_log_and_order() {
     assert!(steps.ends_with("\n124 step 0\n"), "{steps}");
     let log = written(&["show", "--as", "log", LOG]);
     assert!(
-        log.starts_with("1 put 0 1 17 1\n2 put 1 1 32 2\n3 take 1 2 17 3 40\n"),
+        log.starts_with(
+            "1 put 0 1 17 0 1\n2 put 1 1 32 0 2\n3 take 1 2 17 0 3 40\n4 take 0 2 20 1 2 30\n"
+        ),
         "{log}"
     );
-    assert!(log.contains("\n5 take 1 3 15 4 none\n"), "{log}");
+    assert!(log.contains("\n5 take 1 3 15 0 4 none\n"), "{log}");
     let order = path("shown-order.bin");
     written(&["order", TEXT, "--raw", &order]);
     let order = written(&["show", "--as", "order", &order]);

@@ -118,6 +118,7 @@ pub const STEPS: &str = "examples/supplier/steps.bin";
 pub const TEXT: &str = "examples/supplier/exercise.txt";
 pub const LOG: &str = "examples/supplier/answers.bin";
 pub const WRONG: &str = "examples/supplier/wrong.bin";
+pub const NO_HELPS: &str = "examples/supplier/no_helps.bin";
 pub const TORN: &str = "examples/supplier/torn.bin";
 pub const NUMBERS: [&str; 4] = ["-p", "2", "-L", "3"];
 

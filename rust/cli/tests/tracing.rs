@@ -27,9 +27,9 @@ fn a_line_a_record() {
     assert_eq!(traced(&with_numbers("trace", &[STEPS])).1, lines);
 }
 
-/// The trace of a known run has these lines.
-fn assert_traced(run: &str, told: &[&str]) {
-    let (_, lines) = traced(&["trace", &format!("examples/known/{run}.txt")]);
+/// The trace of a list has these lines.
+fn assert_traced(list: &str, told: &[&str]) {
+    let (_, lines) = traced(&["trace", list]);
     for line in told {
         assert!(lines.iter().any(|found| found == line), "{line}");
     }
@@ -38,30 +38,105 @@ fn assert_traced(run: &str, told: &[&str]) {
 /// Process 1 helps process 0, which stopped after its first step.
 #[test]
 fn help_in_words() {
-    assert_traced("M6", &[
+    assert_traced("examples/known/M6.txt", &[
         "     1  process 0  begin  operation 1 of the process, a put of 9",
         "     2  process 0  A      reads the head of leaf 0: 1, and block 0 of leaf 0 (0 puts, 0 takes); writes block 1 there: 1 put, 0 takes, value 9",
         "     8  process 1  R1     refreshes the root, reads the head of the root: 1",
         "    10  process 1  R3     looks at block 1 of leaf 0: present, so it helps to advance it",
         "    12  process 1  V2     sets super of block 1 of leaf 0 to 1",
-        "    13  process 1  V3     raises the head of leaf 0 from 1 to 2",
+        "    13  process 1  V3     raises the head of leaf 0 from 1 to 2: a help, moved the head of node 2 for process 0's block",
         "    15  process 1  R5     looks at block 2 of leaf 1: absent",
         "    16  process 1  C1     reads the head of leaf 0: 2, so the end left is 1",
         "    18  process 1  C3L    reads block 1 of leaf 0, the left child: 1 put, 0 takes",
         "    19  process 1  C3R    reads block 1 of leaf 1, the right child: 1 put, 0 takes; together 2 puts, 0 takes",
         "    20  process 1  C3N    reads block 0 of the root: 0 puts, 0 takes, size 0; there is more, so it builds a block: 2 puts, 0 takes, ends 1 and 1, size 2",
         "    21  process 1  C4     writes block 1 of the root: 2 puts, 0 takes, ends 1 and 1, size 2",
-        "    23  process 1  Q      operation 1 is done, in root block 1, after 20 steps",
+        "    22  process 1  V3     raises the head of the root from 1 to 2",
+        "    23  process 1  Q      operation 1 is done, in root block 1, after 20 steps and 1 help",
         "    25  process 0  V2     finds super of block 1 of leaf 0 at 1 already, and leaves it",
         "    26  process 0  V3     finds the head of leaf 0 at 2 and not 1, and leaves it",
         "    36  process 0  C3N    reads block 1 of the root: 2 puts, 0 takes, size 2; there is no more, so the refresh has succeeded",
+        "    37  process 0  Q      operation 1 is done, in root block 1, after 15 steps and 0 helps",
     ]);
+}
+
+/// The block of an inner node is that of the process whose C4 wrote it: here of 1, since 0 comes to its
+/// C4 too late.
+#[test]
+fn a_help_at_an_inner_node() {
+    let text = "processes 4\nput 9 by 0\nstep 0 x14\nput 8 by 1\nstep 1 x15\nstep 0\n\
+                put 7 by 2\nstep 2 x34\n";
+    assert_traced(&file("traced-inner.txt", text.as_bytes()), &[
+        "    31  process 1  C4     writes block 1 of node 2: 2 puts, 0 takes, ends 1 and 1",
+        "    32  process 0  C4     finds block 1 of node 2 present, so the refresh has failed",
+        "    51  process 2  V3     raises the head of node 3 from 1 to 2",
+        "    57  process 2  V3     raises the head of node 2 from 1 to 2: a help, moved the head of node 2 for process 1's block",
+        "    67  process 2  Q      operation 1 is done, in root block 1, after 34 steps and 1 help",
+    ]);
+}
+
+/// A head that was raised between the look at the block and V3.
+#[test]
+fn a_help_that_does_not_count() {
+    assert_traced(TEXT, &[
+        "    31  process 1  R3     looks at block 2 of leaf 0: present, so it helps to advance it",
+        "    34  process 1  V3     finds the head of leaf 0 at 3 and not 2, and leaves it: moved already, so it does not count as a help",
+        "    56  process 1  Q      operation 1 is done, in root block 2, after 32 steps and 0 helps",
+        "    84  process 0  V3     raises the head of leaf 1 from 3 to 4: a help, moved the head of node 3 for process 1's block",
+        "    92  process 0  Q      operation 2 gets 30, in root block 2, after 20 steps and 1 help",
+    ]);
+}
+
+/// The number, below 10, that follows a word of a line.
+fn digit_after(word: &str, line: &str) -> usize {
+    let (_, rest) = line.split_once(word).expect(line);
+    rest[..1].parse().expect(line)
+}
+
+/// Of each operation that ends, its process and the helps that its lines tell. No process helps itself:
+/// what it wrote, it has advanced before it refreshes.
+fn helps_told(lines: &[String]) -> Vec<(usize, usize)> {
+    let mut so_far = [0; 8];
+    let mut ended = Vec::new();
+    for line in lines {
+        let process = digit_after("process ", line);
+        if let Some((_, help)) = line.split_once(": a help, ") {
+            assert_ne!(digit_after(" for process ", help), process, "{line}");
+            so_far[process] += 1;
+        }
+        if line.contains("  Q  ") {
+            ended.push((process, std::mem::take(&mut so_far[process])));
+        }
+    }
+    ended
+}
+
+#[test]
+fn helps_are_those_of_the_answers() {
+    for (p, pace) in [
+        ("2", "uniform"),
+        ("4", "stall:V3"),
+        ("8", "stall:V1"),
+        ("8", "bursts:9"),
+    ] {
+        let made = written(&["make", "-p", p, "-L", "20", "--pace", pace, "--seed", "5"]);
+        let list = file(&format!("traced-helps-{p}-{pace}.txt"), made.as_bytes());
+        let told = helps_told(&traced(&["trace", &list]).1);
+        let run = written(&["run", &list]);
+        let answers = run.lines().filter(|line| !line.starts_with("end "));
+        let answered: Vec<(usize, usize)> = answers
+            .map(|line| line.split(' ').collect())
+            .map(|words: Vec<&str>| (words[1].parse().unwrap(), words[4].parse().unwrap()))
+            .collect();
+        assert_eq!(told, answered, "{p} {pace}");
+        assert!(told.iter().any(|&(_, helps)| helps > 0), "{p} {pace}");
+    }
 }
 
 /// A take alone, whose block has other ends on the left and on the right.
 #[test]
 fn ends_that_differ() {
-    assert_traced("M4", &[
+    assert_traced("examples/known/M4.txt", &[
         "    13  process 0  C3L    reads block 1 of leaf 0, the left child: 0 puts, 1 take",
         "    14  process 0  C3R    reads block 0 of leaf 1, the right child: 0 puts, 0 takes; together 0 puts, 1 take",
     ]);

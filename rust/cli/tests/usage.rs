@@ -136,7 +136,7 @@ fn p_and_l() {
     let list = b"put 7 by 1\nstep 1 x17\n";
     assert_eq!(
         otq_on(&["run", "-p", "2", "-"], list).out,
-        "put 1 1 17 1\nend 0 18\n"
+        "put 1 1 17 0 1\nend 0 18\n"
     );
     assert_eq!(otq_on(&["run", "-"], list).out, "end 0 18\n");
     assert_eq!(

@@ -1,6 +1,7 @@
 //! compare RECORDS [SEED]: compares the compiled library with the reference on random and hostile
 //! lists until so many records were played. It ends with a panic at the first difference. Last it
-//! tells which numbers and verdicts were never met, as some are not where records are few.
+//! tells what was never met, as some numbers and verdicts are not where records are few. If no help
+//! was met, helps were not compared, and it fails.
 
 use compare::random_calls::compare;
 use std::io::{stderr, Write};
@@ -44,10 +45,14 @@ fn compare_records(records: u64, seed: u64) -> ExitCode {
     println!("calls by refusal number, from 0: {:?}", tally.refusals);
     println!("verdicts same, differs, refused: {:?}", tally.verdicts);
     println!("{}", tally.most_own_steps());
+    println!("{}", tally.most_helps());
     println!("{}", tally.forecasts);
     let never = tally.never_met();
     if !never.is_empty() {
         println!("never met: {}", never.join(", "));
     }
-    ExitCode::SUCCESS
+    match tally.helps_met() {
+        true => ExitCode::SUCCESS,
+        false => ExitCode::FAILURE,
+    }
 }

@@ -21,8 +21,9 @@ pub struct Tally {
     pub refusals: [u64; 12],
     /// Same, differs, refused.
     pub verdicts: [u64; 3],
-    /// For p = 2, 4, 8, the own steps of the longest operation that finished.
-    pub most_steps: [u16; 3],
+    /// For p = 2, 4, 8, the most own steps and the most helps of an operation that finished.
+    pub most_steps: [u8; 3],
+    pub most_helps: [u8; 3],
     pub forecasts: Forecasts,
 }
 
@@ -62,7 +63,10 @@ impl Tally {
         let calls = refusals.map(|(number, &calls)| (format!("number {number}"), calls));
         let verdicts = verdicts.zip(self.verdicts);
         let verdicts = verdicts.map(|(verdict, checks)| (format!("verdict {verdict}"), checks));
-        let all = calls.chain(verdicts).chain(self.forecasts.met());
+        let helps = [2, 4, 8].into_iter().zip(self.most_helps);
+        let helps = helps.map(|(p, most)| (format!("helps with p = {p}"), most.into()));
+        let all = calls.chain(verdicts).chain(helps);
+        let all = all.chain(self.forecasts.met());
         let never = all.filter(|&(_, times)| times == 0);
         never.map(|(what, _)| what).collect()
     }
@@ -73,7 +77,7 @@ impl Tally {
         let (ran, log) = input.run(needed(input), most);
         self.records += ran.taken;
         self.count(ran.refusal);
-        self.count_steps(input.p, &log);
+        self.count_answers(input.p, &log);
         self.forecasts.compare_run(random, input, ran, &log);
         let (ran, _) = input.run(table(random, input), near(random, log.len()));
         self.count(ran.refusal);
@@ -97,12 +101,13 @@ impl Tally {
         self.refusals[refusal as usize] += 1;
     }
 
-    /// The own steps of a run's answers; a p that is turned down has none.
-    fn count_steps(&mut self, p: u32, log: &[u8]) {
+    /// The own steps and helps of a run's answers; a p that is turned down has none.
+    fn count_answers(&mut self, p: u32, log: &[u8]) {
         for record in log.chunks_exact(ANSWER_RECORD_BYTES) {
             let answer = Answer::read(record).expect("a log that Run wrote");
-            let most = &mut self.most_steps[p.ilog2() as usize - 1];
-            *most = answer.steps.max(*most);
+            let of_p = p.ilog2() as usize - 1;
+            self.most_steps[of_p] = self.most_steps[of_p].max(answer.steps);
+            self.most_helps[of_p] = self.most_helps[of_p].max(answer.helps);
         }
     }
 
@@ -118,6 +123,18 @@ impl Tally {
             .map(told)
             .collect();
         format!("most own steps: {}", of_p.join(", "))
+    }
+
+    /// The most helps that were met, for each p.
+    pub fn most_helps(&self) -> String {
+        let of_p = [2, 4, 8].into_iter().zip(self.most_helps);
+        let of_p: Vec<String> = of_p.map(|(p, most)| format!("p = {p}: {most}")).collect();
+        format!("most helps: {}", of_p.join(", "))
+    }
+
+    /// Whether any answer told of a help.
+    pub fn helps_met(&self) -> bool {
+        self.most_helps != [0; 3]
     }
 }
 

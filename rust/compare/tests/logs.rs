@@ -3,6 +3,7 @@
 use crate::support::{mixed_list, needed};
 use compare::calls::Input;
 use otq::most_answer_bytes;
+use reference::known_runs::m6;
 
 /// Whole and half lists with their own logs, and what is to be done with them.
 fn with_logs(compare: impl Fn(Input, usize, &[u8])) {
@@ -37,6 +38,21 @@ fn each_changed_byte() {
             }
         }
     });
+}
+
+/// M6: byte 2 has 20 and then 15 steps, byte 3 has 1 help and then none.
+#[test]
+fn steps_alone_and_helps_alone() {
+    let (p, l, records) = (2, 1, &m6(0, 1).bytes()[..]);
+    let input = Input { p, l, records };
+    let (_, log) = input.run(needed(p, l), most_answer_bytes(p, l).unwrap());
+    assert_eq!([&log[2..4], &log[18..20]], [[20, 1], [15, 0]]);
+    for byte in [2, 3, 18, 19] {
+        let mut log = log.clone();
+        log[byte] ^= 1;
+        let checked = input.check_log(needed(p, l), &log);
+        assert_eq!((checked.verdict, checked.index), (1, byte as u64 / 16));
+    }
 }
 
 #[test]

@@ -1,6 +1,7 @@
 //! The printing program against the reference's print.
 
 use crate::support::{mixed_list, repository};
+use reference::help_lists::{help_lists, most_helped};
 use reference::hostile::harm_list;
 use reference::lists::List;
 use reference::print::{print_run, L, P, RECORD_BYTES};
@@ -55,8 +56,20 @@ fn worked() -> List {
 
 #[test]
 fn worked_run() {
-    let print = "put 0 1 31 1\ntake 1 1 31 2 7\nend 0 64\n";
+    let print = "put 0 1 31 0 1\ntake 1 1 31 0 2 7\nend 0 64\n";
     assert_eq!(program(&worked().bytes()), print);
+}
+
+#[test]
+fn helps_after_steps() {
+    // Process 0 stops after its A, and process 1 moves the head of its leaf.
+    let begun = List::new().put(0, 9).steps(0, 1).put(1, 8);
+    let list = begun.steps(1, 34).steps(0, 24).bytes();
+    assert_ends(&list, "put 1 1 34 1 1\nput 0 1 25 0 1\nend 0 61\n");
+    assert_print(&most_helped(P).bytes());
+    for fixed in help_lists() {
+        assert_print(&fixed.list.bytes());
+    }
 }
 
 /// `examples/play` with these words, from the repository's root.

@@ -5,6 +5,7 @@ mod c3_words;
 mod forecasts;
 mod guarded;
 mod header;
+mod helps;
 mod known_runs;
 mod lengths;
 mod logs;

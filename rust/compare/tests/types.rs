@@ -56,6 +56,7 @@ fn answers() {
             process: answer.process.into(),
             outcome: outcome(answer),
             steps: answer.steps,
+            helps: answer.helps,
             serial: answer.serial,
             root_block: answer.root_block,
         });

@@ -4,9 +4,10 @@ use crate::decimal::{bytes, words};
 use crate::met::Met;
 use crate::row::{Row, Statement};
 use reference::check::{check_log, CheckResult};
+use reference::helps::helps_in;
 use reference::list::list_order;
-use reference::records::{ANSWER_RECORD_BYTES, ORDER_RECORD_BYTES, STEP_RECORD_BYTES};
-use reference::run::run;
+use reference::records::{Answer, ANSWER_RECORD_BYTES, ORDER_RECORD_BYTES, STEP_RECORD_BYTES};
+use reference::run::{run, RunResult};
 use reference::tree::Shape;
 
 #[derive(Clone)]
@@ -98,12 +99,29 @@ impl Call {
             format!("{} {} {}", checked.refusal, checked.verdict, checked.index),
             words(&check_table),
         ];
-        let met = vec![
+        let mut met = vec![
             Met::new("run", ran.refusal),
             Met::new("list", listed.refusal),
             Met::new("check", self.verdict_of(checked)),
         ];
+        met.extend(self.helps(ran, &answers));
         (text.join(" "), met)
+    }
+
+    /// The helps in the answers that Run wrote, and those that the records which it took came to.
+    fn helps(&self, ran: RunResult, answers: &[u8]) -> Vec<Met> {
+        let answers = answers.chunks_exact(ANSWER_RECORD_BYTES);
+        let told = answers.take(ran.answers as usize).map(|record| {
+            let answer = Answer::read(record).expect("an answer that Run wrote");
+            Met::count("helps", answer.helps.into())
+        });
+        let mut met: Vec<Met> = told.collect();
+        if let Ok(shape) = Shape::new(self.p, self.l) {
+            let taken = &self.records[..STEP_RECORD_BYTES * ran.taken as usize];
+            let helps = helps_in(shape, taken).into_iter();
+            met.extend(helps.map(|help| Met::help(self.p, help)));
+        }
+        met
     }
 
     /// The verdict: the same; a record unequal; the log shorter; longer; or the refusal's number.

@@ -3,12 +3,13 @@
 use crate::fixed_bytes::WIDE;
 use crate::row::Row;
 use crate::taken::Taken;
+use reference::help_lists::help_lists;
 use reference::known_runs::{m3, m5, m6};
 use reference::lists::List;
 use reference::process::StepName;
 use reference::schedules::{schedule, Ending, Pace, Plan};
 
-/// The terms on lists of the known runs, and their like.
+/// The terms on lists of the known runs, and their like; and on those in which there are helps.
 pub fn rows() -> Vec<Row> {
     let unfinished = List::new().put(0, WIDE).steps(0, 17).take(1).steps(1, 16);
     let unfinished = unfinished.put(0, 6).steps(0, 2);
@@ -22,10 +23,19 @@ pub fn rows() -> Vec<Row> {
         ("a take before its Q, a put begun", 2, 2, unfinished),
         ("a take alone, a put begun", 8, 1, of_eight),
     ];
-    lists
+    let known = lists
         .into_iter()
-        .map(|(about, p, l, list)| Taken::new(p, l, list.bytes()).row(about))
-        .collect()
+        .map(|(about, p, l, list)| Taken::new(p, l, list.bytes()).row(about));
+    known.chain(helps()).collect()
+}
+
+/// Of the lists with helps, those that show something which M6 does not.
+fn helps() -> [Row; 5] {
+    let [_, right, found_moved, _, none_next, in_both, inner, ..] = help_lists();
+    [right, found_moved, none_next, in_both, inner].map(|fixed| {
+        let taken = Taken::new(fixed.p, fixed.l, fixed.list.bytes());
+        taken.row(format!("helps: {}", fixed.about))
+    })
 }
 
 /// Two puts and two takes of p = 2, one after the other: root blocks 1 to 4.

@@ -22,17 +22,18 @@ pub fn rows() -> Vec<Row> {
             root_block,
         }));
     }
-    for (outcome, steps, serial, root_block) in [
-        (Outcome::PutDone, 121, 500, 4000),
-        (Outcome::Value(WIDE), 0x0201, WIDE + 1, WIDE + 2),
-        (Outcome::Value(u32::MAX), 0x0100, 0x0100, 0x0100),
-        (Outcome::Value(0), 17, 1, 1),
-        (Outcome::Nothing, u16::MAX, u32::MAX, u32::MAX),
+    for (outcome, steps, helps, serial, root_block) in [
+        (Outcome::PutDone, 121, 10, 500, 4000),
+        (Outcome::Value(WIDE), 2, 1, WIDE + 1, WIDE + 2),
+        (Outcome::Value(u32::MAX), 0, 255, 0x0100, 0x0100),
+        (Outcome::Value(0), 17, 0, 1, 1),
+        (Outcome::Nothing, 255, 255, u32::MAX, u32::MAX),
     ] {
         rows.push(answer_row(Answer {
             process: 7,
             outcome,
             steps,
+            helps,
             serial,
             root_block,
         }));

@@ -4,11 +4,12 @@ use crate::call::{kept_bytes, kept_words, Call};
 use crate::row::Row;
 use crate::{fixed_bytes, fixed_logs, fixed_records, late_begins};
 use reference::between_reads::between_reads;
+use reference::help_lists::{help_lists, most_helped, HelpList};
 use reference::lists::List;
 use reference::tree::Shape;
 
 /// Calls that meet every number and verdict, each edge of a test, and the order of the tests; records
-/// whose bytes are all in use; and operations that come between the reads of another.
+/// whose bytes are all in use; operations that come between the reads of another; and helps.
 pub fn rows() -> Vec<Row> {
     [
         wrong_processes(),
@@ -21,6 +22,7 @@ pub fn rows() -> Vec<Row> {
         fixed_logs::rows(),
         fixed_bytes::rows(),
         between(),
+        helps(),
     ]
     .into_iter()
     .flatten()
@@ -93,9 +95,15 @@ fn allowed_limits() -> Vec<Row> {
     rows
 }
 
-/// The largest tables, which take the prover long.
+/// The largest tables and the most helps, which take the prover long.
 pub fn largest() -> Vec<Row> {
-    [4, 8].into_iter().flat_map(|p| edge_of(p, 500)).collect()
+    let mut rows = Vec::new();
+    for p in [4, 8] {
+        rows.extend(edge_of(p, 500));
+        let call = Call::ample(p, 2 * p.ilog2(), most_helped(p).bytes());
+        rows.push(call.row(format!("p = {p}, the most helps")));
+    }
+    rows
 }
 
 /// A word too few refuses with 3, and with no word too few the records are met: the second of them
@@ -131,6 +139,15 @@ fn short_tables() -> Vec<Row> {
 pub fn between() -> Vec<Row> {
     let row = |(about, list): (&str, List)| Call::ample(2, 1, list.bytes()).row(about);
     between_reads().map(row).into()
+}
+
+/// Heads of children that a refresh moves or finds moved.
+pub fn helps() -> Vec<Row> {
+    let row = |fixed: HelpList| {
+        let call = Call::ample(fixed.p, fixed.l, fixed.list.bytes());
+        call.row(format!("helps: {}", fixed.about))
+    };
+    help_lists().map(row).into()
 }
 
 /// Number 4: every number of bytes up to two records.

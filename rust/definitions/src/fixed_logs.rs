@@ -3,13 +3,21 @@
 use crate::call::{kept_bytes, Call};
 use crate::fixed_records::{one_put, put_and_take};
 use crate::row::Row;
+use reference::known_runs::m6;
 use reference::lists::List;
 
 pub fn rows() -> Vec<Row> {
-    [torn(), torn_first(), unequal(), lengths(), refused()]
-        .into_iter()
-        .flatten()
-        .collect()
+    [
+        torn(),
+        torn_first(),
+        unequal(),
+        counts(),
+        lengths(),
+        refused(),
+    ]
+    .into_iter()
+    .flatten()
+    .collect()
 }
 
 /// Number 11: some bytes past the whole log, and some bytes alone.
@@ -55,6 +63,22 @@ fn unequal() -> Vec<Row> {
         let record = byte % 2;
         let changed = call.with(|call| call.log[16 * record + byte] ^= 1 << (byte % 8));
         rows.push(changed.row(format!("byte {byte} of record {record} unequal")));
+    }
+    rows
+}
+
+/// M6, of 20 steps and 1 help and then 15 and 0: in each record the steps alone unequal, byte 2,
+/// the helps alone, byte 3, and the two exchanged.
+fn counts() -> Vec<Row> {
+    let call = Call::ample(2, 1, m6(0, 1).bytes());
+    let mut rows = Vec::new();
+    for record in [0, 1] {
+        for (told, byte) in [("steps", 2), ("helps", 3)] {
+            let off = call.with(|call| call.log[16 * record + byte] ^= 1);
+            rows.push(off.row(format!("{told} of record {record} off by one")));
+        }
+        let exchanged = call.with(|call| call.log.swap(16 * record + 2, 16 * record + 3));
+        rows.push(exchanged.row(format!("steps and helps of record {record} exchanged")));
     }
     rows
 }

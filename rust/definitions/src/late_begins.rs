@@ -65,6 +65,7 @@ fn standing(process: Process) -> String {
             operation,
             step: Step::A,
             steps: 0,
+            helps: 0,
         } => format!("(Busy ({}) A)", terms::operation(Some(operation))),
         _ => panic!("a begin is met idle or at A"),
     };

@@ -1,9 +1,10 @@
 //! Writes rows for the prover: calls of the reference with everything that they leave, and what it
 //! says of demand 3. Arguments: `HOW-MANY SEED` for random calls and forecasts; `calls` for the
-//! fixed calls that play records, and `between` for those of them in which operations come between
-//! the reads of another; `forecast` for the fixed forecasts; `demand3` for its terms; `long` for more
-//! of these that take the prover long; and `tally FILE ..`, which says how often the rows of these
-//! files meet each number and fails if one is never met.
+//! fixed calls that play records, and among them `between` for those in which operations come
+//! between the reads of another, `helps` for those in which a refresh advances a child's block;
+//! `forecast` for the fixed forecasts; `demand3` for its terms; `long` for more of these that take
+//! the prover long; and `tally FILE ..`, which says how often the rows of these files meet each
+//! number and fails if one is never met.
 
 mod call;
 mod decimal;
@@ -34,12 +35,14 @@ fn main() {
         }
         ["calls"] => print(fixed_calls::rows()),
         ["between"] => print(fixed_calls::between()),
+        ["helps"] => print(fixed_calls::helps()),
         ["demand3"] => print(demand3::rows()),
         ["forecast"] => print(forecasts::rows()),
         ["long"] => print(long()),
         [rows, seed] => print(random_calls::rows(number(rows), number(seed))),
         _ => panic!(
-            "arguments: HOW-MANY SEED, calls, between, demand3, forecast, long, or tally FILE .."
+            "arguments: HOW-MANY SEED, calls, between, helps, demand3, forecast, long, \
+             or tally FILE .."
         ),
     }
 }

@@ -1,10 +1,13 @@
-//! What the rows meet: the numbers and verdicts of the calls, and the cases of demand 3's terms.
+//! What the rows meet: the numbers and verdicts of the calls, their helps, and the cases of demand
+//! 3's terms.
 
+use reference::helps::Help;
 use std::fmt;
 
 /// Everything that the rows must meet, by what can meet it. The numbers and verdicts of the calls
-/// are those of document 01, "What each call turns down", and of requests a and b.
-const REQUIRED: [(&str, &[&str]); 9] = [
+/// are those of document 01, "What each call turns down", and of requests a and b; helps are those
+/// of request e.
+const REQUIRED: [(&str, &[&str]); 12] = [
     ("run", &["0", "1", "2", "3", "4", "5", "6", "7", "8", "9"]),
     ("list", &["0", "1", "2", "3", "4", "5", "6", "7", "8", "10"]),
     (
@@ -26,10 +29,25 @@ const REQUIRED: [(&str, &[&str]); 9] = [
             "inside another of 500: 6",
         ],
     ),
+    ("helps", &["0", "1", "more"]),
+    (
+        "help",
+        &[
+            "left leaf moved",
+            "left leaf found moved",
+            "right leaf moved",
+            "right leaf found moved",
+            "left inner moved",
+            "left inner found moved",
+            "right inner moved",
+            "right inner found moved",
+        ],
+    ),
     ("forecast", &["0", "1", "2", "4", "5", "8", "12"]),
     ("foreseen", &["p=2", "p=4", "p=8"]),
     ("limit", &["p=2", "p=4", "p=8"]),
     ("operation", &["finished", "placed", "begun", "unopened"]),
+    ("own helps", &["0", "1", "more"]),
     ("answer", &["done", "value", "none"]),
 ];
 
@@ -49,6 +67,22 @@ impl Met {
             what,
             case: case.to_string(),
         }
+    }
+
+    /// A count of helps.
+    pub fn count(what: &'static str, helps: u32) -> Met {
+        match helps {
+            0 | 1 => Met::new(what, helps),
+            _ => Met::new(what, "more"),
+        }
+    }
+
+    /// A V3 of an advance begun in R3 or R5, with p processes.
+    pub fn help(p: u32, help: Help) -> Met {
+        let side = if help.is_left() { "left" } else { "right" };
+        let child = if help.child < p { "inner" } else { "leaf" };
+        let found = if help.moved { "moved" } else { "found moved" };
+        Met::new("help", format!("{side} {child} {found}"))
     }
 }
 

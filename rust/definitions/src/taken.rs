@@ -105,10 +105,11 @@ impl Taken {
         let blocks = 0..=self.tree.last_present(ROOT) + 1;
         let standing = blocks.map(|b| stands_in(&self.tree, x, b));
         format!(
-            "said {} {} {} ({}) {} {} ({}) ({}) ({})",
+            "said {} {} {} {} ({}) {} {} ({}) ({}) ({})",
             self.account.is_opened(x),
             self.account.is_finished(x),
             self.account.own_steps(x),
+            self.account.own_helps(x),
             terms::operation(self.account.does(x)),
             times(x, &self.root),
             block_of(&self.tree, x).unwrap_or(0),
@@ -120,10 +121,11 @@ impl Taken {
 
     fn queue_record(&self, x: Name) -> String {
         format!(
-            "answer {} {} {} {} ({})",
+            "answer {} {} {} {} {} ({})",
             x.process,
             x.serial,
             self.account.own_steps(x),
+            self.account.own_helps(x),
             block_of(&self.tree, x).unwrap_or(0),
             terms::reply(self.account.queue_answer(x, &[], &self.root)),
         )
@@ -154,6 +156,7 @@ impl Taken {
         let mut met = vec![Met::new("limit", format!("p={}", self.shape.p()))];
         for &x in &self.names {
             met.push(Met::new("operation", self.state(x)));
+            met.push(Met::count("own helps", self.account.own_helps(x)));
             let answer = response(&self.log, x).map(|outcome| match outcome {
                 Outcome::PutDone => "done",
                 Outcome::Value(_) => "value",

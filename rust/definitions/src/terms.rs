@@ -50,10 +50,11 @@ pub fn answers(log: &[u8]) -> String {
 }
 
 pub fn answer(answer: Answer) -> String {
-    let (process, serial, steps) = (answer.process, answer.serial, answer.steps);
+    let (process, serial) = (answer.process, answer.serial);
+    let (steps, helps) = (answer.steps, answer.helps);
     let reply = reply(Some(answer.outcome));
     format!(
-        "answer {process} {serial} {steps} {} ({reply})",
+        "answer {process} {serial} {steps} {helps} {} ({reply})",
         answer.root_block
     )
 }
@@ -65,12 +66,12 @@ pub fn bits(names: &[Name], mut passes: impl FnMut(Name) -> bool) -> u64 {
 }
 
 pub fn events(events: &[Event]) -> String {
-    let runs = events.chunk_by(|a, b| a == b && matches!(a, Event::Moves(_)));
+    let runs = events.chunk_by(|a, b| a == b && matches!(a, Event::Moves(..)));
     let text = runs.map(|run| match run[0] {
         Event::Opens(x, operation_of) => {
             format!("opens ({}) ({}) ∷ ", name(x), operation(Some(operation_of)))
         }
-        Event::Moves(x) => format!("moved {} ({}) ++ ", run.len(), name(x)),
+        Event::Moves(x, helps) => format!("moved {} ({}) {helps} ++ ", run.len(), name(x)),
         Event::Finishes(x) => format!("finishes ({}) ∷ ", name(x)),
     });
     text.collect::<String>() + "[]"

@@ -167,7 +167,7 @@ pub fn list_order(
 /// let mut log = otq::play(2, 1, &records).answers;
 /// let mut table = vec![0; otq::table_words(2, 1).unwrap()];
 /// assert_eq!(otq::check_log(2, 1, &records, &log, &mut table), Verdict::Same);
-/// log[1] = 2;
+/// log[3] = 1; // a help too many
 /// assert_eq!(otq::check_log(2, 1, &records, &log, &mut table), Verdict::Differs(0));
 /// log.pop();
 /// let torn = otq::check_log(2, 1, &records, &log, &mut table);

@@ -43,12 +43,30 @@ pub enum Outcome {
 }
 
 /// An answer record.
+///
+/// Process 0 stops after its first step, and process 1 moves the head of its leaf for it:
+///
+/// ```
+/// use otq::{Act, Answer, Step};
+/// let put = |process| vec![Step { process, act: Act::Put(9) }];
+/// let steps = |process, count| vec![Step { process, act: Act::Step }; count];
+/// let list = [put(0), steps(0, 1), put(1), steps(1, 20), steps(0, 14)].concat();
+/// let played = otq::play(2, 24, &otq::bytes_of(list));
+/// let answers: Vec<Answer> = otq::records_of(&played.answers).unwrap();
+/// let counts = answers.iter().map(|answer| (answer.process, answer.steps, answer.helps));
+/// assert!(counts.eq([(1, 20, 1), (0, 15, 0)]));
+/// ```
 #[derive(Clone, Copy, PartialEq, Eq, Hash, Debug)]
 pub struct Answer {
     pub process: u8,
     pub outcome: Outcome,
     /// Own steps of the operation, A to Q: at most 41, 81 or 121 with p = 2, 4 or 8.
-    pub steps: u16,
+    pub steps: u8,
+    /// Helps of the operation, at most its steps: how often it moved a head for another process's
+    /// block. Counted is a V3 that raised a child's head in an advance begun by R3 or R5; one that
+    /// found the head raised already is no help, and neither is the advance of the own leaf or of
+    /// the refreshed node.
+    pub helps: u8,
     /// The operation's number among those of its process, from 1.
     pub serial: u32,
     pub root_block: u32,
@@ -139,10 +157,10 @@ impl From<Step> for [u8; Step::BYTES] {
 
 /// ```
 /// use otq::{Answer, Outcome};
-/// let bytes = [1, 2, 17, 0, 7, 0, 0, 0, 1, 0, 0, 0, 2, 0, 0, 0];
+/// let bytes = [1, 2, 20, 1, 7, 0, 0, 0, 1, 0, 0, 0, 2, 0, 0, 0];
 /// let answer: Answer = bytes.try_into().unwrap();
-/// assert_eq!(answer.outcome, Outcome::Value(7));
-/// assert_eq!((answer.process, answer.steps), (1, 17));
+/// assert_eq!((answer.process, answer.outcome), (1, Outcome::Value(7)));
+/// assert_eq!((answer.steps, answer.helps), (20, 1));
 /// assert_eq!((answer.serial, answer.root_block), (1, 2));
 /// assert_eq!(<[u8; 16]>::from(answer), bytes);
 /// ```
@@ -150,7 +168,7 @@ impl TryFrom<[u8; Answer::BYTES]> for Answer {
     type Error = NoRecord;
 
     fn try_from(bytes: [u8; Answer::BYTES]) -> Result<Answer, NoRecord> {
-        let [process, kind, s0, s1, words @ ..] = bytes;
+        let [process, kind, steps, helps, words @ ..] = bytes;
         let word =
             |at| u32::from_le_bytes([words[at], words[at + 1], words[at + 2], words[at + 3]]);
         let outcome = match (kind, word(0)) {
@@ -162,7 +180,8 @@ impl TryFrom<[u8; Answer::BYTES]> for Answer {
         Ok(Answer {
             process,
             outcome,
-            steps: u16::from_le_bytes([s0, s1]),
+            steps,
+            helps,
             serial: word(4),
             root_block: word(8),
         })
@@ -177,8 +196,7 @@ impl From<Answer> for [u8; Answer::BYTES] {
             Outcome::Nothing => (3, 0),
         };
         let mut bytes = [0; Answer::BYTES];
-        bytes[..2].copy_from_slice(&[answer.process, kind]);
-        bytes[2..4].copy_from_slice(&answer.steps.to_le_bytes());
+        bytes[..4].copy_from_slice(&[answer.process, kind, answer.steps, answer.helps]);
         bytes[4..8].copy_from_slice(&value.to_le_bytes());
         bytes[8..12].copy_from_slice(&answer.serial.to_le_bytes());
         bytes[12..].copy_from_slice(&answer.root_block.to_le_bytes());

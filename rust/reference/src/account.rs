@@ -11,8 +11,8 @@ use crate::tree::{Shape, Tree, ROOT};
 #[derive(Clone, Copy, PartialEq, Eq, Debug)]
 pub enum Event {
     Opens(Name, Operation),
-    /// A step of the operation that is not its Q.
-    Moves(Name),
+    /// A step of the operation that is not its Q; whether it moved a child's head inside a refresh.
+    Moves(Name, bool),
     Finishes(Name),
 }
 
@@ -64,6 +64,11 @@ impl Account {
         self.find(x).map_or(0, |told| told.steps)
     }
 
+    /// Heads of children that it moved inside refreshes, finished or not.
+    pub fn own_helps(&self, x: Name) -> u32 {
+        self.find(x).map_or(0, |told| told.helps.len() as u32)
+    }
+
     /// The kind and value of the begin record.
     pub fn does(&self, x: Name) -> Option<Operation> {
         self.find(x).map(|told| told.operation)
@@ -93,7 +98,7 @@ impl Account {
         } else if own.end == Some(record) {
             Event::Finishes(own.name)
         } else {
-            Event::Moves(own.name)
+            Event::Moves(own.name, own.helps.contains(&record))
         }
     }
 

@@ -1,11 +1,12 @@
 //! Checker of demand 3 on what a run leaves: records taken, answer bytes, table words.
 
+use crate::helps::play_watched;
 use crate::machine::Machine;
 use crate::order::{root_order, Standing};
 use crate::plain_queue::PlainQueue;
 use crate::records::{Act, Answer, Operation, Outcome, ANSWER_RECORD_BYTES, STEP_RECORD_BYTES};
 use crate::refusal::Refusal;
-use crate::run::{accept, play_record, test_record, Room};
+use crate::run::{accept, test_record, Room};
 use crate::tree::{Shape, Tree, ROOT};
 
 /// An operation's process and serial.
@@ -41,6 +42,8 @@ pub enum Violation {
     AnswerName { answer: usize },
     /// An answer whose own steps are not those counted.
     AnswerSteps { answer: usize, counted: u32 },
+    /// An answer whose helps are not those counted.
+    AnswerHelps { answer: usize, counted: u32 },
     /// An answer with another root block than the one it stands in.
     AnswerBlock { answer: usize },
     /// An answer that the plain queue doesn't give.
@@ -50,7 +53,7 @@ pub enum Violation {
 }
 
 /// An operation as the records tell it.
-#[derive(Clone, Copy, PartialEq, Eq, Debug)]
+#[derive(Clone, PartialEq, Eq, Debug)]
 pub struct Told {
     pub name: Name,
     pub operation: Operation,
@@ -60,6 +63,8 @@ pub struct Told {
     pub end: Option<usize>,
     /// Own steps.
     pub steps: u32,
+    /// Those of its records that moved a child's head inside a refresh.
+    pub helps: Vec<usize>,
 }
 
 /// The order of the operations in the root, by index in the list of those told.
@@ -111,8 +116,8 @@ pub fn check_within(
     Ok(())
 }
 
-/// Plays the step rules to learn which record does each Q. Own steps are counted
-/// from the records.
+/// Plays the step rules to learn which record does each Q and which moves a child's head inside a
+/// refresh. Own steps are counted from the records.
 pub fn replay(shape: Shape, records: &[u8]) -> Result<Vec<Told>, Violation> {
     let mut machine = Machine::start(shape);
     let mut told: Vec<Told> = Vec::new();
@@ -124,7 +129,7 @@ pub fn replay(shape: Shape, records: &[u8]) -> Result<Vec<Told>, Violation> {
             }
         })?;
         let process = record.process;
-        let finishes = play_record(&mut machine, record).is_some();
+        let (answer, help) = play_watched(&mut machine, record);
         match record.act {
             Act::Begin(operation) => {
                 let serial = 1 + told.iter().filter(|t| t.name.process == process).count() as u32;
@@ -134,13 +139,17 @@ pub fn replay(shape: Shape, records: &[u8]) -> Result<Vec<Told>, Violation> {
                     begin: index,
                     end: None,
                     steps: 0,
+                    helps: Vec::new(),
                 });
             }
             Act::Step => {
                 let own = told.iter_mut().rfind(|t| t.name.process == process);
                 let own = own.expect("a step that is taken has its operation");
                 own.steps += 1;
-                own.end = finishes.then_some(index);
+                if help.is_some_and(|help| help.moved) {
+                    own.helps.push(index);
+                }
+                own.end = answer.map(|_| index);
             }
         }
     }
@@ -209,6 +218,19 @@ fn feed(told: &[Told], root: &Root) -> (Vec<Option<Outcome>>, PlainQueue) {
     (outcomes, queue)
 }
 
+/// The own steps and the helps of an answer.
+fn check_counts(told: &Told, read: Answer, answer: usize) -> Result<(), Violation> {
+    let counted = told.steps;
+    if u32::from(read.steps) != counted {
+        return Err(Violation::AnswerSteps { answer, counted });
+    }
+    let counted = told.helps.len() as u32;
+    if u32::from(read.helps) != counted {
+        return Err(Violation::AnswerHelps { answer, counted });
+    }
+    Ok(())
+}
+
 /// One answer for each Q, in the order of the Qs, each as counted and as the
 /// plain queue gives it.
 fn check_answers(
@@ -231,10 +253,7 @@ fn check_answers(
         if (read.process, read.serial) != (told[t].name.process, told[t].name.serial) {
             return Err(Violation::AnswerName { answer });
         }
-        if u32::from(read.steps) != told[t].steps {
-            let counted = told[t].steps;
-            return Err(Violation::AnswerSteps { answer, counted });
-        }
+        check_counts(&told[t], read, answer)?;
         if Some(read.root_block) != root.block[t] {
             return Err(Violation::AnswerBlock { answer });
         }

@@ -42,11 +42,19 @@ impl KnownRun {
     }
 
     /// One more answer; in the known runs each is of a process's first operation.
-    fn answer(mut self, process: u32, outcome: Outcome, steps: u16, root_block: u32) -> KnownRun {
+    fn answer(
+        mut self,
+        process: u32,
+        outcome: Outcome,
+        steps: u8,
+        helps: u8,
+        root_block: u32,
+    ) -> KnownRun {
         self.answers.push(Answer {
             process,
             outcome,
             steps,
+            helps,
             serial: 1,
             root_block,
         });
@@ -102,21 +110,21 @@ pub fn known_runs() -> Vec<KnownRun> {
     vec![
         KnownRun::new("M1", 2, 24, List::new()),
         KnownRun::new("M2", 4, 24, m2)
-            .answer(0, PutDone, 31, 1)
-            .answer(1, Value(7), 31, 2),
+            .answer(0, PutDone, 31, 0, 1)
+            .answer(1, Value(7), 31, 0, 2),
         KnownRun::new("M3", 2, 24, m3())
-            .answer(0, PutDone, 17, 1)
-            .answer(1, Value(5), 15, 1),
-        KnownRun::new("M4", 2, 24, m4()).answer(0, Nothing, 17, 1),
+            .answer(0, PutDone, 17, 0, 1)
+            .answer(1, Value(5), 15, 0, 1),
+        KnownRun::new("M4", 2, 24, m4()).answer(0, Nothing, 17, 0, 1),
         KnownRun::new("M5", 4, 24, m5())
-            .answer(0, PutDone, 31, 1)
-            .answer(1, PutDone, 29, 1)
-            .answer(2, Value(10), 31, 2),
+            .answer(0, PutDone, 31, 0, 1)
+            .answer(1, PutDone, 29, 0, 1)
+            .answer(2, Value(10), 31, 0, 2),
         KnownRun::new("M6", 2, 24, m6(0, 1))
-            .answer(1, PutDone, 20, 1)
-            .answer(0, PutDone, 15, 1),
+            .answer(1, PutDone, 20, 1, 1)
+            .answer(0, PutDone, 15, 0, 1),
         KnownRun::new("M7", 2, 1, one_put().put(0, 2))
-            .answer(0, PutDone, 17, 1)
+            .answer(0, PutDone, 17, 0, 1)
             .refused(8, 18),
         KnownRun::new("M8", 2, 24, List::new().steps(0, 1)).refused(7, 0),
         KnownRun::new("M9", 2, 2, twice).refused(6, 1),
@@ -125,12 +133,12 @@ pub fn known_runs() -> Vec<KnownRun> {
             .refused(9, 17),
         KnownRun::new("M10, 16 bytes", 2, 24, one_put())
             .bytes(16)
-            .answer(0, PutDone, 17, 1),
+            .answer(0, PutDone, 17, 0, 1),
         KnownRun::new("M11, 41 words", 2, 1, one_put())
             .words(41)
             .refused(3, 0),
         KnownRun::new("M11, 42 words", 2, 1, one_put())
             .words(42)
-            .answer(0, PutDone, 17, 1),
+            .answer(0, PutDone, 17, 0, 1),
     ]
 }

@@ -8,6 +8,8 @@ pub mod check;
 pub mod demand3;
 pub mod forecast;
 pub mod growth;
+pub mod help_lists;
+pub mod helps;
 pub mod hostile;
 pub mod known_runs;
 pub mod linearizable;

@@ -51,6 +51,7 @@ impl Machine {
             operation,
             step: Step::A,
             steps: 0,
+            helps: 0,
         };
     }
 
@@ -60,20 +61,22 @@ impl Machine {
             operation,
             step,
             steps,
+            helps,
         } = self.process(process).activity
         else {
             panic!("a step needs a busy process");
         };
         let steps = steps + 1;
         let (activity, answer) = if step == Step::Q {
-            let answer = self.answer(process, operation, steps);
+            let answer = self.answer(process, operation, steps, helps);
             (Activity::Idle, Some(answer))
         } else {
-            let step = one_step(&mut self.memory, process, operation, step);
+            let stepped = one_step(&mut self.memory, process, operation, step);
             let busy = Activity::Busy {
                 operation,
-                step,
+                step: stepped.next,
                 steps,
+                helps: helps + u8::from(stepped.helped),
             };
             (busy, None)
         };
@@ -82,7 +85,7 @@ impl Machine {
     }
 
     /// Q: the answer of the process's last operation.
-    fn answer(&self, process: u32, operation: Operation, steps: u16) -> Answer {
+    fn answer(&self, process: u32, operation: Operation, steps: u8, helps: u8) -> Answer {
         let tree = &self.memory.tree;
         let serial = self.process(process).begun;
         let given = Given {
@@ -94,6 +97,7 @@ impl Machine {
             process,
             outcome: outcome(tree, given, operation.kind(), root_block),
             steps,
+            helps,
             serial,
             root_block,
         }

@@ -22,10 +22,13 @@ impl Memory {
         self.heads[node as usize]
     }
 
-    pub fn raise_head(&mut self, node: u32, from: u32) {
-        if self.head(node) == from {
+    /// Whether the head was at that place, so that it was raised.
+    pub fn raise_head(&mut self, node: u32, from: u32) -> bool {
+        let moved = self.head(node) == from;
+        if moved {
             self.heads[node as usize] = from + 1;
         }
+        moved
     }
 
     pub fn set_super(&mut self, node: u32, place: u32, superblock: u32) {

@@ -37,11 +37,12 @@ fn line(answer: Answer) -> String {
     let Answer {
         process,
         steps,
+        helps,
         serial,
         root_block,
         ..
     } = answer;
-    let numbers = format!("{process} {serial} {steps} {root_block}");
+    let numbers = format!("{process} {serial} {steps} {helps} {root_block}");
     match answer.outcome {
         Outcome::PutDone => format!("put {numbers}\n"),
         Outcome::Value(value) => format!("take {numbers} {value}\n"),

@@ -29,6 +29,13 @@ pub enum Then {
     EndRefresh { refresh: Refresh, success: bool },
 }
 
+impl Then {
+    /// Whether the advance is of a child's block inside a refresh; to move that head is a help.
+    pub fn is_help(self) -> bool {
+        matches!(self, Then::R4 { .. } | Then::C1 { .. })
+    }
+}
+
 /// The advance of a node's block at a place.
 #[derive(Clone, Copy, PartialEq, Eq, Hash, Debug)]
 pub struct Advance {
@@ -122,7 +129,9 @@ pub enum Activity {
         operation: Operation,
         step: Step,
         /// Own steps of the operation so far.
-        steps: u16,
+        steps: u8,
+        /// Heads of children that it has moved inside refreshes.
+        helps: u8,
     },
 }
 

@@ -80,7 +80,9 @@ pub struct Answer {
     pub process: u32,
     pub outcome: Outcome,
     /// Own steps of the operation, A to Q.
-    pub steps: u16,
+    pub steps: u8,
+    /// Heads of children that it moved inside refreshes.
+    pub helps: u8,
     pub serial: u32,
     pub root_block: u32,
 }
@@ -95,7 +97,8 @@ impl Answer {
         let mut bytes = [0; ANSWER_RECORD_BYTES];
         bytes[0] = byte_of(self.process);
         bytes[1] = kind;
-        bytes[2..4].copy_from_slice(&self.steps.to_le_bytes());
+        bytes[2] = self.steps;
+        bytes[3] = self.helps;
         bytes[4..8].copy_from_slice(&value.to_le_bytes());
         bytes[8..12].copy_from_slice(&self.serial.to_le_bytes());
         bytes[12..16].copy_from_slice(&self.root_block.to_le_bytes());
@@ -114,7 +117,8 @@ impl Answer {
         Some(Answer {
             process: u32::from(bytes[0]),
             outcome,
-            steps: u16::from_le_bytes([bytes[2], bytes[3]]),
+            steps: bytes[2],
+            helps: bytes[3],
             serial: low_first_32(&bytes[8..12]),
             root_block: low_first_32(&bytes[12..16]),
         })

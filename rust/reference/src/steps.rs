@@ -40,9 +40,19 @@ fn end_advance(advance: Advance) -> Step {
     }
 }
 
-/// Does one named step other than Q and gives the step that follows it.
-pub fn one_step(memory: &mut Memory, process: u32, operation: Operation, step: Step) -> Step {
-    match step {
+/// What one step comes to.
+#[derive(Clone, Copy, PartialEq, Eq, Debug)]
+pub struct Stepped {
+    /// The step that follows.
+    pub next: Step,
+    /// Whether it moved the head of a child inside a refresh.
+    pub helped: bool,
+}
+
+/// Does one named step other than Q.
+pub fn one_step(memory: &mut Memory, process: u32, operation: Operation, step: Step) -> Stepped {
+    let mut helped = false;
+    let next = match step {
         Step::A => append(memory, process, operation),
         Step::V1 { advance } => {
             let parent_head = memory.head(parent(advance.node));
@@ -59,11 +69,13 @@ pub fn one_step(memory: &mut Memory, process: u32, operation: Operation, step: S
             Step::V3 { advance }
         }
         Step::V3 { advance } => {
-            memory.raise_head(advance.node, advance.place);
+            let moved = memory.raise_head(advance.node, advance.place);
+            helped = moved && advance.then.is_help();
             end_advance(advance)
         }
         refreshing => refresh_step(memory, refreshing),
-    }
+    };
+    Stepped { next, helped }
 }
 
 /// A: the new block in the own leaf at its head.

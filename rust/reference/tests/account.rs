@@ -46,6 +46,7 @@ fn begins_ends_and_steps() {
             (false, false, 0)
         ]
     );
+    assert_eq!(asked.map(|x| account.own_helps(x)), [0; 5]);
     let (put, take) = (Operation::Put, Operation::Take);
     assert_eq!(
         asked.map(|x| account.does(x)),
@@ -78,12 +79,32 @@ fn what_each_record_does() {
     let events = account.events();
     assert_eq!(events.len(), 38);
     assert_eq!(events[0], Event::Opens(name(0, 1), Operation::Put(5)));
-    assert_eq!(events[1..17], [Event::Moves(name(0, 1)); 16]);
+    assert_eq!(events[1..17], [Event::Moves(name(0, 1), false); 16]);
     assert_eq!(events[17], Event::Finishes(name(0, 1)));
     assert_eq!(events[18], Event::Opens(name(1, 1), Operation::Take));
-    assert_eq!(events[19..35], [Event::Moves(name(1, 1)); 16]);
+    assert_eq!(events[19..35], [Event::Moves(name(1, 1), false); 16]);
     assert_eq!(events[35], Event::Opens(name(0, 2), Operation::Put(6)));
-    assert_eq!(events[36..], [Event::Moves(name(0, 2)); 2]);
+    assert_eq!(events[36..], [Event::Moves(name(0, 2), false); 2]);
+}
+
+/// In M6 the 10th step of process 1, record 12, moves the head of the other leaf.
+#[test]
+fn the_record_that_helps() {
+    let account_of = |list: &[u8]| Account::of(Shape::new(2, 2).unwrap(), list).unwrap();
+    let list = m6(0, 1).put(1, 7).steps(1, 17).bytes();
+    let account = account_of(&list);
+    let helps = |event: &Event| matches!(event, Event::Moves(_, true));
+    let events = account.events();
+    assert_eq!(events[12], Event::Moves(name(1, 1), true));
+    assert_eq!(events.iter().filter(|event| helps(event)).count(), 1);
+    let asked = [name(0, 1), name(1, 1), name(1, 2), name(0, 2)];
+    assert_eq!(asked.map(|x| account.own_helps(x)), [0, 1, 0, 0]);
+    // An operation that has not finished has its helps too.
+    for (taken, helps) in [(12, 0), (13, 1)] {
+        let account = account_of(&list[..8 * taken]);
+        assert!(!account.is_finished(name(1, 1)));
+        assert_eq!(account.own_helps(name(1, 1)), helps);
+    }
 }
 
 #[test]

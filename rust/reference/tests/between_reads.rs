@@ -4,8 +4,9 @@ use crate::support::{run_with, written};
 use reference::between_reads::between_reads;
 use reference::records::{Answer, ANSWER_RECORD_BYTES};
 
-/// Root blocks 1 and 2, and of each answer the process, own steps and root block.
-type Left = ([[u32; 6]; 2], [(u32, u16, u32); 2]);
+/// Root blocks 1 and 2, and of each answer the process, own steps and root block. There are no
+/// helps.
+type Left = ([[u32; 6]; 2], [(u32, u8, u32); 2]);
 
 const LEFT: [Left; 5] = [
     // Only the put of process 1 is below the ends, and then both.
@@ -38,7 +39,10 @@ fn what_is_left() {
         let answers = written(&after).chunks_exact(ANSWER_RECORD_BYTES);
         let answers = answers.map(|bytes| Answer::read(bytes).unwrap());
         let found: Vec<_> = answers
-            .map(|answer| (answer.process, answer.steps, answer.root_block))
+            .map(|answer| {
+                assert_eq!(answer.helps, 0, "{told}");
+                (answer.process, answer.steps, answer.root_block)
+            })
             .collect();
         assert_eq!(found, ends, "{told}");
     }

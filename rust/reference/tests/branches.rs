@@ -9,15 +9,17 @@ use reference::schedules::{schedule, Pace, Plan};
 use reference::tree::{left_child, right_child, Shape, Tree, ROOT};
 use std::collections::BTreeMap;
 
-const CASES: [&str; 23] = [
+const CASES: [&str; 25] = [
     "V1 of a help reads another head than R1",
     "V2 sets super",
     "V2 finds super set to its own number",
     "V2 finds super set to another number",
     "V3 of the own leaf finds it raised",
     "V3 of the own leaf raises",
-    "V3 of a help finds it raised",
-    "V3 of a help raises",
+    "V3 of a help on the left finds it raised",
+    "V3 of a help on the left raises",
+    "V3 of a help on the right finds it raised",
+    "V3 of a help on the right raises",
     "V3 of the node finds it raised",
     "V3 of the node raises",
     "R3 finds the block absent",
@@ -69,7 +71,8 @@ fn case(memory: &Memory, step: Step, next: Option<Step>) -> Option<String> {
 fn raise_case(memory: &Memory, advance: Advance) -> String {
     let whose = match advance.then {
         Then::RefreshParent => "the own leaf",
-        Then::R4 { .. } | Then::C1 { .. } => "a help",
+        Then::R4 { .. } => "a help on the left",
+        Then::C1 { .. } => "a help on the right",
         Then::EndRefresh { .. } => "the node",
     };
     let raises = memory.head(advance.node) == advance.place;

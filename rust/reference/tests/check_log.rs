@@ -2,6 +2,7 @@
 
 use crate::support::{check_with, mixed_list, needed, pattern_bytes, run_amply, written, SPARE};
 use reference::check::CheckResult;
+use reference::known_runs::m6;
 use reference::lists::List;
 
 const SAME: CheckResult = CheckResult {
@@ -55,6 +56,23 @@ fn a_changed_byte_is_found_at_its_record() {
                 log[byte] ^= change;
                 assert_check(p, l, &list, &log, differs(byte / 16));
             }
+        }
+    }
+}
+
+/// M6: its log begins with 20 steps and 1 help, then come 15 and 0.
+#[test]
+fn steps_alone_and_helps_alone() {
+    let list = m6(0, 1).bytes();
+    let log = written(&run_amply(2, 1, &list)).to_vec();
+    for (record, counts) in [[20, 1], [15, 0]].into_iter().enumerate() {
+        assert_eq!(log[16 * record + 2..16 * record + 4], counts);
+        let [steps, helps] = counts;
+        let off = [steps + 1, helps];
+        for changed in [off, [steps - 1, helps], [steps, helps ^ 1], [helps, steps]] {
+            let mut log = log.clone();
+            log[16 * record + 2..16 * record + 4].copy_from_slice(&changed);
+            assert_check(2, 1, &list, &log, differs(record));
         }
     }
 }

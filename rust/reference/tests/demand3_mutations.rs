@@ -2,6 +2,7 @@
 
 use crate::support::{block_words, one_by_one, run_amply, written};
 use reference::demand3::{check, check_within, step_limit, Name, Violation};
+use reference::known_runs::m6;
 use reference::order::root_order;
 use reference::records::Outcome;
 use reference::refusal::Refusal;
@@ -20,7 +21,10 @@ struct Left {
 
 impl Left {
     fn good() -> Left {
-        let records = one_by_one();
+        Left::of(one_by_one())
+    }
+
+    fn of(records: Vec<u8>) -> Left {
         let after = run_amply(P, L, &records);
         let answers = written(&after).to_vec();
         let table = after.table;
@@ -98,6 +102,22 @@ fn a_changed_step_count() {
             counted: 17,
         },
     );
+}
+
+/// M6, where process 1 answers first, after 20 steps and 1 help.
+#[test]
+fn a_changed_help_count() {
+    let helped = || Left::of(m6(0, 1).bytes());
+    assert_eq!(helped().check(), Ok(()));
+    for (answer, helps, counted) in [(0, 0, 1), (0, 2, 1), (1, 1, 0)] {
+        let mut left = helped();
+        left.answer(answer)[3] = helps;
+        assert_violation(&left, Violation::AnswerHelps { answer, counted });
+    }
+    let mut left = helped();
+    left.answer(0).swap(2, 3);
+    let (answer, counted) = (0, 20);
+    assert_violation(&left, Violation::AnswerSteps { answer, counted });
 }
 
 #[test]

@@ -6,11 +6,12 @@ use reference::process::STEP_NAMES;
 use reference::run::run;
 use reference::schedules::{schedule, Pace, Plan};
 
-/// Records played, operations finished and operations left unfinished.
+/// Records played, operations finished, how many of them helped, and operations left unfinished.
 #[derive(Default)]
 struct Totals {
     records: u64,
     finished: u64,
+    helping: u64,
     unfinished: u64,
 }
 
@@ -26,6 +27,7 @@ fn assert_demand3(plan: &Plan, totals: &mut Totals) {
     assert_eq!(check(p, l, &list, written, &table), Ok(()), "{plan:?}");
     totals.records += result.taken;
     totals.finished += result.answers;
+    totals.helping += written.chunks_exact(16).filter(|a| a[3] != 0).count() as u64;
     let begun = list.chunks_exact(8).filter(|record| record[1] != 0).count() as u64;
     totals.unfinished += begun - result.answers;
 }
@@ -42,13 +44,14 @@ fn assert_every_shape(pace: Pace, seeds: u64) -> Totals {
 
 #[test]
 fn uniform() {
-    assert!(assert_every_shape(Pace::Uniform, 40).records > 2_000_000);
+    let totals = assert_every_shape(Pace::Uniform, 40);
+    assert!(totals.records > 2_000_000 && totals.helping > 0);
 }
 
 #[test]
 fn bursts() {
-    assert_every_shape(Pace::Bursts(5), 4);
-    assert_every_shape(Pace::Bursts(60), 4);
+    assert!(assert_every_shape(Pace::Bursts(5), 4).helping > 0);
+    assert!(assert_every_shape(Pace::Bursts(60), 4).helping > 0);
 }
 
 #[test]
@@ -58,7 +61,7 @@ fn lockstep() {
 
 #[test]
 fn one_at_a_time() {
-    assert_every_shape(Pace::OneAtATime, 4);
+    assert_eq!(assert_every_shape(Pace::OneAtATime, 4).helping, 0);
 }
 
 /// Stops at each named step.
@@ -69,6 +72,7 @@ fn assert_stalls(p: u32) {
             assert_demand3(&plan, &mut totals);
         }
         assert!(totals.finished > 0 && totals.unfinished > 0, "{step:?}");
+        assert!(totals.helping > 0, "{step:?}");
     }
 }
 

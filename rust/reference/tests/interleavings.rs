@@ -29,7 +29,8 @@ struct Search {
     seen: HashSet<u64>,
     /// The answer logs of the ends.
     logs: HashSet<Vec<Answer>>,
-    most_steps: u16,
+    most_steps: u8,
+    most_helps: u8,
     met: Met,
     /// Records that made a root order longer that was not empty.
     grown: usize,
@@ -44,6 +45,7 @@ impl Search {
             seen: HashSet::new(),
             logs: HashSet::new(),
             most_steps: 0,
+            most_helps: 0,
             met: Met::default(),
             grown: 0,
             every_state,
@@ -93,8 +95,10 @@ impl Search {
         }
         if end {
             self.logs.insert(state.answers.clone());
-            let most = state.answers.iter().map(|answer| answer.steps).max();
-            self.most_steps = self.most_steps.max(most.unwrap_or(0));
+            for answer in &state.answers {
+                self.most_steps = self.most_steps.max(answer.steps);
+                self.most_helps = self.most_helps.max(answer.helps);
+            }
         }
         if end || self.every_state {
             let table = table_of(&state.machine);
@@ -169,6 +173,7 @@ fn one_put_and_one_take_of_two_processes() {
         (2, 1, "Nothing".to_string()),
     ];
     assert_eq!(endings(&search), BTreeSet::from(expected));
+    assert_eq!(search.most_helps, 1);
 }
 
 #[test]
@@ -177,6 +182,7 @@ fn other_pairs_of_kinds() {
         let operations = pair.iter().map(|&operation| vec![operation]).collect();
         let search = Search::new(operations, true).explore(2, 1);
         assert_states(&search, 2000, 0..1);
+        assert_eq!(search.most_helps, 1);
     }
 }
 
@@ -186,6 +192,8 @@ fn two_operations_against_one() {
         for one in [OTHER, TAKE] {
             let search = Search::new(vec![two.to_vec(), vec![one]], true).explore(2, 2);
             assert_states(&search, 15_000, 0..1);
+            // One for each refresh that the process with one operation needs.
+            assert_eq!(search.most_helps, 2);
         }
     }
 }
@@ -196,6 +204,7 @@ fn two_operations_against_two() {
     let search = Search::new(operations, false).explore(2, 2);
     assert_states(&search, 400_000, 0..1);
     assert!(search.logs.len() > 1000, "{} logs", search.logs.len());
+    assert_eq!(search.most_helps, 2);
 }
 
 /// A put by process 0 and a take by another process of a larger tree.
@@ -207,8 +216,10 @@ fn assert_distant_pair(p: u32, taker: usize) {
     // Below the node where they meet each has its nodes alone.
     let met = taker.ilog2() as usize..p.ilog2() as usize;
     assert_states(&search, 3000, met);
-    let limit = 40 * p.ilog2() as u16 + 1;
+    let limit = 40 * p.ilog2() as u8 + 1;
     assert!(search.most_steps <= limit);
+    // Where they meet one moves a head for the other.
+    assert_eq!(search.most_helps, 1);
 }
 
 #[test]

@@ -113,8 +113,8 @@ fn m6_exchanged() {
     let played = played(2, 24, m6(1, 0));
     let answers = played.answers.iter();
     let answers: Vec<_> = answers
-        .map(|a| (a.process, a.steps, a.root_block))
+        .map(|a| (a.process, a.steps, a.helps, a.root_block))
         .collect();
-    assert_eq!(answers, [(0, 20, 1), (1, 15, 1)]);
+    assert_eq!(answers, [(0, 20, 1, 1), (1, 15, 0, 1)]);
     assert_eq!(played.machine.memory.head(3), 2);
 }

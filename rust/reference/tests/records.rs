@@ -58,7 +58,8 @@ fn answer_records_low_byte_first() {
     let mut answer = Answer {
         process: 5,
         outcome: Outcome::Value(0x0807_0605),
-        steps: 0x0403,
+        steps: 3,
+        helps: 4,
         serial: 0x0c0b_0a09,
         root_block: 0x100f_0e0d,
     };
@@ -69,6 +70,25 @@ fn answer_records_low_byte_first() {
     assert_eq!(answer.bytes()[..8], [5, 3, 3, 4, 0, 0, 0, 0]);
     answer.outcome = Outcome::PutDone;
     assert_eq!(answer.bytes()[..8], [5, 1, 3, 4, 0, 0, 0, 0]);
+}
+
+/// Each of the two counts has its own byte, at every value.
+#[test]
+fn steps_and_helps_of_answers() {
+    for steps in 0..=255 {
+        for helps in [0, 1, 12, 255] {
+            let answer = Answer {
+                process: 1,
+                outcome: Outcome::PutDone,
+                steps,
+                helps,
+                serial: 1,
+                root_block: 1,
+            };
+            assert_eq!(answer.bytes()[2..4], [steps, helps]);
+            assert_eq!(Answer::read(&answer.bytes()), Some(answer));
+        }
+    }
 }
 
 #[test]

@@ -1,7 +1,7 @@
-//! Each step alone: what it changes in the memory and what it reads into registers.
+//! Each step alone: what it changes in the memory, what it reads into registers and what it counts.
 
 use reference::machine::Machine;
-use reference::process::{Step, STEP_NAMES};
+use reference::process::{Activity, Step, STEP_NAMES};
 use reference::records::{Act, Operation, StepRecord};
 use reference::run::play_record;
 use reference::schedules::{schedule, Ending, Pace, Plan};
@@ -154,7 +154,23 @@ fn assert_decision(before: &Machine, step: Step, next: Step) {
     assert_eq!(built, (old.puts, old.takes) != (puts, takes), "{step:?}");
 }
 
-/// One record: its effect on the memory, its reads, and nothing in other processes.
+/// One step more, and one help more if it raised a head and its refresh goes on with R4 or C1; both
+/// are 0 after a begin.
+fn assert_counts(before: &Machine, after: &Machine, process: u32, raised: bool) {
+    let counts = |machine: &Machine| match machine.process(process).activity {
+        Activity::Busy { steps, helps, .. } => Some((steps, helps)),
+        Activity::Idle => None,
+    };
+    let next = after.next_step(process);
+    let helped = raised && matches!(next, Some(Step::R4 { .. } | Step::C1 { .. }));
+    let expected = match counts(before) {
+        None => Some((0, 0)),
+        Some((steps, helps)) => next.map(|_| (steps + 1, helps + u8::from(helped))),
+    };
+    assert_eq!(counts(after), expected);
+}
+
+/// One record: its effect on the memory, its reads and counts, and nothing in other processes.
 fn assert_effect(before: &Machine, after: &Machine, operation: Operation, record: StepRecord) {
     let process = record.process;
     for other in (0..before.shape().p()).filter(|&other| other != process) {
@@ -162,10 +178,12 @@ fn assert_effect(before: &Machine, after: &Machine, operation: Operation, record
     }
     let Some(step) = before.next_step(process) else {
         assert_eq!(before.memory, after.memory);
+        assert_counts(before, after, process, false);
         return;
     };
     let effect = expected(before, process, operation, step);
     assert_eq!(changes(before, after), effect, "{step:?}");
+    assert_counts(before, after, process, !effect.1.is_empty());
     let Some(next) = after.next_step(process) else {
         return;
     };

@@ -13,6 +13,7 @@ mod forecast_runs;
 mod former_order;
 mod growth_mutations;
 mod growth_runs;
+mod helps;
 mod interleavings;
 mod known_runs;
 mod lengths;

@@ -1,13 +1,16 @@
-//! Wrong step rules: the checkers of superblocks and of growth see what they leave.
+//! Wrong step rules: the checkers of superblocks and of growth see what they leave. Wrong rules of
+//! counting helps: the checker of demand 3 sees what they write.
 
-use crate::support::{subblock_at, table_of};
+use crate::support::{run_amply, subblock_at, table_of};
+use reference::demand3::{check, Violation};
 use reference::growth::{grows, Departure, Past};
+use reference::help_lists::{help_lists, HelpList};
 use reference::known_runs::m6;
 use reference::lists::List;
 use reference::machine::Machine;
 use reference::memory::Memory;
-use reference::process::{Activity, Step};
-use reference::records::StepRecord;
+use reference::process::{Activity, Step, Then};
+use reference::records::{Act, Answer, StepRecord};
 use reference::run::play_record;
 use reference::superblocks::supers_near;
 use reference::tree::{Block, Shape};
@@ -127,4 +130,117 @@ fn with_a_block_written_over_the_past_changes() {
     assert_eq!(goes_on(RIGHT), Ok(()));
     let entry = 0;
     assert_eq!(goes_on(BLOCK_WRITTEN_OVER), Err(Departure::Order { entry }));
+}
+
+/// A rule of counting helps.
+#[derive(Clone, Copy)]
+struct Counting {
+    /// Whether an advance counts, by what follows it and whether its V3 moves the head.
+    counts: fn(Then, bool) -> bool,
+    /// Whether a begin sets the count back.
+    set_back: bool,
+}
+
+const RIGHT_COUNT: Counting = Counting {
+    counts: |then, moves| moves && then.is_help(),
+    set_back: true,
+};
+
+/// A help counts although another has moved the head.
+const MOVED_BY_ANOTHER: Counting = Counting {
+    counts: |then, _| then.is_help(),
+    ..RIGHT_COUNT
+};
+
+/// The advance of the own leaf counts too.
+const OWN_LEAF: Counting = Counting {
+    counts: |then, moves| moves && (then.is_help() || then == Then::RefreshParent),
+    ..RIGHT_COUNT
+};
+
+/// The advance of the refreshed node counts too.
+const REFRESHED_NODE: Counting = Counting {
+    counts: |then, moves| moves && then != Then::RefreshParent,
+    ..RIGHT_COUNT
+};
+
+/// The advance of the refreshed node counts after a refresh that failed.
+const FAILED_REFRESH: Counting = Counting {
+    counts: |then, moves| {
+        let failed = matches!(then, Then::EndRefresh { success: false, .. });
+        moves && (then.is_help() || failed)
+    },
+    ..RIGHT_COUNT
+};
+
+const LEFT_ALONE: Counting = Counting {
+    counts: |then, moves| moves && matches!(then, Then::R4 { .. }),
+    ..RIGHT_COUNT
+};
+
+const RIGHT_ALONE: Counting = Counting {
+    counts: |then, moves| moves && matches!(then, Then::C1 { .. }),
+    ..RIGHT_COUNT
+};
+
+const NOT_SET_BACK: Counting = Counting {
+    set_back: false,
+    ..RIGHT_COUNT
+};
+
+/// The log of a list whose helps are counted by such a rule.
+fn log_by(counting: Counting, shape: Shape, list: &[u8]) -> Vec<u8> {
+    let mut machine = Machine::start(shape);
+    let mut helps = [0; 8];
+    let mut log = Vec::new();
+    for bytes in list.chunks_exact(8) {
+        let record = StepRecord::read(bytes, shape.p()).unwrap();
+        let helps = &mut helps[record.process as usize];
+        if record.act != Act::Step && counting.set_back {
+            *helps = 0;
+        }
+        if let Some(Step::V3 { advance }) = machine.next_step(record.process) {
+            let moves = machine.memory.head(advance.node) == advance.place;
+            *helps += u8::from((counting.counts)(advance.then, moves));
+        }
+        if let Some(answer) = play_record(&mut machine, record) {
+            let helps = *helps;
+            log.extend(Answer { helps, ..answer }.bytes());
+        }
+    }
+    log
+}
+
+/// What the checker of demand 3 says of the log.
+fn judged(counting: Counting, fixed: &HelpList) -> Result<(), Violation> {
+    let (p, l, list) = (fixed.p, fixed.l, fixed.list.clone().bytes());
+    let log = log_by(counting, Shape::new(p, l).unwrap(), &list);
+    check(p, l, &list, &log, &run_amply(p, l, &list).table)
+}
+
+#[test]
+fn with_helps_counted_otherwise_an_answer_is_wrong() {
+    for fixed in help_lists() {
+        assert_eq!(judged(RIGHT_COUNT, &fixed), Ok(()), "{}", fixed.about);
+    }
+    let [left, right, left_moved, right_moved, next, _, inner, inner_moved, failed] = help_lists();
+    // The first answer that is wrong, and its helps by the rules.
+    for (counting, fixed, answer, counted) in [
+        (MOVED_BY_ANOTHER, &left_moved, 0, 0),
+        (MOVED_BY_ANOTHER, &right_moved, 0, 0),
+        (MOVED_BY_ANOTHER, &inner_moved, 0, 0),
+        (OWN_LEAF, &left, 0, 1),
+        (OWN_LEAF, &inner_moved, 0, 0),
+        (REFRESHED_NODE, &left, 0, 1),
+        (REFRESHED_NODE, &inner_moved, 0, 0),
+        (FAILED_REFRESH, &failed, 0, 0),
+        (LEFT_ALONE, &right, 0, 1),
+        (LEFT_ALONE, &inner, 0, 2),
+        (RIGHT_ALONE, &left, 0, 1),
+        (RIGHT_ALONE, &inner, 0, 2),
+        (NOT_SET_BACK, &next, 2, 0),
+    ] {
+        let wrong = Err(Violation::AnswerHelps { answer, counted });
+        assert_eq!(judged(counting, fixed), wrong, "{}", fixed.about);
+    }
 }

@@ -11,7 +11,8 @@ use Rattle.tree.specs.Contracts.SoundTree.{SoundTree}
 
 -- the answer record of process k, which is q before its step Q
 abbrev pub recordOf : ℕ → Process → Reply → ℕ → AnswerRecord
-recordOf k q reply block = record { process = k; reply = reply; steps = q .steps + 1; serial = q .begun; block = block }
+recordOf k q reply block =
+    record { process = k; reply = reply; steps = q .steps + 1; helps = q .helps; serial = q .begun; block = block }
 
 -- in a tree of shape s and the height given, root block b is present, and i is the number of a take there, from 1
 pub record TakeAt (starts table : List ℕ) (height b i : ℕ) (s : Shape) (heads : List ℕ) : Type 0 where

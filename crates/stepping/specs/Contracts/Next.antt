@@ -14,6 +14,7 @@ use Rattle.steps.specs.declared.Status.the-variants.{Idle, Busy}
 use Rattle.steps.specs.declared.Step.{Step}
 use Rattle.steps.specs.declared.Step.the-variants.{A, V1, V2, V3, R1, R2, R3, R4, R5, C1, C2, C3L, C3R, C3N, C4, Q}
 use Rattle.steps.specs.Rules.{sameTotals, step, go}
+use Rattle.steps.specs.Machine.{stepped}
 use Rattle.tree.specs.Contracts.Access.{Begins, nodeBlock}
 use Rattle.tree.specs.Memory.{memoryOf}
 
@@ -60,11 +61,11 @@ abbrev pub stepIn : Status → Step
 stepIn Idle = A
 stepIn (Busy o n) = n
 
--- a process after a step of operation o, with step n next
+-- a process after a step of operation o that is no help, with step n next
 abbrev pub moved : Process → Operation → Step → Process
-moved q o n = record { status = Busy o n; begun = q .begun; steps = q .steps + 1 }
+moved q o n = record { status = Busy o n; begun = q .begun; steps = q .steps + 1; helps = q .helps }
 
--- process q has become r by a step: it is inside of the same operation, with one own step more
+-- process q has become r by such a step: it is inside of the same operation, with one own step more
 abbrev pub Moves : Process → Process → Type 0
 Moves q r = r ≡ moved q (operationIn (q .status)) (stepIn (r .status))
 
@@ -73,6 +74,12 @@ abbrev pub NextByHeads : List ℕ → List ℕ → Process → Process → Type 
 NextByHeads heads heads' q r = Moves q r × ((s : Shape) (k : ℕ) (o : Operation) (table : List ℕ)
     → step s k o (memoryOf table heads) (stepIn (q .status))
     ≡ go s k o (memoryOf table heads) (memoryOf table heads') (stepIn (r .status)))
+
+-- q becomes r by a step that looks at these heads alone, leaves heads', and tells whether it was a help: r counts what
+-- it tells
+abbrev pub NextTelling : List ℕ → List ℕ → Process → Process → Type 0
+NextTelling heads heads' q r = (s : Shape) (k : ℕ) (table : List ℕ)
+    → let z = step s k (operationIn (q .status)) (memoryOf table heads) (stepIn (q .status)) in (r ≡ stepped q z) × (z .memory ≡ memoryOf table heads')
 
 -- q becomes r by a step that looks at this table alone, by the starts of its parts, and leaves table'
 abbrev pub NextByTable : List ℕ → List ℕ → List ℕ → Process → Process → Type 0
@@ -87,6 +94,9 @@ AtName Each q Next Same = Each (λ n. stepIn (q .status) ≡ n → Next) × (Eac
 
 abbrev pub StepsByHeads : ((Step → Type 0) → Type 0) → List ℕ → List ℕ → Process → Process → Type 0
 StepsByHeads Each heads heads' q r = AtName Each q (NextByHeads heads heads' q r) ((r ≡ q) × (heads' ≡ heads))
+
+abbrev pub StepsTelling : ((Step → Type 0) → Type 0) → List ℕ → List ℕ → Process → Process → Type 0
+StepsTelling Each heads heads' q r = AtName Each q (NextTelling heads heads' q r) ((r ≡ q) × (heads' ≡ heads))
 
 abbrev pub StepsByTable : ((Step → Type 0) → Type 0) → List ℕ → List ℕ → List ℕ → Process → Process → Type 0
 StepsByTable Each starts table table' q r = AtName Each q (NextByTable starts table table' q r) ((r ≡ q) × (table' ≡ table))

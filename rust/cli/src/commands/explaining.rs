@@ -7,6 +7,13 @@ use crate::refused::advice;
 use crate::tool::Tool;
 use otq::Refusal;
 
+/// What is counted as a help.
+const HELP: &str = "\
+A help is the move of a head for another process's block: refreshing a node, an operation finds a block
+at a child's head (R3, R5), and its V3 raises that head. If the V3 finds it raised already, that is no
+help; nor are the moves after A and C4, of the heads of the own leaf and of the refreshed node.
+";
+
 pub fn explain(tool: &mut Tool, given: &Given) -> Result<Status, Failure> {
     let word = given.files.first().map(|word| word.to_string_lossy());
     match word.as_deref() {
@@ -15,6 +22,7 @@ pub fn explain(tool: &mut Tool, given: &Given) -> Result<Status, Failure> {
             for sort in [STEP, ANSWER, ORDER] {
                 tool.line(layout(&sort))?;
             }
+            tool.line(HELP)?;
             tool.line(
                 "Numbers have their low byte first. Records follow each other, without a header.",
             )?;

@@ -58,8 +58,8 @@ const COMMANDS: [Command; 10] = [
         usage: "[-p P -L L] STEPS [--log OUT] [--whole] [--json]",
         about: "plays the steps, prints the answers, and writes the answer log",
         more: "A line an answer: put or take, process, serial of the operation in its process, own steps,\n\
-               root block, and for a take its value or `none`. Last `end`, the refusal number (0 for\n\
-               none) and the records taken.",
+               helps (heads that it moved for other processes' blocks), root block, and for a take its\n\
+               value or `none`. Last `end`, the refusal number (0 for none) and the records taken.",
         choices: &[&P, &L, &playing::LOG, &WHOLE, &JSON],
         files: (1, 1),
         proved: true,
@@ -112,9 +112,9 @@ const COMMANDS: [Command; 10] = [
         name: "trace",
         usage: "[-p P -L L] STEPS [--from N] [--to N] [--whole]",
         about: "tells what each record does",
-        more: "A line a record: its number, process and named step, what it read, and what it wrote or\n\
-               moved. It comes from the Rust version of the rules, whose table and answers are compared\n\
-               with the proved library before anything is printed.",
+        more: "A line a record: its number, process and named step, what it read, what it wrote or moved,\n\
+               and whom it helped. It comes from the Rust version of the rules, whose table and answers\n\
+               are compared with the proved library before anything is printed.",
         choices: &[&P, &L, &tracing::FROM, &tracing::TO, &WHOLE],
         files: (1, 1),
         proved: true,

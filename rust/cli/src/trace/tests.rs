@@ -2,6 +2,7 @@
 
 use super::{compare, Traced};
 use crate::list::List;
+use reference::records::Answer;
 
 fn list(text: &str) -> List {
     List::of_text(text)
@@ -35,12 +36,16 @@ fn other_answers() {
     let mut traced = Traced::start(&list).unwrap();
     (0..18).for_each(|_| drop(traced.next().unwrap()));
     assert_eq!(traced.compare(), Ok(()));
-    traced.answers[0].steps += 1;
-    let failure = traced.compare().unwrap_err();
-    assert!(
-        failure.message.ends_with("disagree on the answers"),
-        "{failure:?}"
-    );
+    let right = traced.answers[0];
+    let (steps, helps) = (right.steps + 1, right.helps + 1);
+    for wrong in [Answer { steps, ..right }, Answer { helps, ..right }] {
+        traced.answers[0] = wrong;
+        let failure = traced.compare().unwrap_err();
+        assert!(
+            failure.message.ends_with("disagree on the answers"),
+            "{failure:?}"
+        );
+    }
 }
 
 #[test]

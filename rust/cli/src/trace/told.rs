@@ -1,9 +1,10 @@
 //! What a record does, in words.
 
+use super::writers::Writers;
 use crate::words::count;
 use reference::machine::Machine;
 use reference::memory::Memory;
-use reference::process::{Activity, Attempt, Refresh, Step};
+use reference::process::{Activity, Advance, Attempt, Refresh, Step};
 use reference::records::{Act, Answer, Operation, Outcome, StepRecord};
 use reference::run::play_record;
 use reference::tree::{left_child, parent, right_child, Block, Shape, ROOT};
@@ -17,7 +18,7 @@ pub struct Told {
 }
 
 /// Plays a record, and tells what it did.
-pub fn play(machine: &mut Machine, record: StepRecord) -> Told {
+pub fn play(machine: &mut Machine, writers: &mut Writers, record: StepRecord) -> Told {
     let process = record.process;
     let busy = machine.next_step(process);
     let Some(step) = busy.filter(|_| record.act == Act::Step) else {
@@ -29,19 +30,18 @@ pub fn play(machine: &mut Machine, record: StepRecord) -> Told {
         process,
     };
     let seen = seen.step(step);
+    let helps = helps_of(machine, process);
     let answer = play_record(machine, record);
-    let did = match (step, answer, machine.next_step(process)) {
+    let next = machine.next_step(process);
+    writers.keep(process, step, next);
+    let did = match (step, answer, next) {
         (Step::A, ..) => written(machine, process),
+        (Step::V3 { advance }, ..) => {
+            let counted = helps_of(machine, process) > helps;
+            help(advance, counted, writers)
+        }
         (_, Some(answer), _) => ended(answer),
-        (_, _, Some(Step::C3N { totals: sums, .. })) => {
-            format!("; together {}", totals(sums.puts, sums.takes))
-        }
-        (Step::C3N { .. }, _, Some(Step::C4 { refresh, block, .. })) => {
-            let content = content(refresh.node, block);
-            format!("; there is more, so it builds a block: {content}")
-        }
-        (Step::C3N { .. }, ..) => "; there is no more, so the refresh has succeeded".to_string(),
-        _ => String::new(),
+        _ => built(step, next),
     };
     Told {
         name: format!("{:?}", step.name()),
@@ -82,10 +82,48 @@ fn written(machine: &Machine, process: u32) -> String {
     )
 }
 
+/// The helps so far of the operation that a process is inside of, as the rules count them.
+fn helps_of(machine: &Machine, process: u32) -> u8 {
+    match machine.process(process).activity {
+        Activity::Busy { helps, .. } => helps,
+        Activity::Idle => 0,
+    }
+}
+
+/// Whom a V3 helped, if it was counted as a help; else, in the advance of a child, that it was not.
+fn help(advance: Advance, counted: bool, writers: &Writers) -> String {
+    let Advance { node, place, then } = advance;
+    match counted {
+        // Never its own block: what a process wrote, it has advanced before it refreshes a node.
+        true => {
+            let helped = writers.of(node, place);
+            format!(": a help, moved the head of node {node} for process {helped}'s block")
+        }
+        false if then.is_help() => ": moved already, so it does not count as a help".to_string(),
+        false => String::new(),
+    }
+}
+
+/// What came of C3R and C3N.
+fn built(step: Step, next: Option<Step>) -> String {
+    match (step, next) {
+        (_, Some(Step::C3N { totals: sums, .. })) => {
+            format!("; together {}", totals(sums.puts, sums.takes))
+        }
+        (Step::C3N { .. }, Some(Step::C4 { refresh, block, .. })) => {
+            let content = content(refresh.node, block);
+            format!("; there is more, so it builds a block: {content}")
+        }
+        (Step::C3N { .. }, _) => "; there is no more, so the refresh has succeeded".to_string(),
+        _ => String::new(),
+    }
+}
+
 fn ended(answer: Answer) -> String {
     let Answer {
         serial,
         steps,
+        helps,
         root_block,
         outcome,
         ..
@@ -95,8 +133,8 @@ fn ended(answer: Answer) -> String {
         Outcome::Value(value) => format!("gets {value}"),
         Outcome::Nothing => "gets none".to_string(),
     };
-    let steps = count(steps.into(), "step");
-    format!("operation {serial} {got}, in root block {root_block}, after {steps}")
+    let (steps, helps) = (count(steps.into(), "step"), count(helps.into(), "help"));
+    format!("operation {serial} {got}, in root block {root_block}, after {steps} and {helps}")
 }
 
 /// What a process sees before its step.

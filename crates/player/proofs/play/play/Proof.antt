@@ -247,8 +247,9 @@ play-spec =
     (λ c. slot (c .before .before .before))
     arms.busy-q
     arms.ready-q
-    (λ c κs. (omega (arith, few-answers (c .before .before .before .before .before)), c .answer-of .ensures .1 .0, c .answer-of .ensures .1 .1))
-    (λ c κs. (omega (arith, few-answers (c .before .before .before .before .before .before .before)), c .before .before .answer-of .ensures .1 .0, c .before .before .answer-of .ensures .1 .1))
+    (λ c κs. (omega (arith, few-answers (c .before .before .before .before .before)), c .answer-of .ensures .1 .0, c .answer-of .ensures .1 .1, c .answer-of .ensures .1 .2))
+    (λ c κs.
+    (omega (arith, few-answers (c .before .before .before .before .before .before .before)), c .before .before .answer-of .ensures .1 .0, c .before .before .answer-of .ensures .1 .1, c .before .before .answer-of .ensures .1 .2))
     (λ c. record { fits = omega (arith, few-answers (c .before .before .before .before .before .before .before .before .before .before)) })
     (λ c κs. few-steps (c .before .before .before .before .before .before .before .before .before .before .before .before .before))
     (λ c. record { fits = omega (arith, slot (c .before .before .before .before .before .before .before .before .before .before .before .before .before .before)) })

@@ -39,6 +39,25 @@ put-number-requires-4 c κs =
     let a = c .before .before .before .before .before .before .before .before .before .before .before .before .before .before .before .before .before .before .args in
     omega (arith, numbers-length (a .a))
 
+cast-put-number-5 : tie.Need-cast-put-number-5
+cast-put-number-5 c = search needs
+
+put-number-requires-5 : tie.Need-put-number-requires-5
+put-number-requires-5 c κs =
+    let steps = c .before .before .before .before .before .before .before .before .before in
+    let process = steps .before .before .before .before .before .before .before .before .before .before in
+    let start = process .before .before .before .before in
+    omega (
+      arith,
+      numbers-length (start .args .a),
+      start .pre,
+      process .put-number .ensures .end,
+      process .put-number .kept,
+      steps .before .before .before .before .before .put-number2 .ensures .end,
+      steps .before .before .before .before .before .put-number2 .kept,
+      steps .put-number3 .ensures .end,
+    )
+
 same-length : tie.Need-same-length
 same-length c = search needs
 
@@ -46,12 +65,15 @@ returns : tie.Need-returns
 unfolding numberFields
 returns c =
     let block = c .before .before in
-    let steps = block .before .before .before .before .before in
+    let helps = block .before .before .before .before .before in
+    let steps = helps .before .before .before .before .before in
     let serial = steps .before .before .before .before .before in
     let process = serial .before .before .before .before .before in
     stored-then
+    (stored-then
     (stored-then (stored-then (process .put-number .ensures) (serial .put-number2 .ensures)) (steps .put-number3 .ensures))
-    (block .put-number4 .ensures)
+    (helps .put-number4 .ensures))
+    (block .put-number5 .ensures)
 
 pub put-numbers-spec : {M : Type 1} → statement M
 put-numbers-spec =
@@ -65,5 +87,7 @@ put-numbers-spec =
     put-number-requires-3
     cast-put-number-4
     put-number-requires-4
+    cast-put-number-5
+    put-number-requires-5
     same-length
     returns)

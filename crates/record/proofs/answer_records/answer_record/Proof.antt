@@ -27,11 +27,17 @@ byte-at-requires-2 c κs = search needs
 reply-for-requires : tie.Need-reply-for-requires
 reply-for-requires c κs = search needs
 
-add-half-at : tie.Need-add-half-at
-add-half-at c = search needs
+add-byte-at-2 : tie.Need-add-byte-at-2
+add-byte-at-2 c = search needs
 
-half-at-requires : tie.Need-half-at-requires
-half-at-requires c κs = search needs
+byte-at-requires-3 : tie.Need-byte-at-requires-3
+byte-at-requires-3 c κs = search needs
+
+add-byte-at-3 : tie.Need-add-byte-at-3
+add-byte-at-3 c = search needs
+
+byte-at-requires-4 : tie.Need-byte-at-requires-4
+byte-at-requires-4 c κs = search needs
 
 add-word-at-2 : tie.Need-add-word-at-2
 add-word-at-2 c = search needs
@@ -48,12 +54,13 @@ word-at-requires-3 c κs = search needs
 returns : tie.Need-returns
 unfolding answerRecord
 returns c =
-    let start = c .before .before .before .before .before .before .before .before .args in
+    let start = c .before .before .before .before .before .before .before .before .before .args in
     let b = start .answers .now in
     cc (
       take-take 1 16 (drop (start .at) b) (omega arith),
       part-of-part 1 1 16 (start .at) b (omega arith),
-      part-of-part 2 2 16 (start .at) b (omega arith),
+      part-of-part 1 2 16 (start .at) b (omega arith),
+      part-of-part 1 3 16 (start .at) b (omega arith),
       part-of-part 4 4 16 (start .at) b (omega arith),
       part-of-part 4 8 16 (start .at) b (omega arith),
       part-of-part 4 12 16 (start .at) b (omega arith),
@@ -69,8 +76,10 @@ answer-record-spec =
     word-at-requires
     byte-at-requires-2
     reply-for-requires
-    add-half-at
-    half-at-requires
+    add-byte-at-2
+    byte-at-requires-3
+    add-byte-at-3
+    byte-at-requires-4
     add-word-at-2
     word-at-requires-2
     add-word-at-3

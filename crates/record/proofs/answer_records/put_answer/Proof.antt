@@ -19,8 +19,8 @@ kind-small Nothing = omega arith
 reply-kind-requires : tie.Need-reply-kind-requires
 reply-kind-requires c κs = search needs
 
-put-head-requires : tie.Need-put-head-requires
-put-head-requires c κs = omega (arith, kind-small (c .before .before .before .args .a .reply))
+put-four-requires : tie.Need-put-four-requires
+put-four-requires c κs = omega (arith, kind-small (c .before .before .before .args .a .reply))
 
 add-put-word : tie.Need-add-put-word
 add-put-word c = search needs
@@ -54,7 +54,7 @@ put-answer-spec =
     tie.close
     (tie.spec
     reply-kind-requires
-    put-head-requires
+    put-four-requires
     add-put-word
     reply-value-requires
     put-word-requires

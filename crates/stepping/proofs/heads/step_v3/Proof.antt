@@ -1,8 +1,9 @@
 -- `heads::step_v3` meets its contract. Assumes nothing.
 use mathlib.Core.Path.{_≡_, refl, sym, _∙_}
-use Rattle.tree.specs.Memory.{headOf, raise}
+use mathlib.Core.List.{[]}
+use Rattle.tree.specs.Memory.{memoryOf, headOf, headIs, raise}
 use Rattle.steps.specs.declared.Step.the-variants.{V3}
-use Rattle.steps.specs.Rules.{step, go}
+use Rattle.steps.specs.Rules.{step, goTelling}
 use Rattle.stepping.specs.Contracts.Next.{stepIn}
 use Rattle.stepping.proofs.StepNames.{other, busy}
 use borrow.Author.Needs.{needs}
@@ -22,22 +23,31 @@ returns : tie.Need-returns
 returns c = (λ _ _ _ _ e. absurd (other (c .match .keys2) (c .before .step-in .ensures ∙ e) tt), λ _. (refl, refl))
 
 raise-requires : tie.Need-raise-requires
-raise-requires c κs = let p = c .before .before .before .before .before .before .pre .1 _ _ _ _ (at (c .before .before)) in search needs
+raise-requires c κs = let p = c .before .before .before .before .before .before .pre .2 _ _ _ _ (at (c .before .before)) in search needs
 
 resume-requires : tie.Need-resume-requires
 resume-requires c κs = search needs
 
-moved-requires : tie.Need-moved-requires
-moved-requires c κs = (search needs, busy _ (at (c .before .before .before .before .before .before)) tt)
+help-of-requires : tie.Need-help-of-requires
+help-of-requires c κs = search needs
+
+moved-telling-requires : tie.Need-moved-telling-requires
+moved-telling-requires c κs = (search needs, search needs, busy _ (at (c .before .before .before .before .before .before .before)) tt)
 
 same-length : tie.Need-same-length
 same-length c = search needs
 
 returns-2 : tie.Need-returns-2
-unfolding step go raise headOf
+unfolding step goTelling raise headIs headOf
 returns-2 c =
-    let here = at (c .before .before .before .before .before .before .before) in
-    (λ _ _ _ _ _. rw (c .moved .ensures) (refl, λ s k o table. rw (here, c .before .resume .ensures, c .before .before .before .before .raise .ensures)), λ no. absurd (no _ _ _ _ here))
+    let here = at (c .before .before .before .before .before .before .before .before) in
+    let r = c .before .before .before .before .before .raise in (
+      λ _ _ _ _ _ s k table. (
+        c .moved-telling .ensures s k (memoryOf table []) (memoryOf table []) ∙ rw (here, c .before .before .resume .ensures, c .before .help-of .ensures, r .ensures .1),
+        rw (here, r .ensures .0),
+      ),
+      λ no. absurd (no _ _ _ _ here),
+    )
 
 pub step-v3-spec : {M : Type 1} → statement M
 step-v3-spec =
@@ -48,6 +58,7 @@ step-v3-spec =
     returns
     raise-requires
     resume-requires
-    moved-requires
+    help-of-requires
+    moved-telling-requires
     same-length
     returns-2)

@@ -1,6 +1,7 @@
 -- `heads::raise` meets its contract. Assumes nothing.
+use mathlib.Core.Path.{refl}
 use borrow.Author.Tests.{eq-eqb, ne-eqb}
-use Rattle.tree.specs.Memory.{headOf, raise}
+use Rattle.tree.specs.Memory.{headOf, headIs, raise}
 use borrow.Author.Needs.{needs}
 use Rattle.tree.proofs.heads.raise.Statement.{statement}
 use Rattle.tree.proofs.heads.raise.Tie as tie
@@ -24,15 +25,17 @@ same-length : tie.Need-same-length
 same-length c = search needs
 
 returns : tie.Need-returns
-unfolding headOf raise
-returns c = rw (← c .before .before .head-of .ensures, eq-eqb _ _ (c .before .if1 .taken), c .as-index .ensures)
+unfolding headOf headIs raise
+returns c =
+    let is = eq-eqb _ _ (c .before .if1 .taken) in
+    (rw (← c .before .before .head-of .ensures, is, c .as-index .ensures), rw (← c .before .before .head-of .ensures, is))
 
 same-length-2 : tie.Need-same-length-2
 same-length-2 c = search needs
 
 returns-2 : tie.Need-returns-2
-unfolding headOf raise
-returns-2 c = rw (← c .before .head-of .ensures, ne-eqb _ _ (c .if1 .left))
+unfolding headOf headIs raise
+returns-2 c = let is-not = ne-eqb _ _ (c .if1 .left) in rw (← c .before .head-of .ensures, is-not) (refl, refl)
 
 pub raise-spec : {M : Type 1} → statement M
 raise-spec =

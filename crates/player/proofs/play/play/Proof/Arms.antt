@@ -5,8 +5,8 @@ use mathlib.Core.Bool.{true, false}
 use Rattle.steps.specs.Process.{idle}
 use Rattle.steps.specs.Machine.{isIdle, isQ}
 use Rattle.stepping.proofs.Decision.{decided-next}
-use Rattle.player.proofs.StepLoop.{q, step-named, step-busy, step-leaf, step-begins, step-playing, step-ready, step-fits, step-fits-leaf, step-moves, finish-full, finish-moves}
-use Rattle.player.proofs.play.play.Proof.Places.{Inv-loop, μ-loop, found, few-steps}
+use Rattle.player.proofs.StepLoop.{q, step-named, step-busy, step-leaf, step-begins, step-playing, step-ready, step-fits, step-fits-leaf, telling-moves, step-moves, finish-full, finish-moves}
+use Rattle.player.proofs.play.play.Proof.Places.{Inv-loop, μ-loop, found, few-steps, few-helps}
 use Rattle.player.proofs.play.play.Tie as tie
 
 pub ready-a : tie.Need-step-a-requires Inv-loop μ-loop
@@ -55,15 +55,15 @@ again-v2 c =
 
 pub ready-v3 : tie.Need-step-v3-requires Inv-loop μ-loop
 unfolding idle isQ
-ready-v3 c κs = let b = c .before .before .before .before in (few-steps b, λ _ _ _ _ e. step-ready (found b) (b .before .status .given .1) e refl)
+ready-v3 c κs = let b = c .before .before .before .before in (few-steps b, few-helps b, λ _ _ _ _ e. step-ready (found b) (b .before .status .given .1) e refl)
 
 pub again-v3 : tie.Need-loop-again-4 Inv-loop μ-loop
 unfolding idle isQ
 again-v3 c =
     let b = c .before .before .before .before .before .before .before in
     let f = found b in
-    step-moves f (b .before .status .given .1) (c .before .before .before .before .before .enum-told5 .given .1) refl _ _ _ (c .before .before .step-v3 .kept .0) refl
-    (λ is _ _. let e = c .before .before .step-v3 .ensures .0 _ _ _ _ is in (e .0, e .1 _ _ _ _))
+    telling-moves f (b .before .status .given .1) (c .before .before .before .before .before .enum-told5 .given .1) refl _ _ _ (c .before .before .step-v3 .kept .0) refl
+    (λ is _ _. c .before .before .step-v3 .ensures .0 _ _ _ _ is _ _ _)
 
 pub ready-r1 : tie.Need-step-r1-requires Inv-loop μ-loop
 unfolding idle isQ

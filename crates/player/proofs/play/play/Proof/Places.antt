@@ -8,8 +8,9 @@ use mathlib.Core.Logic.{⊎-elim}
 use lib.ListN.{getD}
 use Rattle.record.specs.StepRecords.{illFormed}
 use Rattle.steps.specs.declared.Status.the-variants.{Idle}
+use Rattle.steps.specs.declared.Process.{Process}
 use Rattle.steps.specs.Process.{idle}
-use Rattle.answer.proofs.PlaysLaws.{steps-small}
+use Rattle.answer.proofs.PlaysLaws.{steps-small, helps-small}
 use Rattle.player.proofs.LoopStates.{Call, State}
 use Rattle.player.proofs.LoopInvariant.{LoopInvariant}
 use Rattle.player.proofs.StepLoop.{StepAt, step-low, step-plays}
@@ -91,10 +92,16 @@ found b = step-at (b .before .before .before .before)
 pub slot : (b : AtBusy) → b .before .before .before .before .as-index .result < 8
 slot b = step-low (found b)
 
-pub few-steps : (b : AtBusy)
-    → getD (stateAt (recordOf b) .procs) (b .before .before .before .before .as-index .result) (record { status = Idle; begun = 0; steps = 0 }) .steps < 65536
+abbrev processAt : AtBusy → Process
+processAt b = getD (stateAt (recordOf b) .procs) (b .before .before .before .before .as-index .result) (record { status = Idle; begun = 0; steps = 0; helps = 0 })
+
+pub few-steps : (b : AtBusy) → processAt b .steps < 65536
 unfolding idle
 few-steps b = omega (arith, steps-small _ _ _ _ _ _ _ (step-plays (found b)))
+
+pub few-helps : (b : AtBusy) → processAt b .helps < 65536
+unfolding idle
+few-helps b = omega (arith, helps-small _ _ _ _ _ _ _ (step-plays (found b)))
 
 -- where there is room for an answer
 pub few-answers : (c : tie.Else4 Inv-loop μ-loop) → 16 * stateAt (recordOf (c .before .before .before)) .answers + 16 < 18446744073709551616
