@@ -1,4 +1,5 @@
 pub mod StepWords
+pub mod BeginWords
 pub mod RecordResults
 pub mod ResultLaws
 pub mod PlayLaws

@@ -1,5 +1,6 @@
 -- A step record in the loop of `play`: what each step needs and leaves. Used by proofs; no exported promise names it.
-use Prim.Native.Nat.{ℕ, _+_, _*_, _≤_, _<_}
+use Prim.Native.Nat.{ℕ, _+_, _*_, _%_, _≤_, _<_}
+use native.Mathlib.Nat.{mod-eq-of-lt}
 use native.Mathlib.Omega.{arith}
 use mathlib.Core.Path.{_≡_, refl, ap, sym, _∙_, subst}
 use mathlib.Core.Bool.{false}
@@ -79,6 +80,10 @@ module _ {c : Call} {t : State} {i first j : ℕ} (w : StepAt c t i first j) whe
 
   pub step-playing : Playing (c .p) (c .starts) (t .heads) (t .table) first q
   step-playing = record { shape = s; others = processesOf c t; width = w .inv .width; plays = step-plays }
+
+  -- modulo p, which it is below, the process is itself
+  pub step-same : first % c .p ≡ first
+  step-same = mod-eq-of-lt (w .low)
 
   well : illFormed (processes s) (stepOf first) ≡ false
   well = step-formed (processes s) first (omega (arith, w .inv .width, w .low))

@@ -8,12 +8,13 @@ use mathlib.Core.List.{List}
 use lib.ListN.{length, take, drop}
 use lib.Seq.{take-take}
 use lib.Dec.{ltb, leb, eqb}
-use borrow.Author.Tests.{leb-false, lt-leb, eqb-true, not-false}
+use borrow.Author.Tests.{ltb-false, leb-false, lt-leb, eqb-true, not-false}
 use Rattle.base.proofs.Cases.{or-false}
 use Rattle.record.specs.declared.StepRecord.{StepRecord}
 use Rattle.record.specs.Bytes.{numberOf}
 use Rattle.record.specs.StepRecords.{isStep, isBeginPut, stepRecord, illFormed}
 use Rattle.record.proofs.Numbers.{number-parts, part-of-part}
+use Rattle.player.specs.Contracts.Begins.{firstWord}
 
 -- the step record of process k
 abbrev pub stepOf : ℕ → StepRecord
@@ -27,6 +28,7 @@ step-formed p k h = rw (lt-leb p k h)
 -- what is known of a well-formed record
 pub record Formed (p : ℕ) (r : StepRecord) : Type 0 where
   pub low : r .process < p
+  pub kind : r .kind ≤ 2
   pub blank : r .zeros ≡ 0
   pub bare : isBeginPut r ≡ false → r .value ≡ 0
 
@@ -37,6 +39,7 @@ formed p r h =
     let b = or-false (leb p (r .process) || ltb 2 (r .kind)) (not (eqb (r .zeros) 0)) (a .0) in
     record {
       low = leb-false p (r .process) (or-false (leb p (r .process)) (ltb 2 (r .kind)) (b .0) .0);
+      kind = ltb-false 2 (r .kind) (or-false (leb p (r .process)) (ltb 2 (r .kind)) (b .0) .1);
       blank = eqb-true _ _ (not-false (eqb (r .zeros) 0) (b .1));
       bare = λ e. eqb-true _ _ (not-false (eqb (r .value) 0) (rw e at (a .1)));
     }
@@ -49,7 +52,7 @@ module _ (bs : List ℕ) (at : ℕ) (fits : at + 8 ≤ length bs) where
   word i = numberOf (take 4 (drop i bs))
 
   -- the first word is the process, and what follows it
-  first-word : word at ≡ r .process + 256 * (r .kind + 256 * r .zeros)
+  pub first-word : word at ≡ firstWord r
   unfolding stepRecord
   first-word =
       let e : at + 1 + 1 ≡ at + 2 = omega arith in
@@ -60,7 +63,7 @@ module _ (bs : List ℕ) (at : ℕ) (fits : at + 8 ≤ length bs) where
       rw (take-take 1 8 (drop at bs) (omega arith), part-of-part 1 1 8 at bs (omega arith), part-of-part 2 2 8 at bs (omega arith))
       (omega (arith, number-parts 1 3 at bs (omega arith), rest))
 
-  second-word : word (at + 4) ≡ r .value
+  pub second-word : word (at + 4) ≡ r .value
   unfolding stepRecord
   second-word = ap numberOf (sym (part-of-part 4 4 8 at bs (omega arith)))
 

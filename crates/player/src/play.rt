@@ -1,7 +1,8 @@
 // The loop that plays a list of records. Run, list the order and check a log share it: they differ in what they do with
 // its answers.
+use crate::Begin;
 use crate::Outcome;
-use crate::records::operation_of;
+use crate::begins::begin_of;
 use answer::answers::answer_of;
 use base::as_index;
 use calls::Refusal;
@@ -20,13 +21,15 @@ use stepping::blocks::step_c4;
 use stepping::blocks::step_r3;
 use stepping::blocks::step_r5;
 use stepping::blocks::step_v2;
+use stepping::heads::advances_child;
 use stepping::heads::step_c1;
 use stepping::heads::step_c2;
 use stepping::heads::step_r1;
 use stepping::heads::step_r2;
 use stepping::heads::step_r4;
 use stepping::heads::step_v1;
-use stepping::heads::step_v3;
+use stepping::heads::step_v3_child;
+use stepping::heads::step_v3_own;
 use stepping::turn::operation_in;
 use steps::Process;
 use steps::Status;
@@ -77,121 +80,126 @@ pub fn play(
     for i in 0..n {
         let at = 8 * i;
         let first = word_at(records, at);
-        if word_at(records, at + 4) == 0 {
-            if first < p {
-                let k = as_index(first);
-                let seen = procs[k];
-                let status = seen.status;
-                match status {
-                    Status::Idle => return ended(Refusal::StepWhileIdle, i, answers, equal),
-                    Status::Busy(_, step) => match step {
-                        Step::A => {
-                            let q = procs[k];
-                            procs[k] = step_a(heads, table, starts, p + first, q);
+        if first < p {
+            if word_at(records, at + 4) != 0 {
+                return ended(Refusal::IllFormed, i, answers, equal);
+            }
+            let k = as_index(first);
+            let seen = procs[k];
+            let status = seen.status;
+            match status {
+                Status::Idle => return ended(Refusal::StepWhileIdle, i, answers, equal),
+                Status::Busy(_, step) => match step {
+                    Step::A => {
+                        let q = procs[k];
+                        procs[k] = step_a(heads, table, starts, p + first, q);
+                        continue;
+                    }
+                    Step::V1 { .. } => {
+                        let q = procs[k];
+                        procs[k] = step_v1(heads, q);
+                        continue;
+                    }
+                    Step::V2 { .. } => {
+                        let q = procs[k];
+                        procs[k] = step_v2(table, starts, q);
+                        continue;
+                    }
+                    Step::V3 { .. } => {
+                        let q = procs[k];
+                        if advances_child(q) {
+                            procs[k] = step_v3_child(heads, q);
                             continue;
                         }
-                        Step::V1 { .. } => {
-                            let q = procs[k];
-                            procs[k] = step_v1(heads, q);
+                        procs[k] = step_v3_own(heads, q);
+                        continue;
+                    }
+                    Step::R1 { .. } => {
+                        let q = procs[k];
+                        procs[k] = step_r1(heads, q);
+                        continue;
+                    }
+                    Step::R2 { .. } => {
+                        let q = procs[k];
+                        procs[k] = step_r2(heads, q);
+                        continue;
+                    }
+                    Step::R3 { .. } => {
+                        let q = procs[k];
+                        procs[k] = step_r3(table, starts, q);
+                        continue;
+                    }
+                    Step::R4 { .. } => {
+                        let q = procs[k];
+                        procs[k] = step_r4(heads, q);
+                        continue;
+                    }
+                    Step::R5 { .. } => {
+                        let q = procs[k];
+                        procs[k] = step_r5(table, starts, q);
+                        continue;
+                    }
+                    Step::C1 { .. } => {
+                        let q = procs[k];
+                        procs[k] = step_c1(heads, q);
+                        continue;
+                    }
+                    Step::C2 { .. } => {
+                        let q = procs[k];
+                        procs[k] = step_c2(heads, q);
+                        continue;
+                    }
+                    Step::C3L { .. } => {
+                        let q = procs[k];
+                        procs[k] = step_c3l(table, starts, q);
+                        continue;
+                    }
+                    Step::C3R { .. } => {
+                        let q = procs[k];
+                        procs[k] = step_c3r(table, starts, q);
+                        continue;
+                    }
+                    Step::C3N { .. } => {
+                        let q = procs[k];
+                        if adds_nothing(table, starts, q) {
+                            procs[k] = step_c3n_up(q);
                             continue;
                         }
-                        Step::V2 { .. } => {
-                            let q = procs[k];
-                            procs[k] = step_v2(table, starts, q);
-                            continue;
+                        procs[k] = step_c3n_on(table, starts, q);
+                        continue;
+                    }
+                    Step::C4 { .. } => {
+                        let q = procs[k];
+                        procs[k] = step_c4(table, starts, q);
+                        continue;
+                    }
+                    Step::Q => {
+                        if free < 16 {
+                            return ended(Refusal::AnswersFull, i, answers, equal);
                         }
-                        Step::V3 { .. } => {
-                            let q = procs[k];
-                            procs[k] = step_v3(heads, q);
-                            continue;
-                        }
-                        Step::R1 { .. } => {
-                            let q = procs[k];
-                            procs[k] = step_r1(heads, q);
-                            continue;
-                        }
-                        Step::R2 { .. } => {
-                            let q = procs[k];
-                            procs[k] = step_r2(heads, q);
-                            continue;
-                        }
-                        Step::R3 { .. } => {
-                            let q = procs[k];
-                            procs[k] = step_r3(table, starts, q);
-                            continue;
-                        }
-                        Step::R4 { .. } => {
-                            let q = procs[k];
-                            procs[k] = step_r4(heads, q);
-                            continue;
-                        }
-                        Step::R5 { .. } => {
-                            let q = procs[k];
-                            procs[k] = step_r5(table, starts, q);
-                            continue;
-                        }
-                        Step::C1 { .. } => {
-                            let q = procs[k];
-                            procs[k] = step_c1(heads, q);
-                            continue;
-                        }
-                        Step::C2 { .. } => {
-                            let q = procs[k];
-                            procs[k] = step_c2(heads, q);
-                            continue;
-                        }
-                        Step::C3L { .. } => {
-                            let q = procs[k];
-                            procs[k] = step_c3l(table, starts, q);
-                            continue;
-                        }
-                        Step::C3R { .. } => {
-                            let q = procs[k];
-                            procs[k] = step_c3r(table, starts, q);
-                            continue;
-                        }
-                        Step::C3N { .. } => {
-                            let q = procs[k];
-                            if adds_nothing(table, starts, q) {
-                                procs[k] = step_c3n_up(q);
-                                continue;
-                            }
-                            procs[k] = step_c3n_on(table, starts, q);
-                            continue;
-                        }
-                        Step::C4 { .. } => {
-                            let q = procs[k];
-                            procs[k] = step_c4(table, starts, q);
-                            continue;
-                        }
-                        Step::Q => {
-                            if free < 16 {
-                                return ended(Refusal::AnswersFull, i, answers, equal);
-                            }
-                            let q = procs[k];
-                            let a = answer_of(heads, table, starts, p, first, q, operation_in(q));
-                            equal = equal_after(log, answers, equal, a);
-                            write_answer(out, answers, a);
-                            answers = answers + 1;
-                            free = free - 16;
-                            procs[k] = q.rested();
-                            continue;
-                        }
-                    },
-                }
+                        let q = procs[k];
+                        let a = answer_of(heads, table, starts, p, first % p, q, operation_in(q));
+                        equal = equal_after(log, answers, equal, a);
+                        write_answer(out, answers, a);
+                        answers = answers + 1;
+                        free = free - 16;
+                        procs[k] = q.rested();
+                        continue;
+                    }
+                },
             }
         }
-        let r = record::step_records::step_record(records, at);
-        if record::step_records::ill_formed(p, r) {
+        let begin = begin_of(p, first, word_at(records, at + 4));
+        let Begin::Opens { process, operation } = begin else {
             return ended(Refusal::IllFormed, i, answers, equal);
-        }
-        let k = as_index(r.process);
+        };
+        let k = as_index(process);
         let q = procs[k];
         let refusal = begin_refusal(l, q);
         if !accepted(refusal) {
             return ended(refusal, i, answers, equal);
         }
-        procs[k] = q.entered(operation_of(r));
+        procs[k] = q.entered(operation);
     }
     ended(Refusal::None, n, answers, equal)
 }

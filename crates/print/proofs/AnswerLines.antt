@@ -13,7 +13,8 @@ use Rattle.record.specs.AnswerRecords.{answerSize}
 use Rattle.record.specs.ReadAnswers.{answerRecord}
 use Rattle.print.specs.Lines.{answerLine, lastLine}
 use Rattle.print.specs.Printed.{answerLines}
-use Rattle.print.proofs.Lengths.{Bytes, drop-bytes, take-bytes, line-most, last-most}
+use Rattle.record.proofs.ByteNumbers.{Bytes, drop-bytes, take-bytes}
+use Rattle.print.proofs.Lengths.{line-most, last-most}
 
 cut-more : (size n : ℕ) (bs : List ℕ) → cut size (suc n) bs ≡ cut size n bs ++ (take size (drop (size * n) bs) ∷ [])
 unfolding cut

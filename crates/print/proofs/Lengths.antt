@@ -1,19 +1,16 @@
 -- How many bytes the lines have.
-use Prim.Native.Nat.{ℕ, zero, suc, _+_, _^_, _≤_, _<_}
-use native.Mathlib.Nat.{pow-succ'}
+use Prim.Native.Nat.{ℕ, suc, _+_, _^_, _≤_, _<_}
 use native.Mathlib.Omega.{arith}
 use mathlib.Core.Path.{_≡_}
-use mathlib.Core.List.{List, [], _∷_}
+use mathlib.Core.List.{List}
 use lib.Dec.{eqb}
-use lib.ListN.{length, getD, take, drop, length-append}
-use lib.Seq.{getD-drop}
-use mir.Syntax.{w8}
-use mir.Val.{Fits}
+use lib.ListN.{length, take, drop, length-append}
 use Rattle.base.proofs.Cases.{both}
 use Rattle.record.specs.declared.Reply.{Reply}
 use Rattle.record.specs.declared.Reply.the-variants.{Done, Value, Nothing}
 use Rattle.record.specs.declared.AnswerRecord.{AnswerRecord}
 use Rattle.record.specs.Bytes.{numberOf}
+use Rattle.record.proofs.ByteNumbers.{Bytes, drop-bytes, bytes-below}
 use Rattle.print.specs.Characters.{ascii}
 use Rattle.print.specs.Decimal.{decimal}
 use Rattle.record.specs.ReadAnswers.{replyFor, answerRecord}
@@ -58,30 +55,10 @@ reply-most kind value h =
 pub last-most : (refusal taken : ℕ) → refusal < 2 ^ 32 → taken < 2 ^ 64 → length (lastLine refusal taken) ≤ 36
 last-most refusal taken h k = omega (arith, last-length refusal taken, number-most 9 refusal (omega arith), number-most 19 taken (omega arith))
 
--- each element of a list is a byte; so are those of its parts
-abbrev pub Bytes : List ℕ → Type 0
-Bytes bs = (i : ℕ) → Fits w8 (getD bs i 0)
-
-pub drop-bytes : (k : ℕ) (bs : List ℕ) → Bytes bs → Bytes (drop k bs)
-drop-bytes k bs h i = rw (getD-drop k bs i 0) (h (k + i))
-
-pub take-bytes : (n : ℕ) (bs : List ℕ) → Bytes bs → Bytes (take n bs)
-take-bytes zero bs h i = omega arith
-take-bytes (suc n) [] h i = omega arith
-take-bytes (suc n) (b ∷ bs) h zero = h 0
-take-bytes (suc n) (b ∷ bs) h (suc i) = take-bytes n bs (λ j. h (suc j)) i
-
--- the number that n bytes hold
-below : (n : ℕ) (bs : List ℕ) → Bytes bs → numberOf (take n bs) < 256 ^ n
-unfolding numberOf
-below zero bs h = omega arith
-below (suc n) [] h = rw (pow-succ' 256 n) (omega (arith, below n [] h))
-below (suc n) (b ∷ bs) h = rw (pow-succ' 256 n) (omega (arith, h 0, below n bs (λ i. h (suc i))))
-
 -- the line of an answer record in bytes
 module _ (bs : List ℕ) (bytes : Bytes bs) where
   field-below : (k n : ℕ) → numberOf (take n (drop k bs)) < 256 ^ n
-  field-below k n = below n (drop k bs) (drop-bytes k bs bytes)
+  field-below k n = bytes-below n (drop k bs) (drop-bytes k bs bytes)
 
   pub line-most : length (answerLine (answerRecord bs)) ≤ 50
   unfolding answerRecord
@@ -92,7 +69,7 @@ module _ (bs : List ℕ) (bytes : Bytes bs) where
         line-length a,
         operation-most (a .reply),
         numbers-length a,
-        number-most 2 (a .process) (omega (arith, below 1 bs bytes)),
+        number-most 2 (a .process) (omega (arith, bytes-below 1 bs bytes)),
         number-most 9 (a .serial) (omega (arith, field-below 8 4)),
         number-most 2 (a .steps) (omega (arith, field-below 2 1)),
         number-most 2 (a .helps) (omega (arith, field-below 3 1)),

@@ -9,8 +9,9 @@ use mir.Val.{hasKey}
 use types.Run.{OneOf, miss}
 use denote.Enum.Declared as declared
 use Rattle.steps.specs.declared.Visit.{Visit}
+use Rattle.steps.specs.declared.After.{After}
 use Rattle.steps.specs.declared.Step.{Step}
-use Rattle.steps.specs.declared.Step.the-variants.{C3N}
+use Rattle.steps.specs.declared.Step.the-variants.{V3, C3N}
 use Rattle.steps.specs.declared.Status.{Status}
 use Rattle.steps.specs.declared.Status.the-variants.{Idle, Busy}
 use Rattle.steps.specs.Machine.{isIdle}
@@ -36,6 +37,10 @@ other {n} {y} k e d = miss (others y) (tag y) d (subst (λ z. OneOf (others y) (
 pub same-registers : {w w' : Visit} {l l' r r' puts puts' takes takes' : ℕ} → C3N w l r puts takes ≡ C3N w' l' r' puts' takes'
     → (w ≡ w') × (l ≡ l') × (r ≡ r') × (puts ≡ puts') × (takes ≡ takes')
 same-registers e = (cc, cc, cc, cc, cc)
+
+-- so have two steps V3
+pub same-advance : {a a' : After} {w w' : Visit} {v v' h h' : ℕ} → V3 a w v h ≡ V3 a' w' v' h' → (a ≡ a') × (v ≡ v') × (h ≡ h')
+same-advance e = (cc, cc, cc)
 
 -- a process at a step other than A is busy
 pub busy : (x : Status) {n : Step} → stepIn x ≡ n → T (not (eqb (tag n) 0)) → isIdle x ≡ false

@@ -5,8 +5,8 @@ use crate::build::root_size;
 use crate::build::same_totals;
 use crate::sequence::above;
 use crate::sequence::advance;
+use crate::sequence::after_child;
 use crate::sequence::after_refresh;
-use crate::sequence::resume;
 use crate::turn::by_fields;
 use crate::turn::moved;
 use crate::turn::operation_in;
@@ -26,13 +26,13 @@ use tree::access::totals_at;
 use tree::access::write_at;
 use tree::access::write_if_absent;
 use tree::heads::head_of;
-ghost use mathlib.Core.Bool.{false};
+ghost use mathlib.Core.Bool.{true, false};
 ghost use mathlib.Core.Path.{_≡_};
 ghost use mathlib.Core.List.{List};
 ghost use Prim.Native.Nat.{ℕ, _+_, _*_, _-_, _<_};
 ghost use Rattle.tree.specs.Shape.{Shape, leafOf};
 ghost use Rattle.tree.specs.Memory.{memoryOf};
-ghost use Rattle.steps.specs.Rules.{above as aboveOf, help as helpOf, built, step, go};
+ghost use Rattle.steps.specs.Rules.{above as aboveOf, ofChild, help as helpOf, built, step, go};
 ghost use Rattle.steps.specs.Machine.{isIdle};
 ghost use Rattle.stepping.specs.Contracts.Next.{operationIn, stepIn, Moves, StepsByTable, Decided, GoesFromC3N, Fits, FitsLeaf};
 ghost use Rattle.tree.specs.Contracts.Access.{Begins, HasPart, HasPlace, nodeBlock, totalsOf};
@@ -97,12 +97,12 @@ pub fn step_v2(table: &mut [u32], starts: &[usize; 17], q: Process) -> Process
 // A child's block at the head that was read is looked at. If it is present it is advanced before the visit goes on, so
 // that no refresh leaves it behind.
 fn help(table: &[u32], starts: &[usize; 17], w: Visit, a: After, child: u32, c: u32) -> Step
-    requires { ⌜ HasPart (now starts) (now table) child ⌝ }
+    requires { ⌜ HasPart (now starts) (now table) child × (ofChild a ≡ true) ⌝ }
     ensures { λ r. ⌜ ((s : Shape) (heads : List ℕ) → Begins s (now (starts .entry)) child →
         r ≡ helpOf s (memoryOf (now (table .entry)) heads) w a child c) ⌝ }
 {
     if absent_at(table, starts, child, c) {
-        return resume(a, w);
+        return after_child(a, w);
     }
     advance(w, a, child, c)
 }

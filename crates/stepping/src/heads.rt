@@ -1,6 +1,6 @@
 // The named steps that look at heads alone. They go on alike whatever the table is.
-use crate::sequence::help_of;
-use crate::sequence::resume;
+use crate::sequence::after_child;
+use crate::sequence::after_own;
 use crate::turn::by_fields;
 use crate::turn::moved;
 use crate::turn::moved_telling;
@@ -13,9 +13,11 @@ use steps::Visit;
 use tree::heads::head_of;
 use tree::heads::raise;
 ghost use mathlib.Core.Path.{_≡_};
+ghost use mathlib.Core.Bool.{true, false};
 ghost use Prim.Native.Nat.{ℕ, _+_, _*_, _/_, _≤_, _<_};
 ghost use lib.ListN.{length, getD};
-ghost use Rattle.stepping.specs.Contracts.Next.{stepIn, StepsByHeads, StepsTelling};
+ghost use Rattle.stepping.specs.Contracts.Next.{stepIn, StepsByHeads, StepsTelling, Raises, AdvancesChild};
+ghost use Rattle.steps.specs.Rules.{ofChild};
 ghost use Rattle.steps.specs.Contracts.Ready.{Children};
 
 // V1: the parent's head is what v's block is to remember as its superblock.
@@ -46,22 +48,54 @@ pub fn step_v1(heads: &[u32], q: Process) -> Process
     )
 }
 
-// V3: the head of v is raised past the block at h, and what was put off goes on. Whether it moved is passed on.
-pub fn step_v3(heads: &mut [u32], q: Process) -> Process
-    requires { ⌜ (q .steps < 65536) × (q .helps < 65536) × ((a : After) (w : Visit) (v h : ℕ) → stepIn (q .status) ≡ Step.V3 a w v h → (v < length (now heads)) × (h < 65536)) ⌝ }
+// V3 raises the head of v past the block at h, and tells whether the head moved. A process at another step raises none.
+fn raise_in(heads: &mut [u32], q: Process) -> bool
+    requires { ⌜ ((a : After) (w : Visit) (v h : ℕ) → stepIn (q .status) ≡ Step.V3 a w v h → (v < length (now heads)) × (h < 65536)) ⌝ }
+    ensures { λ moved. ⌜ Raises (now (heads .entry)) (now (heads .exit)) q moved ⌝ }
+{
+    let Step::V3 { node, place, .. } = step_in(q) else {
+        return false;
+    };
+    raise(heads, node, place)
+}
+
+// Whether the advance that a process at V3 is in is of a child. A process at another step is in none.
+pub fn advances_child(q: Process) -> bool
+    ensures { λ b. ⌜ AdvancesChild q b ⌝ }
+{
+    let Step::V3 { after, .. } = step_in(q) else {
+        return false;
+    };
+    match after {
+        After::Right | After::Ends => true,
+        After::Again | After::Up => false,
+    }
+}
+
+// V3 in the advance of a child: the refresh goes on. That the head moved is passed on as a help.
+pub fn step_v3_child(heads: &mut [u32], q: Process) -> Process
+    requires { ⌜ (q .steps < 65536) × (q .helps < 65536) × ((a : After) (w : Visit) (v h : ℕ) → stepIn (q .status) ≡ Step.V3 a w v h →
+        (ofChild a ≡ true) × (v < length (now heads)) × (h < 65536)) ⌝ }
     ensures { λ r. ⌜ StepsTelling (λ P. (a : After) (w : Visit) (v h : ℕ) → P (Step.V3 a w v h)) (now (heads .entry)) (now (heads .exit)) q r ⌝ }
 {
-    let Step::V3 {
-        after,
-        visit,
-        node,
-        place,
-    } = step_in(q)
-    else {
+    let moved = raise_in(heads, q);
+    let Step::V3 { after, visit, .. } = step_in(q) else {
         return q;
     };
-    let raised = raise(heads, node, place);
-    moved_telling(q, resume(after, visit), help_of(after, raised))
+    moved_telling(q, after_child(after, visit), moved)
+}
+
+// V3 in the advance of the own leaf or of the refreshed node, which is no help, whether the head moves or not.
+pub fn step_v3_own(heads: &mut [u32], q: Process) -> Process
+    requires { ⌜ (q .steps < 65536) × ((a : After) (w : Visit) (v h : ℕ) → stepIn (q .status) ≡ Step.V3 a w v h →
+        (ofChild a ≡ false) × (v < length (now heads)) × (h < 65536)) ⌝ }
+    ensures { λ r. ⌜ StepsByHeads (λ P. (a : After) (w : Visit) (v h : ℕ) → P (Step.V3 a w v h)) (now (heads .entry)) (now (heads .exit)) q r ⌝ }
+{
+    raise_in(heads, q);
+    let Step::V3 { after, visit, .. } = step_in(q) else {
+        return q;
+    };
+    moved(q, after_own(after, visit))
 }
 
 // R1: the head of v is the place at which this refresh is to write.

@@ -4,8 +4,8 @@ use steps::Refresh;
 use steps::Step;
 use steps::Visit;
 ghost use mathlib.Core.Path.{_≡_};
-ghost use Rattle.stepping.specs.Contracts.Sequence.{afterHelp};
-ghost use Rattle.steps.specs.Rules.{above as aboveOf, resume as resumeOf, advance as advanceOf, afterRefresh, helpOf};
+ghost use mathlib.Core.Bool.{true, false};
+ghost use Rattle.steps.specs.Rules.{above as aboveOf, resume, advance as advanceOf, afterRefresh, ofChild};
 
 // After the last refresh of v its parent is refreshed. Nothing is above the root (node 1), so there the operation is
 // answered.
@@ -21,9 +21,10 @@ pub fn above(v: u32) -> Step
     }
 }
 
-// What follows an advance on the left that is a help, R4; C1 otherwise.
-fn after_help(a: After, w: Visit) -> Step
-    ensures { λ r. ⌜ r ≡ afterHelp a w ⌝ }
+// What follows the advance of a child: R4 after that of the left one, C1 after that of the right one.
+pub fn after_child(a: After, w: Visit) -> Step
+    requires { ⌜ ofChild a ≡ true ⌝ }
+    ensures { λ r. ⌜ r ≡ resume a w ⌝ }
 {
     match a {
         After::Right => Step::R4 { visit: w },
@@ -33,28 +34,17 @@ fn after_help(a: After, w: Visit) -> Step
     }
 }
 
-// What was put off while a node was advanced. The two steps that follow a help have one arm: four arms would be a
-// second jump by table in V3.
-pub fn resume(a: After, w: Visit) -> Step
-    ensures { λ r. ⌜ r ≡ resumeOf a w ⌝ }
+// What follows the advance of the own leaf or of the refreshed node: the second refresh, or the way up.
+pub fn after_own(a: After, w: Visit) -> Step
+    requires { ⌜ ofChild a ≡ false ⌝ }
+    ensures { λ r. ⌜ r ≡ resume a w ⌝ }
 {
     match a {
-        After::Right | After::Ends => after_help(a, w),
         After::Again => Step::R1 {
             refresh: Refresh::Second,
             node: w.node,
         },
-        After::Up => above(w.node),
-    }
-}
-
-// What V3 tells, passed on by who began the advance: only that of a child is a help.
-pub fn help_of(a: After, moved: bool) -> bool
-    ensures { λ r. ⌜ r ≡ helpOf a moved ⌝ }
-{
-    match a {
-        After::Right | After::Ends => moved,
-        After::Again | After::Up => false,
+        After::Right | After::Ends | After::Up => above(w.node),
     }
 }
 

@@ -1,6 +1,6 @@
 -- The step rules: what each named step does to the shared memory, and which step comes next.
 use Prim.Native.Nat.{ℕ, _+_, _-_}
-use mathlib.Core.Bool.{Bool, false, _&&_}
+use mathlib.Core.Bool.{Bool, true, false, _&&_}
 use lib.Dec.{eqb}
 use Rattle.base.specs.Choice.{if_then_else_}
 use Rattle.tree.specs.declared.Block.{Block}
@@ -47,13 +47,13 @@ afterFailed Second = Up
 unfoldable pub afterRefresh : Refresh → Bool → After
 afterRefresh x success = if success then Up else afterFailed x
 
--- V3 tells whether it moved the head, and who began the advance passes it on: of a child, which is R3's and R5's, it is
--- a help if it moved; of the own leaf, which is A's, and of the refreshed node, which is C4's, it is none
-unfoldable pub helpOf : After → Bool → Bool
-helpOf Right moved = moved
-helpOf Ends moved = moved
-helpOf Again moved = false
-helpOf Up moved = false
+-- whether an advance is of a child, which R3 or R5 began, inside a refresh; that of the own leaf, which A began, and that
+-- of the refreshed node, which C4 began, are not
+unfoldable pub ofChild : After → Bool
+ofChild Right = true
+ofChild Ends = true
+ofChild Again = false
+ofChild Up = false
 
 -- R3 and R5: the child's block at c is looked at; if present, advance (child, c)
 unfoldable pub help : Shape → Memory → Visit → After → ℕ → ℕ → Step
@@ -106,7 +106,7 @@ module _ (s : Shape) (k : ℕ) (o : Operation) (m : Memory) where
       go (write s m v h (plusOperation o (block s m v (h - 1)))) (advance (record { node = v; refresh = First; head = h }) Up v h)
   step (V1 a w v h) = go m (V2 a w v h (headOf m (parentOf v)))
   step (V2 a w v h x) = go (setSuper s m v h x) (V3 a w v h)
-  step (V3 a w v h) = goTelling (raise m v h) (resume a w) (helpOf a (headIs m v h))
+  step (V3 a w v h) = goTelling (raise m v h) (resume a w) (ofChild a && headIs m v h)
   step (R1 x v) = go m (R2 (record { node = v; refresh = x; head = headOf m v }))
   step (R2 w) = go m (R3 w (headOf m (leftOf (w .node))))
   step (R3 w c) = go m (help s m w Right (leftOf (w .node)) c)

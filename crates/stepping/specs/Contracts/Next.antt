@@ -2,21 +2,22 @@
 -- the rules, whatever it does not look at.
 use Prim.Native.Nat.{ℕ, _+_, _*_, _-_, _<_}
 use mathlib.Core.Path.{_≡_}
-use mathlib.Core.Bool.{Bool, true}
-use mathlib.Core.List.{List}
+use mathlib.Core.Bool.{Bool, true, false}
+use mathlib.Core.List.{List, []}
 use Rattle.tree.specs.Shape.{Shape, processes, leafOf}
 use Rattle.steps.specs.declared.Operation.{Operation}
 use Rattle.steps.specs.declared.Operation.the-variants.{Take}
 use Rattle.steps.specs.declared.Visit.{Visit}
+use Rattle.steps.specs.declared.After.{After}
 use Rattle.steps.specs.declared.Process.{Process}
 use Rattle.steps.specs.declared.Status.{Status}
 use Rattle.steps.specs.declared.Status.the-variants.{Idle, Busy}
 use Rattle.steps.specs.declared.Step.{Step}
 use Rattle.steps.specs.declared.Step.the-variants.{A, V1, V2, V3, R1, R2, R3, R4, R5, C1, C2, C3L, C3R, C3N, C4, Q}
-use Rattle.steps.specs.Rules.{sameTotals, step, go}
+use Rattle.steps.specs.Rules.{ofChild, sameTotals, step, go}
 use Rattle.steps.specs.Machine.{stepped}
 use Rattle.tree.specs.Contracts.Access.{Begins, nodeBlock}
-use Rattle.tree.specs.Memory.{memoryOf}
+use Rattle.tree.specs.Memory.{memoryOf, headIs, raise}
 
 -- the parts of the nodes whose blocks a step looks at begin and end where they do in a tree of shape s; A, which knows
 -- its leaf from its process, is told it
@@ -100,6 +101,18 @@ StepsTelling Each heads heads' q r = AtName Each q (NextTelling heads heads' q r
 
 abbrev pub StepsByTable : ((Step → Type 0) → Type 0) → List ℕ → List ℕ → List ℕ → Process → Process → Type 0
 StepsByTable Each starts table table' q r = AtName Each q (NextByTable starts table table' q r) ((r ≡ q) × (table' ≡ table))
+
+-- V3: the head of its node is raised, and what is told is whether it moved; at another step none is
+abbrev pub Raises : List ℕ → List ℕ → Process → Bool → Type 0
+Raises heads heads' q moved =
+    ((a : After) (w : Visit) (v h : ℕ) → stepIn (q .status) ≡ V3 a w v h → (heads' ≡ raise (memoryOf [] heads) v h .heads) × (moved ≡ headIs (memoryOf [] heads) v h))
+    × (((a : After) (w : Visit) (v h : ℕ) → stepIn (q .status) ≡ V3 a w v h → ⊥) → (heads' ≡ heads) × (moved ≡ false))
+
+-- whether the advance that process q, at V3, is in is of a child; at another step it is in none
+abbrev pub AdvancesChild : Process → Bool → Type 0
+AdvancesChild q b =
+    ((a : After) (w : Visit) (v h : ℕ) → stepIn (q .status) ≡ V3 a w v h → b ≡ ofChild a)
+    × (((a : After) (w : Visit) (v h : ℕ) → stepIn (q .status) ≡ V3 a w v h → ⊥) → b ≡ false)
 
 -- C3N has three functions: one decides, and one an outcome gives the process. Where process q is at C3N, P holds of its
 -- registers; at another step, Same does.

@@ -9,8 +9,8 @@ use borrow.Author.Tests.{not-true, not-false}
 use Rattle.steps.specs.Process.{idle}
 use Rattle.player.proofs.LoopInvariant.{loop-start, loop-narrow, loop-ends}
 use Rattle.player.proofs.StepLoop.{step-low, step-idle}
-use Rattle.player.proofs.BeginLoop.{other-ill, begin-few, begin-refused, begin-moves}
-use Rattle.player.proofs.play.play.Proof.Places.{Inv-loop, μ-loop, few, step-at, recordOf, found, slot, few-steps, few-answers, other-at, well, begin-slot}
+use Rattle.player.proofs.BeginLoop.{valued-ill, other-ill, begin-few, begin-refused, begin-moves}
+use Rattle.player.proofs.play.play.Proof.Places.{Inv-loop, μ-loop, callAt, stateAt, few, step-at, recordOf, found, slot, few-steps, few-answers, other-at, begin-slot}
 use Rattle.player.proofs.play.play.Proof.Arms as arms
 use Rattle.player.proofs.play.play.Statement.{statement}
 use Rattle.player.proofs.play.play.Tie as tie
@@ -19,37 +19,47 @@ loop-holds : tie.Need-loop-holds Inv-loop μ-loop
 unfolding idle
 loop-holds c = rw (c .start .ensures) (loop-start _ (c .before .before .before .before .before .before .pre .0) (c .before .before .before .before .before .before .pre .1))
 
-refused-idle : tie.Need-returns Inv-loop μ-loop
+-- a first word below p, and a value
+refused-valued : tie.Need-returns Inv-loop μ-loop
+refused-valued c =
+    let r = c .before .before .before .before .before in
+    rw (c .ended .ensures)
+    (valued-ill {c = callAt r} {t = stateAt r} (r .before .loop .inv) (r .loop-test .taken) (c .before .before .before .before .word-at .ensures) (c .before .before .word-at2 .ensures) (c .before .before .before .if1 .taken) (c .before .if2 .taken))
+
+refused-idle : tie.Need-returns-2 Inv-loop μ-loop
 unfolding idle
-refused-idle c = rw (c .ended .ensures) (step-idle (step-at (c .before .before .before .before)) (c .before .enum-told .given .1))
+refused-idle c = rw (c .ended2 .ensures) (step-idle (step-at (c .before .before .before .before)) (c .before .enum-told .given .1))
 
-refused-ill : tie.Need-returns-3 Inv-loop μ-loop
-refused-ill c = rw (c .ended3 .ensures) (other-ill (other-at (c .before .before .before)) (sym (c .before .before .ill-formed .ensures) ∙ c .before .if5 .taken))
+begin-narrow : tie.Need-begin-of-requires Inv-loop μ-loop
+begin-narrow c κs = (c .before .if1 .left, omega (arith, loop-narrow (c .before .before .before .before .loop .inv)))
 
-refused-begin : tie.Need-returns-4 Inv-loop μ-loop
+refused-ill : tie.Need-returns-4 Inv-loop μ-loop
+refused-ill c = rw (c .ended4 .ensures) (other-ill (other-at (c .before .before .before)) (c .before .enum-told18 .given .1))
+
+refused-begin : tie.Need-returns-5 Inv-loop μ-loop
 unfolding idle
 refused-begin c =
     let w = c .before .before .before .before .before in
-    rw (c .ended4 .ensures)
-    (begin-refused (other-at (w .before .before .before)) (well (w .before)) (w .as-index2 .ensures) (c .before .before .before .begin-refusal .ensures)
+    rw (c .ended5 .ensures)
+    (begin-refused (other-at (w .before .before .before .before)) (w .before .before .begin .given .1) (w .as-index2 .ensures) (c .before .before .before .begin-refusal .ensures)
     (sym (c .before .before .accepted .ensures) ∙ not-true _ (c .before .if6 .taken)))
 
 entered-requires : tie.Need-entered-requires Inv-loop μ-loop
 unfolding idle
 entered-requires c κs =
-    let w = c .before .before .before .before .before in
-    omega (arith, begin-few (other-at (w .before .before .before)) (well (w .before)) (w .as-index2 .ensures))
+    let w = c .before .before .before .before in
+    omega (arith, begin-few (other-at (w .before .before .before .before)) (w .before .before .begin .given .1) (w .as-index2 .ensures))
 
-again-begin : tie.Need-loop-again-18 Inv-loop μ-loop
+again-begin : tie.Need-loop-again-19 Inv-loop μ-loop
 unfolding idle
 again-begin c =
-    let w = c .before .before .before .before .before .before in
-    rw (c .entered .ensures, c .before .operation-of .ensures)
-    (begin-moves (other-at (w .before .before .before)) (well (w .before)) (w .as-index2 .ensures) (c .before .before .before .before .begin-refusal .ensures)
-    (sym (c .before .before .before .accepted .ensures) ∙ not-false _ (c .before .before .if6 .left)))
+    let w = c .before .before .before .before .before in
+    rw (c .entered .ensures)
+    (begin-moves (other-at (w .before .before .before .before)) (w .before .before .begin .given .1) (w .as-index2 .ensures) (c .before .before .before .begin-refusal .ensures)
+    (sym (c .before .before .accepted .ensures) ∙ not-false _ (c .before .if6 .left)))
 
-ends : tie.Need-returns-5 Inv-loop μ-loop
-ends c = rw (c .ended5 .ensures) (loop-ends (c .before .before .loop .inv) (c .before .loop-test .left))
+ends : tie.Need-returns-6 Inv-loop μ-loop
+ends c = rw (c .ended6 .ensures) (loop-ends (c .before .before .loop .inv) (c .before .loop-test .left))
 
 pub play-spec : {M : Type 1} → statement M
 play-spec =
@@ -60,11 +70,17 @@ play-spec =
     -- the start
     (λ c κs. search needs)
     loop-holds
-    -- the words of a record
+    -- the first word of a record
     (λ c. search needs)
     (λ c κs. omega (arith, c .loop-test .taken))
+    -- that of a step, and the second: a value
     (λ c. search needs)
-    (λ c κs. omega (arith, c .before .loop-test .taken))
+    (λ c κs. omega (arith, c .before .before .loop-test .taken))
+    (λ c κs. search needs)
+    (λ c. search needs)
+    (λ c. search needs)
+    (λ c. search needs)
+    refused-valued
     -- a step record
     (λ c κs. search needs)
     (λ c. search needs)
@@ -113,12 +129,19 @@ play-spec =
     (λ c. search needs)
     (λ c. record { fits = omega (arith, slot (c .before .before)) })
     (λ c. slot (c .before .before))
-    arms.ready-v3
-    (λ c. record { fits = omega (arith, slot (c .before .before .before .before .before .before .before)) })
-    (λ c. slot (c .before .before .before .before .before .before .before))
-    (λ c. record { fits = few (recordOf (c .before .before .before .before .before .before .before)) })
+    (λ c κs. search needs)
+    arms.ready-v3-child
+    (λ c. record { fits = omega (arith, slot (c .before .before .before .before .before .before .before .before .before)) })
+    (λ c. slot (c .before .before .before .before .before .before .before .before .before))
+    (λ c. record { fits = few (recordOf (c .before .before .before .before .before .before .before .before .before)) })
     (λ c. search needs)
-    arms.again-v3
+    arms.again-v3-child
+    arms.ready-v3-own
+    (λ c. record { fits = omega (arith, slot (c .before .before .before .before .before .before .before .before .before)) })
+    (λ c. slot (c .before .before .before .before .before .before .before .before .before))
+    (λ c. record { fits = few (recordOf (c .before .before .before .before .before .before .before .before .before)) })
+    (λ c. search needs)
+    arms.again-v3-own
     -- R1
     (λ c. search needs)
     (λ c. record { fits = omega (arith, slot (c .before .before)) })
@@ -245,6 +268,7 @@ play-spec =
     arms.full-q
     (λ c. record { fits = omega (arith, slot (c .before .before .before)) })
     (λ c. slot (c .before .before .before))
+    (λ c. omega (arith, found (c .before .before .before .before .before .before) .low))
     arms.busy-q
     arms.ready-q
     (λ c κs. (omega (arith, few-answers (c .before .before .before .before .before)), c .answer-of .ensures .1 .0, c .answer-of .ensures .1 .1, c .answer-of .ensures .1 .2))
@@ -258,8 +282,11 @@ play-spec =
     (λ c. omega (arith, recordOf (c .before .before .before .before .before .before .before .before .before .before .before .before .before .before) .loop-test .taken))
     arms.again-q
     -- another record
-    (λ c κs. omega (arith, c .before .before .before .loop-test .taken))
-    (λ c κs. search needs)
+    (λ c. search needs)
+    (λ c κs. omega (arith, c .before .before .loop-test .taken))
+    begin-narrow
+    (λ c. search needs)
+    (λ c. search needs)
     (λ c κs. search needs)
     (λ c. search needs)
     (λ c. search needs)
@@ -276,10 +303,9 @@ play-spec =
     (λ c. search needs)
     (λ c. search needs)
     refused-begin
-    (λ c κs. search needs)
     entered-requires
-    (λ c. record { fits = omega (arith, begin-slot (c .before .before .before .before .before .before)) })
-    (λ c. begin-slot (c .before .before .before .before .before .before))
+    (λ c. record { fits = omega (arith, begin-slot (c .before .before .before .before .before)) })
+    (λ c. begin-slot (c .before .before .before .before .before))
     (λ c. record { fits = few (c .before .before .before .before .before .before .before .before .before .before .before .before .before) })
     (λ c. search needs)
     again-begin

@@ -9,12 +9,12 @@ use Rattle.stepping.proofs.blocks.help.Tie as tie
 absent-at-requires : tie.Need-absent-at-requires
 absent-at-requires c κs = search needs
 
-resume-requires : tie.Need-resume-requires
-resume-requires c κs = search needs
+after-child-requires : tie.Need-after-child-requires
+after-child-requires c κs = search needs
 
 returns : tie.Need-returns
 unfolding help block
-returns c = λ s heads b. rw (← node-read s _ _ _ _ b, ← c .before .before .absent-at .ensures, c .before .if1 .taken) (c .resume .ensures)
+returns c = λ s heads b. rw (← node-read s _ _ _ _ b, ← c .before .before .absent-at .ensures, c .before .if1 .taken) (c .after-child .ensures)
 
 advance-requires : tie.Need-advance-requires
 advance-requires c κs = search needs
@@ -25,4 +25,4 @@ returns-2 c = λ s heads b. rw (← node-read s _ _ _ _ b, ← c .before .before
 
 pub help-spec : {M : Type 1} → statement M
 help-spec =
-    tie.close (tie.spec absent-at-requires resume-requires returns advance-requires returns-2)
+    tie.close (tie.spec absent-at-requires after-child-requires returns advance-requires returns-2)

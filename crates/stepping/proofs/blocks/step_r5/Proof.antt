@@ -2,7 +2,7 @@
 use mathlib.Core.Path.{_≡_, refl, sym, _∙_}
 use Rattle.tree.specs.Shape.{rightOf}
 use Rattle.steps.specs.declared.Step.the-variants.{R5}
-use Rattle.steps.specs.Rules.{step, go}
+use Rattle.steps.specs.Rules.{ofChild, step, go}
 use Rattle.stepping.specs.Contracts.Next.{stepIn}
 use Rattle.stepping.proofs.StepNames.{other, busy}
 use borrow.Author.Needs.{needs}
@@ -28,6 +28,7 @@ add-v : tie.Need-add-v
 add-v c = let p = c .before .before .before .before .before .before .pre .1 _ _ (at (c .before .before)) .0 in search needs
 
 help-requires : tie.Need-help-requires
+unfolding ofChild
 help-requires c κs = let p = c .before .before .before .before .before .before .pre .1 _ _ (at (c .before .before)) .0 in search needs
 
 moved-requires : tie.Need-moved-requires

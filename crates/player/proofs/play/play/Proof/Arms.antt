@@ -1,11 +1,11 @@
 -- The arms of `play`'s loop, one a named step: what the step needs, and that the loop's invariant holds after it. Used
 -- by its proof alone.
-use mathlib.Core.Path.{refl, ap, sym}
+use mathlib.Core.Path.{refl, ap, sym, _∙_}
 use mathlib.Core.Bool.{true, false}
 use Rattle.steps.specs.Process.{idle}
 use Rattle.steps.specs.Machine.{isIdle, isQ}
 use Rattle.stepping.proofs.Decision.{decided-next}
-use Rattle.player.proofs.StepLoop.{q, step-named, step-busy, step-leaf, step-begins, step-playing, step-ready, step-fits, step-fits-leaf, telling-moves, step-moves, finish-full, finish-moves}
+use Rattle.player.proofs.StepLoop.{q, step-named, step-busy, step-leaf, step-begins, step-playing, step-same, step-ready, step-fits, step-fits-leaf, telling-moves, step-moves, finish-full, finish-moves}
 use Rattle.player.proofs.play.play.Proof.Places.{Inv-loop, μ-loop, found, few-steps, few-helps}
 use Rattle.player.proofs.play.play.Tie as tie
 
@@ -53,23 +53,41 @@ again-v2 c =
     step-moves f (b .before .status .given .1) (c .before .before .before .before .before .enum-told4 .given .1) refl _ _ _ refl (c .before .before .step-v2 .kept .0)
     (λ is _ placed. let e = c .before .before .step-v2 .ensures .0 _ _ _ _ _ is in (e .0, e .1 _ _ _ _ placed))
 
-pub ready-v3 : tie.Need-step-v3-requires Inv-loop μ-loop
+pub ready-v3-child : tie.Need-step-v3-child-requires Inv-loop μ-loop
 unfolding idle isQ
-ready-v3 c κs = let b = c .before .before .before .before in (few-steps b, few-helps b, λ _ _ _ _ e. step-ready (found b) (b .before .status .given .1) e refl)
+ready-v3-child c κs =
+    let b = c .before .before .before .before .before .before in
+    let told = c .before .before .advances-child .ensures .0 in
+    (few-steps b, few-helps b, λ _ _ _ _ e. let r = step-ready (found b) (b .before .status .given .1) e refl in (sym (told _ _ _ _ e) ∙ c .before .if3 .taken, r .0, r .1))
 
-pub again-v3 : tie.Need-loop-again-4 Inv-loop μ-loop
+pub again-v3-child : tie.Need-loop-again-4 Inv-loop μ-loop
 unfolding idle isQ
-again-v3 c =
-    let b = c .before .before .before .before .before .before .before in
+again-v3-child c =
+    let b = c .before .before .before .before .before .before .before .before .before in
     let f = found b in
-    telling-moves f (b .before .status .given .1) (c .before .before .before .before .before .enum-told5 .given .1) refl _ _ _ (c .before .before .step-v3 .kept .0) refl
-    (λ is _ _. c .before .before .step-v3 .ensures .0 _ _ _ _ is _ _ _)
+    telling-moves f (b .before .status .given .1) (c .before .before .before .before .before .before .before .enum-told5 .given .1) refl _ _ _ (c .before .before .step-v3-child .kept .0) refl
+    (λ is _ _. c .before .before .step-v3-child .ensures .0 _ _ _ _ is _ _ _)
+
+pub ready-v3-own : tie.Need-step-v3-own-requires Inv-loop μ-loop
+unfolding idle isQ
+ready-v3-own c κs =
+    let b = c .before .before .before .before .before .before in
+    let told = c .before .before .advances-child .ensures .0 in
+    (few-steps b, λ _ _ _ _ e. let r = step-ready (found b) (b .before .status .given .1) e refl in (sym (told _ _ _ _ e) ∙ c .before .if3 .left, r .0, r .1))
+
+pub again-v3-own : tie.Need-loop-again-5 Inv-loop μ-loop
+unfolding idle isQ
+again-v3-own c =
+    let b = c .before .before .before .before .before .before .before .before .before in
+    let f = found b in
+    step-moves f (b .before .status .given .1) (c .before .before .before .before .before .before .before .enum-told5 .given .1) refl _ _ _ (c .before .before .step-v3-own .kept .0) refl
+    (λ is _ _. let e = c .before .before .step-v3-own .ensures .0 _ _ _ _ is in (e .0, e .1 _ _ _ _))
 
 pub ready-r1 : tie.Need-step-r1-requires Inv-loop μ-loop
 unfolding idle isQ
 ready-r1 c κs = let b = c .before .before .before .before in (few-steps b, λ _ _ e. step-ready (found b) (b .before .status .given .1) e refl)
 
-pub again-r1 : tie.Need-loop-again-5 Inv-loop μ-loop
+pub again-r1 : tie.Need-loop-again-6 Inv-loop μ-loop
 unfolding idle isQ
 again-r1 c =
     let b = c .before .before .before .before .before in
@@ -81,7 +99,7 @@ pub ready-r2 : tie.Need-step-r2-requires Inv-loop μ-loop
 unfolding idle isQ
 ready-r2 c κs = let b = c .before .before .before .before in (few-steps b, λ _ e. step-ready (found b) (b .before .status .given .1) e refl)
 
-pub again-r2 : tie.Need-loop-again-6 Inv-loop μ-loop
+pub again-r2 : tie.Need-loop-again-7 Inv-loop μ-loop
 unfolding idle isQ
 again-r2 c =
     let b = c .before .before .before .before .before in
@@ -96,7 +114,7 @@ ready-r3 c κs =
     let busy = b .before .status .given .1 in
     (few-steps b, λ _ _ e. ((step-ready (found b) busy e refl) .1, step-fits (found b) busy e refl))
 
-pub again-r3 : tie.Need-loop-again-7 Inv-loop μ-loop
+pub again-r3 : tie.Need-loop-again-8 Inv-loop μ-loop
 unfolding idle isQ
 again-r3 c =
     let b = c .before .before .before .before .before in
@@ -108,7 +126,7 @@ pub ready-r4 : tie.Need-step-r4-requires Inv-loop μ-loop
 unfolding idle isQ
 ready-r4 c κs = let b = c .before .before .before .before in (few-steps b, λ _ e. step-ready (found b) (b .before .status .given .1) e refl)
 
-pub again-r4 : tie.Need-loop-again-8 Inv-loop μ-loop
+pub again-r4 : tie.Need-loop-again-9 Inv-loop μ-loop
 unfolding idle isQ
 again-r4 c =
     let b = c .before .before .before .before .before in
@@ -123,7 +141,7 @@ ready-r5 c κs =
     let busy = b .before .status .given .1 in
     (few-steps b, λ _ _ e. ((step-ready (found b) busy e refl) .1, step-fits (found b) busy e refl))
 
-pub again-r5 : tie.Need-loop-again-9 Inv-loop μ-loop
+pub again-r5 : tie.Need-loop-again-10 Inv-loop μ-loop
 unfolding idle isQ
 again-r5 c =
     let b = c .before .before .before .before .before in
@@ -135,7 +153,7 @@ pub ready-c1 : tie.Need-step-c1-requires Inv-loop μ-loop
 unfolding idle isQ
 ready-c1 c κs = let b = c .before .before .before .before in (few-steps b, λ _ e. step-ready (found b) (b .before .status .given .1) e refl)
 
-pub again-c1 : tie.Need-loop-again-10 Inv-loop μ-loop
+pub again-c1 : tie.Need-loop-again-11 Inv-loop μ-loop
 unfolding idle isQ
 again-c1 c =
     let b = c .before .before .before .before .before in
@@ -147,7 +165,7 @@ pub ready-c2 : tie.Need-step-c2-requires Inv-loop μ-loop
 unfolding idle isQ
 ready-c2 c κs = let b = c .before .before .before .before in (few-steps b, λ _ _ e. step-ready (found b) (b .before .status .given .1) e refl)
 
-pub again-c2 : tie.Need-loop-again-11 Inv-loop μ-loop
+pub again-c2 : tie.Need-loop-again-12 Inv-loop μ-loop
 unfolding idle isQ
 again-c2 c =
     let b = c .before .before .before .before .before in
@@ -162,7 +180,7 @@ ready-c3l c κs =
     let busy = b .before .status .given .1 in
     (few-steps b, λ _ _ _ e. ((step-ready (found b) busy e refl) .1, step-fits (found b) busy e refl))
 
-pub again-c3l : tie.Need-loop-again-12 Inv-loop μ-loop
+pub again-c3l : tie.Need-loop-again-13 Inv-loop μ-loop
 unfolding idle isQ
 again-c3l c =
     let b = c .before .before .before .before .before in
@@ -177,7 +195,7 @@ ready-c3r c κs =
     let busy = b .before .status .given .1 in
     (few-steps b, λ _ _ _ _ _ e. ((step-ready (found b) busy e refl) .1, step-fits (found b) busy e refl))
 
-pub again-c3r : tie.Need-loop-again-13 Inv-loop μ-loop
+pub again-c3r : tie.Need-loop-again-14 Inv-loop μ-loop
 unfolding idle isQ
 again-c3r c =
     let b = c .before .before .before .before .before in
@@ -193,12 +211,12 @@ pub ready-c3n-up : tie.Need-step-c3n-up-requires Inv-loop μ-loop
 unfolding idle
 ready-c3n-up c κs = few-steps (c .before .before .before .before .before .before)
 
-pub again-c3n-up : tie.Need-loop-again-14 Inv-loop μ-loop
+pub again-c3n-up : tie.Need-loop-again-15 Inv-loop μ-loop
 unfolding idle isQ
 again-c3n-up c =
     let b = c .before .before .before .before .before .before .before in
     let f = found b in
-    let decided = rw (c .before .if3 .taken) at (c .before .before .adds-nothing .ensures) in
+    let decided = rw (c .before .if4 .taken) at (c .before .before .adds-nothing .ensures) in
     step-moves f (b .before .status .given .1) (c .before .before .before .before .before .enum-told15 .given .1) refl _ _ _ refl refl
     (λ is _ placed.
     let e = decided-next _ _ (q f) _ _ _ _ _ _ is true (decided .0 _ _ _ _ _ is) (c .step-c3n-up .ensures .0 _ _ _ _ _ is) in
@@ -211,12 +229,12 @@ ready-c3n-on c κs =
     let busy = b .before .status .given .1 in
     (few-steps b, λ _ _ _ _ _ e. (step-ready (found b) busy e refl) .1)
 
-pub again-c3n-on : tie.Need-loop-again-15 Inv-loop μ-loop
+pub again-c3n-on : tie.Need-loop-again-16 Inv-loop μ-loop
 unfolding idle isQ
 again-c3n-on c =
     let b = c .before .before .before .before .before .before .before .before in
     let f = found b in
-    let decided = rw (c .before .before .if3 .left) at (c .before .before .before .adds-nothing .ensures) in
+    let decided = rw (c .before .before .if4 .left) at (c .before .before .before .adds-nothing .ensures) in
     step-moves f (b .before .status .given .1) (c .before .before .before .before .before .before .enum-told15 .given .1) refl _ _ _ refl refl
     (λ is _ placed.
     let e = decided-next _ _ (q f) _ _ _ _ _ _ is false (decided .0 _ _ _ _ _ is) (c .step-c3n-on .ensures .0 _ _ _ _ _ is) in
@@ -229,7 +247,7 @@ ready-c4 c κs =
     let busy = b .before .status .given .1 in
     (few-steps b, λ _ _ e. ((step-ready (found b) busy e refl) .1, step-fits (found b) busy e refl))
 
-pub again-c4 : tie.Need-loop-again-16 Inv-loop μ-loop
+pub again-c4 : tie.Need-loop-again-17 Inv-loop μ-loop
 unfolding idle isQ
 again-c4 c =
     let b = c .before .before .before .before .before .before .before in
@@ -237,13 +255,13 @@ again-c4 c =
     step-moves f (b .before .status .given .1) (c .before .before .before .before .before .enum-told16 .given .1) refl _ _ _ refl (c .before .before .step-c4 .kept .0)
     (λ is _ placed. let e = c .before .before .step-c4 .ensures .0 _ _ is in (e .0, e .1 _ _ _ _ placed))
 
-pub full-q : tie.Need-returns-2 Inv-loop μ-loop
+pub full-q : tie.Need-returns-3 Inv-loop μ-loop
 unfolding idle
 full-q c =
     let b = c .before .before .before .before in
     let f = found b in
     let busy = b .before .status .given .1 in
-    rw (c .ended2 .ensures) (finish-full f (step-busy f busy refl (step-named f busy (c .before .before .enum-told17 .given .1))) (c .before .if4 .taken))
+    rw (c .ended3 .ensures) (finish-full f (step-busy f busy refl (step-named f busy (c .before .before .enum-told17 .given .1))) (c .before .if5 .taken))
 
 pub busy-q : tie.Need-operation-in-requires Inv-loop μ-loop
 unfolding idle isIdle
@@ -255,9 +273,9 @@ ready-q c κs =
     let b = c .before .before .before .before .before .before .before in
     let f = found b in
     let busy = b .before .status .given .1 in
-    (step-playing f, step-busy f busy (c .operation-in .ensures) (step-named f busy (c .before .before .before .before .before .enum-told17 .given .1)))
+    (rw (step-same f) (step-playing f), step-busy f busy (c .operation-in .ensures) (step-named f busy (c .before .before .before .before .before .enum-told17 .given .1)))
 
-pub again-q : tie.Need-loop-again-17 Inv-loop μ-loop
+pub again-q : tie.Need-loop-again-18 Inv-loop μ-loop
 unfolding idle
 again-q c =
     let w = c .before .before .before in
@@ -267,5 +285,5 @@ again-q c =
     let f = found b in
     let busy = b .before .status .given .1 in
     rw (c .rested .ensures)
-    (finish-moves f (step-busy f busy (a .before .operation-in .ensures) (step-named f busy (e .before .enum-told17 .given .1))) (e .if4 .left) _ _ _ (w .write-answer .kept .0)
-    (a .answer-of .ensures .0) (w .before .before .equal-after .ensures) (w .write-answer .ensures))
+    (finish-moves f (step-busy f busy (a .before .operation-in .ensures) (step-named f busy (e .before .enum-told17 .given .1))) (e .if5 .left) _ _ _ (w .write-answer .kept .0)
+    (rw (step-same f) at (a .answer-of .ensures .0)) (w .before .before .equal-after .ensures) (w .write-answer .ensures))

@@ -74,8 +74,8 @@ step-at c =
       inv = c .before .before .before .before .before .before .loop .inv;
       more = c .before .before .before .before .before .loop-test .taken;
       word = c .before .before .before .before .word-at .ensures;
-      zero = sym (c .before .before .before .word-at2 .ensures) ∙ c .before .before .if1 .taken;
-      low = c .before .if2 .taken;
+      zero = sym (c .before .before .word-at2 .ensures) ∙ c .before .if2 .left;
+      low = c .before .before .before .if1 .taken;
       at = c .as-index .ensures;
     }
 
@@ -104,36 +104,34 @@ unfolding idle
 few-helps b = omega (arith, helps-small _ _ _ _ _ _ _ (step-plays (found b)))
 
 -- where there is room for an answer
-pub few-answers : (c : tie.Else4 Inv-loop μ-loop) → 16 * stateAt (recordOf (c .before .before .before)) .answers + 16 < 18446744073709551616
+pub few-answers : (c : tie.Else5 Inv-loop μ-loop) → 16 * stateAt (recordOf (c .before .before .before)) .answers + 16 < 18446744073709551616
 few-answers c =
     let g = recordOf (c .before .before .before) .before in
-    omega (arith, c .if4 .left, g .loop .inv .so-far .spare, g .before .before .before .before .before .before .before .fits .room)
+    omega (arith, c .if5 .left, g .loop .inv .so-far .spare, g .before .before .before .before .before .before .before .fits .room)
 
 -- ---- at another record
 
+-- its two words say that it is a begin, or nothing
 abbrev pub AtOther : Type 0
-AtOther = tie.After-step-record Inv-loop μ-loop
+AtOther = tie.After-begin-of Inv-loop μ-loop
 
 pub other-at : (c : AtOther) →
     let r = c .before .before .before .before in
-    OtherAt (callAt r) (stateAt r) (r .before .loop .i) (c .before .before .before .word-at .result) (c .before .before .word-at2 .result) (c .step-record .result)
+    OtherAt (callAt r) (stateAt r) (r .before .loop .i) (c .before .before .before .word-at .result) (c .before .word-at3 .result) (c .begin-of .result)
 other-at c =
     record {
       inv = c .before .before .before .before .before .loop .inv;
       more = c .before .before .before .before .loop-test .taken;
-      is = c .step-record .ensures;
+      bytes = c .before .before .before .before .before .before .before .before .before .before .before .shared-slice-known .given;
       word = c .before .before .before .word-at .ensures;
-      other = c .before .before .word-at2 .ensures;
-      no-step = ⊎-elim (λ a z. a .1 .left) (λ b z. absurd (b .left z)) (c .before .if1 .came);
+      other = c .before .word-at3 .ensures;
+      no-step = c .before .before .if1 .left;
+      says = c .begin-of .ensures;
     }
-
--- where it is well-formed
-pub well : (c : tie.Else5 Inv-loop μ-loop) → illFormed (callAt (c .before .before .before .before .before .before) .p) (c .before .before .step-record .result) ≡ false
-well c = sym (c .before .ill-formed .ensures) ∙ c .if5 .left
 
 -- after its process was found
 abbrev pub AtBegin : Type 0
 AtBegin = tie.After-as-index2 Inv-loop μ-loop
 
 pub begin-slot : (w : AtBegin) → w .as-index2 .result < 8
-begin-slot w = begin-low (other-at (w .before .before .before)) (well (w .before)) (w .as-index2 .ensures)
+begin-slot w = begin-low (other-at (w .before .before .before .before)) (w .before .before .begin .given .1) (w .as-index2 .ensures)
