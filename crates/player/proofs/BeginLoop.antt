@@ -22,12 +22,12 @@ use Rattle.calls.specs.declared.Refusal.the-variants.{IllFormed}
 use Rattle.calls.specs.Refusals.{accepted, beginRefusal}
 use Rattle.calls.specs.Run.{operationOf}
 use Rattle.answer.proofs.PlaysLaws.{begun-small}
-use Rattle.player.specs.declared.Begin.{Begin}
-use Rattle.player.specs.declared.Begin.the-variants as Begin
-use Rattle.player.specs.declared.Begin.the-variants.{Opens}
-use Rattle.player.specs.Contracts.Begins.{firstWord, beginOf}
-use Rattle.player.proofs.StepWords.{formed, first-word, second-word, step-words}
-use Rattle.player.proofs.BeginWords.{step-valued, none-said, some-said}
+use Rattle.decode.specs.declared.Begin.{Begin}
+use Rattle.decode.specs.declared.Begin.the-variants as Begin
+use Rattle.decode.specs.declared.Begin.the-variants.{Opens}
+use Rattle.decode.specs.Contracts.Begins.{firstWord, beginOf}
+use Rattle.decode.proofs.StepWords.{formed, first-word, second-word, step-words}
+use Rattle.decode.proofs.BeginWords.{step-valued, none-said, some-said}
 use Rattle.player.proofs.RecordResults.{Refused, Moved}
 use Rattle.player.proofs.ResultLaws as laws
 use Rattle.player.proofs.LoopStates.{Call, State, shapeOf, countOf, memoryAt, processesOf, machineAt, afterMove, PlaysAs, Gives, EndsWith}

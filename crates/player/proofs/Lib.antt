@@ -1,5 +1,3 @@
-pub mod StepWords
-pub mod BeginWords
 pub mod RecordResults
 pub mod ResultLaws
 pub mod PlayLaws

@@ -32,7 +32,7 @@ use Rattle.log.proofs.Counted.{count-after}
 use Rattle.log.proofs.Written.{written-after}
 use Rattle.answer.proofs.PlaysLaws.{plays-ready}
 use Rattle.answer.specs.Contracts.Playing.{machineOf, Plays, Playing}
-use Rattle.player.proofs.StepWords.{stepOf, step-formed, words-step}
+use Rattle.decode.proofs.StepWords.{stepOf, step-formed, words-step}
 use Rattle.player.proofs.LoopStates.{Call, State, shapeOf, listOf, countOf, playedTo, memoryAt, processesOf, afterMove, afterAnswer, PlaysAs, Gives, EndsWith}
 use Rattle.player.proofs.RecordResults.{Moved}
 use Rattle.player.proofs.StepResults.{gives-idle, gives-full, gives-answer, gives-step}

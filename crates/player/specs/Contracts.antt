@@ -1,3 +1,2 @@
 -- What contracts of functions say in their own terms. Proofs use it; no exported promise names it.
 pub mod PlayCalls
-pub mod Begins

@@ -1,4 +1,1 @@
 pub mod StepNames
-pub mod Decision
-pub mod OwnWordsCode
-pub mod OwnWordsContracts

@@ -1,0 +1,3 @@
+pub mod Decision
+pub mod OwnWordsCode
+pub mod OwnWordsContracts

@@ -1,0 +1,2 @@
+pub mod StepWords
+pub mod BeginWords
