@@ -21,9 +21,10 @@
      block;
    - order record, 8 bytes: process; kind (1 put, 2 take); serial, 16 bits; root block, 32 bits.
 
-   A help is the move of a head for another process's block: a V3 that raises a child's head in an
-   advance begun by R3 or R5. One that finds the head raised already is no help, and neither is the
-   advance of the own leaf or of the refreshed node. */
+   A node's head is the place of its next block; who writes a block there raises the head past it, in
+   step V3. A help is such a move in the advance of a child, begun by R3 or R5: the operation raises the
+   child's head past a block that it found there. A V3 that finds the head raised already is no help, and
+   neither is the advance of the own leaf or of the refreshed node (docs/RULES.md, 5.3). */
 #ifndef OTQ_H
 #define OTQ_H
 

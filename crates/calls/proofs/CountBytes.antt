@@ -3,10 +3,10 @@
 use Prim.Native.Nat.{ℕ, zero, suc, _+_, _*_, _≤_, _<_}
 use native.Mathlib.Omega.{arith}
 use native.Mathlib.Nat.{mod-eq-of-lt, mul-zero}
-use mathlib.Core.Path.{_≡_, refl, ap, _∙_}
+use mathlib.Core.Path.{_≡_, ap, _∙_}
 use mathlib.Core.Bool.{true}
-use mathlib.Core.List.{List, [], _∷_, _++_, map, flatMap}
-use lib.ListN.{length, getD, take, drop, length-map, List·getD-map}
+use mathlib.Core.List.{List, [], _∷_, map, flatMap}
+use lib.ListN.{length, getD, take, length-map, List·getD-map}
 use lib.Seq.{take-at, drop-append-add}
 use Rattle.record.specs.declared.AnswerRecord.{AnswerRecord}
 use Rattle.record.specs.Bytes.{bytesOf}

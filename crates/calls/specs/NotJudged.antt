@@ -18,6 +18,10 @@ takeAlone = beginTake 0 ++ steps 17 0
 abbrev pub logWith : ℕ → List ℕ
 logWith b = bytes 0 3 17 0 0 1 b
 
+-- the same with u helps, of which it has none
+abbrev pub logWithHelps : ℕ → List ℕ
+logWithHelps u = bytes 0 3 17 u 0 1 1
+
 -- what is judged: a verdict v with index i on a log of that take, with a table of 42 words
 abbrev pub VerdictTells : List ℕ → ℕ → ℕ → Type 0
 VerdictTells log v i = Judges 2 1 42 takeAlone log v i
@@ -31,6 +35,11 @@ onItsLog v i j = j .same .1 (record { call = refl; list = refl }, refl)
 pub onAnotherByte : (v i : ℕ) → VerdictTells (logWith 2) v i → (v ≡ 1) × (i ≡ 0)
 unfolding rules beginTake steps
 onAnotherByte v i j = j .differs 0 .1 (record { call = refl; list = refl }, record { before = refl; here = λ e. omega (arith, ap (λ (l : List ℕ). getD l 12 0) e) })
+
+-- byte 3 alone unequal: the same
+pub onAnotherHelp : (v i : ℕ) → VerdictTells (logWithHelps 1) v i → (v ≡ 1) × (i ≡ 0)
+unfolding rules beginTake steps
+onAnotherHelp v i j = j .differs 0 .1 (record { call = refl; list = refl }, record { before = refl; here = λ e. omega (arith, ap (λ (l : List ℕ). getD l 3 0) e) })
 
 -- no record, and one too many: 'differs' at the record that is lacking in one
 pub onShorter : (v i : ℕ) → VerdictTells [] v i → (v ≡ 1) × (i ≡ 0)

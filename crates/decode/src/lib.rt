@@ -1,9 +1,9 @@
-// Step records told apart by their two words: a step, or a begin and what it opens.
+// What a record that is no step says, by its two words: who begins which operation, or that it is ill-formed.
 pub mod begins;
 
 use steps::Operation;
 
-// What a record that is no step says: the process that it names opens an operation. An ill-formed record opens none.
+// The process that the record names opens an operation; an ill-formed record opens none.
 pub enum Begin {
     IllFormed,
     Opens { process: u32, operation: Operation },

@@ -54,9 +54,10 @@ fn ended(refusal: Refusal, taken: usize, answers: usize, equal: usize) -> Outcom
 }
 
 // Plays the records from the start, where there is room for `room` bytes of answers. Each answer is written to `out`,
-// if that has any bytes, and compared with the one in the same place of `log`. A step is told from the other records by
-// two words, which is all that most records are. Each named step has its own arm, which reads the process again and
-// stores it, so that a step loads and stores only the registers that it uses.
+// if that has any bytes, and compared with the one in the same place of `log`. A record is told by its two words; why,
+// and why Q takes the process modulo p, below which it is, docs/DECISIONS.md says in "Two words tell a record". Each
+// named step has its own arm, which reads the process again and stores it, so that a step loads and stores only the
+// registers that it uses.
 pub fn play(
     p: u32,
     l: u32,

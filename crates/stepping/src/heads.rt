@@ -51,7 +51,7 @@ pub fn step_v1(heads: &[u32], q: Process) -> Process
 // V3 raises the head of v past the block at h, and tells whether the head moved. A process at another step raises none.
 fn raise_in(heads: &mut [u32], q: Process) -> bool
     requires { ⌜ ((a : After) (w : Visit) (v h : ℕ) → stepIn (q .status) ≡ Step.V3 a w v h → (v < length (now heads)) × (h < 65536)) ⌝ }
-    ensures { λ moved. ⌜ Raises (now (heads .entry)) (now (heads .exit)) q moved ⌝ }
+    ensures { λ raised. ⌜ Raises (now (heads .entry)) (now (heads .exit)) q raised ⌝ }
 {
     let Step::V3 { node, place, .. } = step_in(q) else {
         return false;
@@ -78,11 +78,11 @@ pub fn step_v3_child(heads: &mut [u32], q: Process) -> Process
         (ofChild a ≡ true) × (v < length (now heads)) × (h < 65536)) ⌝ }
     ensures { λ r. ⌜ StepsTelling (λ P. (a : After) (w : Visit) (v h : ℕ) → P (Step.V3 a w v h)) (now (heads .entry)) (now (heads .exit)) q r ⌝ }
 {
-    let moved = raise_in(heads, q);
+    let raised = raise_in(heads, q);
     let Step::V3 { after, visit, .. } = step_in(q) else {
         return q;
     };
-    moved_telling(q, after_child(after, visit), moved)
+    moved_telling(q, after_child(after, visit), raised)
 }
 
 // V3 in the advance of the own leaf or of the refreshed node, which is no help, whether the head moves or not.

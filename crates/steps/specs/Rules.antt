@@ -38,12 +38,12 @@ resume Up w = above (w .node)
 unfoldable pub advance : Visit → After → ℕ → ℕ → Step
 advance w a v h = if eqb v root then V3 a w v h else V1 a w v h
 
--- what follows the advance of a refreshed node: a failed first refresh is done a second time; after a first that
--- succeeded, or a second whatever its outcome, go on up
+-- what follows the advance of a refreshed node whose refresh failed: after the first a second, after that the way up
 unfoldable pub afterFailed : Refresh → After
 afterFailed First = Again
 afterFailed Second = Up
 
+-- what follows the advance of a refreshed node: the way up, if the refresh succeeded
 unfoldable pub afterRefresh : Refresh → Bool → After
 afterRefresh x success = if success then Up else afterFailed x
 
@@ -91,6 +91,7 @@ pub record Stepped : Type 0 where
 
 -- a step of process k, inside operation o, on memory m: a line a named step
 module _ (s : Shape) (k : ℕ) (o : Operation) (m : Memory) where
+  -- on to step n; V3 alone may be a help
   unfoldable pub goTelling : Memory → Step → Bool → Stepped
   goTelling after n helped = record { memory = after; next = Busy o n; helped = helped }
 

@@ -19,7 +19,7 @@ pub fn head_of(heads: &[u32], v: u32) -> u32
 pub fn raise(heads: &mut [u32], v: u32, h: u32) -> bool
     requires { ⌜ (v < length (now heads)) × (h < 65536) ⌝ }
     ensures head { λ _. ⌜ now (heads .exit) ≡ raiseOf (memoryOf [] (now (heads .entry))) v h .heads ⌝ }
-    ensures told { λ moved. ⌜ moved ≡ headIs (memoryOf [] (now (heads .entry))) v h ⌝ }
+    ensures told { λ raised. ⌜ raised ≡ headIs (memoryOf [] (now (heads .entry))) v h ⌝ }
 {
     if head_of(heads, v) == h {
         heads[as_index(v)] = h + 1;

@@ -46,7 +46,8 @@ struct Process {
     kind: u32,
     value: u32,
     begun: u32,
-    /// As two words they would not fit in the line.
+    /// Own steps and helps of the operation, each below 256; as two words they would not fit in the
+    /// cache line.
     steps: u16,
     helps: u16,
 }
@@ -201,6 +202,7 @@ impl Memory {
             }
         }
         let words = answer.cast::<u32>();
+        // Bytes 2 and 3.
         let counts = u32::from(q.steps) | u32::from(q.helps) << 8;
         words.write_unaligned((k | kind << 8 | counts << 16).to_le());
         words.add(1).write_unaligned(value.to_le());

@@ -60,7 +60,7 @@ pub const ANSWER: Sort = Sort {
         PROCESS,
         kind(&[(1, "put done"), (2, "value"), (3, "none")]),
         plain("own steps", 2, 1, "of the operation, from A to Q"),
-        plain("helps", 3, 1, "heads moved for other processes' blocks"),
+        plain("helps", 3, 1, "heads of children moved inside refreshes"),
         plain("value", 4, 4, "that a take got; else 0"),
         plain(
             "serial",

@@ -39,12 +39,12 @@ fn records() {
         "answer record, 16 bytes",
         "order record, 8 bytes",
         "  2           own steps   of the operation, from A to Q",
-        "  3           helps       heads moved for other processes' blocks",
+        "  3           helps       heads of children moved inside refreshes",
         "  1           kind        1 put done, 2 value, 3 none",
     ] {
         assert!(records.contains(&format!("{line}\n")), "{line}");
     }
-    let help = "\nA help is the move of a head for another process's block: ";
+    let help = " A help is such a move inside a refresh: ";
     assert!(records.contains(help), "{records}");
 }
 

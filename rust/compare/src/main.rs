@@ -3,7 +3,9 @@
 //! tells what was never met, as some numbers and verdicts are not where records are few. If no help
 //! was met, helps were not compared, and it fails.
 
-use compare::random_calls::compare;
+use compare::random_calls::{compare, of_each_p};
+use reference::demand3::step_limit;
+use reference::helps::help_limit;
 use std::io::{stderr, Write};
 use std::process::ExitCode;
 use std::time::{Duration, Instant};
@@ -44,15 +46,19 @@ fn compare_records(records: u64, seed: u64) -> ExitCode {
     );
     println!("calls by refusal number, from 0: {:?}", tally.refusals);
     println!("verdicts same, differs, refused: {:?}", tally.verdicts);
-    println!("{}", tally.most_own_steps());
-    println!("{}", tally.most_helps());
+    println!(
+        "most own steps: {}",
+        of_each_p(tally.most_steps, step_limit)
+    );
+    println!("most helps: {}", of_each_p(tally.most_helps, help_limit));
     println!("{}", tally.forecasts);
     let never = tally.never_met();
     if !never.is_empty() {
         println!("never met: {}", never.join(", "));
     }
-    match tally.helps_met() {
-        true => ExitCode::SUCCESS,
-        false => ExitCode::FAILURE,
+    if !tally.helps_met() {
+        eprintln!("no help was met, so helps were not compared: play more records");
+        return ExitCode::FAILURE;
     }
+    ExitCode::SUCCESS
 }

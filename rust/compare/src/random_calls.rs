@@ -3,7 +3,6 @@
 use crate::calls::Input;
 use crate::forecasts::Forecasts;
 use otq::{most_answer_bytes, most_order_bytes, table_words};
-use reference::demand3::step_limit;
 use reference::hostile::{below, harm_list, harm_log};
 use reference::process::STEP_NAMES;
 use reference::random::Random;
@@ -11,7 +10,7 @@ use reference::records::{Answer, ANSWER_RECORD_BYTES};
 use reference::schedules::{schedule, Ending, Pace, Plan};
 use reference::tree::Shape;
 
-/// How much was compared, and how often each refusal and verdict came up.
+/// How much was compared, how often each refusal and verdict came up, and the most steps and helps.
 #[derive(Clone, Default, Debug)]
 pub struct Tally {
     pub lists: u64,
@@ -111,31 +110,20 @@ impl Tally {
         }
     }
 
-    /// The most own steps that were met, for each p beside the limit.
-    pub fn most_own_steps(&self) -> String {
-        let told = |(p, most)| {
-            let limit = step_limit(Shape::new(p, 1).expect("a proper p and L"));
-            format!("p = {p}: {most} of {limit}")
-        };
-        let of_p: Vec<String> = [2, 4, 8]
-            .into_iter()
-            .zip(self.most_steps)
-            .map(told)
-            .collect();
-        format!("most own steps: {}", of_p.join(", "))
-    }
-
-    /// The most helps that were met, for each p.
-    pub fn most_helps(&self) -> String {
-        let of_p = [2, 4, 8].into_iter().zip(self.most_helps);
-        let of_p: Vec<String> = of_p.map(|(p, most)| format!("p = {p}: {most}")).collect();
-        format!("most helps: {}", of_p.join(", "))
-    }
-
     /// Whether any answer told of a help.
     pub fn helps_met(&self) -> bool {
         self.most_helps != [0; 3]
     }
+}
+
+/// The most that was met, for each p beside the limit.
+pub fn of_each_p(most: [u8; 3], limit: fn(Shape) -> u32) -> String {
+    let told = |(p, most)| {
+        let limit = limit(Shape::new(p, 1).expect("a proper p and L"));
+        format!("p = {p}: {most} of {limit}")
+    };
+    let of_p: Vec<String> = [2, 4, 8].into_iter().zip(most).map(told).collect();
+    of_p.join(", ")
 }
 
 fn random_plan(random: &mut Random) -> Plan {

@@ -7,7 +7,8 @@ const RECORDS: u64 = 1_000_000;
 
 fn compare_seed(seed: u64) {
     let tally = compare(RECORDS, seed, |_| {});
-    // Each number and each verdict has come up, so that no comparison is left out by chance.
+    // Each number and each verdict, and for each p a help, has come up, so that no comparison is left
+    // out by chance.
     assert_eq!(tally.never_met(), [""; 0], "{tally:?}");
 }
 

@@ -3,6 +3,10 @@
 
 use std::process::Command;
 
+/// For each p, the limits of an operation.
+const STEP_LIMITS: [u32; 3] = [41, 81, 121];
+const HELP_LIMITS: [u32; 3] = [2, 6, 10];
+
 #[test]
 fn one_line_of_usage() {
     for words in [&[][..], &["many"], &["1", "2", "3"], &["-1"]] {
@@ -18,13 +22,23 @@ fn one_line_of_usage() {
     }
 }
 
-/// What the program says of each p in the line that begins so.
-fn of_each_p<'a>(said: &'a str, begins: &str) -> [&'a str; 3] {
+/// What the program says of each p in the line that begins so, beside these limits.
+fn of_each_p(said: &str, begins: &str, limits: [u32; 3]) -> [u32; 3] {
     let line = said.lines().find_map(|line| line.strip_prefix(begins));
     let told: Vec<&str> = line.expect("a line").split(", ").collect();
     let told: [&str; 3] = told.try_into().expect("three p");
-    let each = [2, 4, 8].map(|p| format!("p = {p}: "));
-    std::array::from_fn(|at| told[at].strip_prefix(&each[at]).expect(said))
+    std::array::from_fn(|at| {
+        let (p, limit) = ([2, 4, 8][at], limits[at]);
+        let most = told[at].strip_prefix(&format!("p = {p}: "));
+        let most = most.and_then(|most| most.strip_suffix(&format!(" of {limit}")));
+        most.and_then(|most| most.parse().ok()).expect(said)
+    })
+}
+
+fn assert_above(most: [u32; 3], low: [u32; 3], limits: [u32; 3]) {
+    for at in 0..3 {
+        assert!(low[at] < most[at] && most[at] <= limits[at], "{most:?}");
+    }
 }
 
 /// For each p the longest operation that was met, which is none of the shortest, and the limit; and
@@ -35,17 +49,16 @@ fn most_own_steps_and_helps() {
     let output = command.arg("100000").output().expect("the program starts");
     assert!(output.status.success(), "{output:?}");
     let said = String::from_utf8(output.stdout).expect("text");
-    let told = of_each_p(&said, "most own steps: ").into_iter();
-    for (told, (alone, limit)) in told.zip([(17, 41), (31, 81), (45, 121)]) {
-        let steps = told.strip_suffix(&format!(" of {limit}"));
-        let steps: u32 = steps.and_then(|steps| steps.parse().ok()).expect(told);
-        assert!(alone < steps && steps <= limit, "{told}");
-    }
-    let told = of_each_p(&said, "most helps: ").into_iter();
-    for (told, limit) in told.zip([2, 6, 10]) {
-        let helps: u32 = told.parse().expect(told);
-        assert!(0 < helps && helps <= limit, "{told}");
-    }
+    assert_above(
+        of_each_p(&said, "most own steps: ", STEP_LIMITS),
+        [17, 31, 45],
+        STEP_LIMITS,
+    );
+    assert_above(
+        of_each_p(&said, "most helps: ", HELP_LIMITS),
+        [0; 3],
+        HELP_LIMITS,
+    );
 }
 
 #[test]
@@ -54,5 +67,7 @@ fn without_helps_it_fails() {
     let output = command.arg("0").output().expect("the program starts");
     assert_eq!(output.status.code(), Some(1), "{output:?}");
     let said = String::from_utf8(output.stdout).expect("text");
-    assert_eq!(of_each_p(&said, "most helps: "), ["0"; 3]);
+    assert_eq!(of_each_p(&said, "most helps: ", HELP_LIMITS), [0; 3]);
+    let failed = String::from_utf8(output.stderr).expect("text");
+    assert!(failed.contains("no help was met"), "{failed}");
 }

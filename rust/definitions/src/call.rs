@@ -4,7 +4,7 @@ use crate::decimal::{bytes, words};
 use crate::met::Met;
 use crate::row::{Row, Statement};
 use reference::check::{check_log, CheckResult};
-use reference::helps::helps_in;
+use reference::helps::child_v3s;
 use reference::list::list_order;
 use reference::records::{Answer, ANSWER_RECORD_BYTES, ORDER_RECORD_BYTES, STEP_RECORD_BYTES};
 use reference::run::{run, RunResult};
@@ -108,18 +108,18 @@ impl Call {
         (text.join(" "), met)
     }
 
-    /// The helps in the answers that Run wrote, and those that the records which it took came to.
+    /// The helps that the answers tell, and each V3 of a child among the records taken.
     fn helps(&self, ran: RunResult, answers: &[u8]) -> Vec<Met> {
         let answers = answers.chunks_exact(ANSWER_RECORD_BYTES);
         let told = answers.take(ran.answers as usize).map(|record| {
             let answer = Answer::read(record).expect("an answer that Run wrote");
-            Met::count("helps", answer.helps.into())
+            Met::count("answer helps", answer.helps.into())
         });
         let mut met: Vec<Met> = told.collect();
         if let Ok(shape) = Shape::new(self.p, self.l) {
             let taken = &self.records[..STEP_RECORD_BYTES * ran.taken as usize];
-            let helps = helps_in(shape, taken).into_iter();
-            met.extend(helps.map(|help| Met::help(self.p, help)));
+            let v3s = child_v3s(shape, taken).into_iter();
+            met.extend(v3s.map(|v3| Met::child_v3(self.p, v3)));
         }
         met
     }

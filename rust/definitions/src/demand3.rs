@@ -13,6 +13,7 @@ use reference::schedules::{schedule, Ending, Pace, Plan};
 pub fn rows() -> Vec<Row> {
     let unfinished = List::new().put(0, WIDE).steps(0, 17).take(1).steps(1, 16);
     let unfinished = unfinished.put(0, 6).steps(0, 2);
+    let helped = List::new().put(0, 9).steps(0, 1).put(1, 8).steps(1, 10);
     let of_eight = List::new().take(7).steps(7, 45).put(0, 1).steps(0, 1);
     let lists = [
         ("no records", 2, 1, List::new()),
@@ -22,6 +23,7 @@ pub fn rows() -> Vec<Row> {
         ("one by one", 2, 2, one_by_one()),
         ("a take before its Q, a put begun", 2, 2, unfinished),
         ("a take alone, a put begun", 8, 1, of_eight),
+        ("a put with a help, unfinished", 2, 1, helped),
     ];
     let known = lists
         .into_iter()
@@ -30,9 +32,9 @@ pub fn rows() -> Vec<Row> {
 }
 
 /// Of the lists with helps, those that show something which M6 does not.
-fn helps() -> [Row; 5] {
-    let [_, right, found_moved, _, none_next, in_both, inner, ..] = help_lists();
-    [right, found_moved, none_next, in_both, inner].map(|fixed| {
+fn helps() -> [Row; 6] {
+    let [_, right, found_moved, _, none_next, in_both, inner, _, failed] = help_lists();
+    [right, found_moved, none_next, in_both, inner, failed].map(|fixed| {
         let taken = Taken::new(fixed.p, fixed.l, fixed.list.bytes());
         taken.row(format!("helps: {}", fixed.about))
     })

@@ -4,7 +4,7 @@
 //! between the reads of another, `helps` for those in which a refresh advances a child's block;
 //! `forecast` for the fixed forecasts; `demand3` for its terms; `long` for more of these that take
 //! the prover long; and `tally FILE ..`, which says how often the rows of these files meet each
-//! number and fails if one is never met.
+//! number and case and fails if one is never met.
 
 mod call;
 mod decimal;

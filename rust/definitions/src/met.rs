@@ -1,7 +1,7 @@
 //! What the rows meet: the numbers and verdicts of the calls, their helps, and the cases of demand
 //! 3's terms.
 
-use reference::helps::Help;
+use reference::helps::ChildV3;
 use std::fmt;
 
 /// Everything that the rows must meet, by what can meet it. The numbers and verdicts of the calls
@@ -29,9 +29,9 @@ const REQUIRED: [(&str, &[&str]); 12] = [
             "inside another of 500: 6",
         ],
     ),
-    ("helps", &["0", "1", "more"]),
+    ("answer helps", &["0", "1", "more"]),
     (
-        "help",
+        "V3 of a child",
         &[
             "left leaf moved",
             "left leaf found moved",
@@ -78,11 +78,11 @@ impl Met {
     }
 
     /// A V3 of an advance begun in R3 or R5, with p processes.
-    pub fn help(p: u32, help: Help) -> Met {
-        let side = if help.is_left() { "left" } else { "right" };
-        let child = if help.child < p { "inner" } else { "leaf" };
-        let found = if help.moved { "moved" } else { "found moved" };
-        Met::new("help", format!("{side} {child} {found}"))
+    pub fn child_v3(p: u32, v3: ChildV3) -> Met {
+        let side = if v3.is_left() { "left" } else { "right" };
+        let child = if v3.child < p { "inner" } else { "leaf" };
+        let found = if v3.moved { "moved" } else { "found moved" };
+        Met::new("V3 of a child", format!("{side} {child} {found}"))
     }
 }
 

@@ -44,7 +44,7 @@ pub enum Outcome {
 
 /// An answer record.
 ///
-/// Process 0 stops after its first step, and process 1 moves the head of its leaf for it:
+/// Process 0 stops after its first step, and process 1 moves the head of process 0's leaf:
 ///
 /// ```
 /// use otq::{Act, Answer, Step};
@@ -62,10 +62,10 @@ pub struct Answer {
     pub outcome: Outcome,
     /// Own steps of the operation, A to Q: at most 41, 81 or 121 with p = 2, 4 or 8.
     pub steps: u8,
-    /// Helps of the operation, at most its steps: how often it moved a head for another process's
-    /// block. Counted is a V3 that raised a child's head in an advance begun by R3 or R5; one that
-    /// found the head raised already is no help, and neither is the advance of the own leaf or of
-    /// the refreshed node.
+    /// Helps of the operation, at most its steps: how often its V3 raised a child's head in an
+    /// advance begun by R3 or R5, past a block that it found there. One that found the head raised
+    /// already is no help, and neither is the advance of the own leaf or of the refreshed node
+    /// (docs/RULES.md, 5.3).
     pub helps: u8,
     /// The operation's number among those of its process, from 1.
     pub serial: u32,

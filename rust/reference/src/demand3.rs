@@ -129,7 +129,7 @@ pub fn replay(shape: Shape, records: &[u8]) -> Result<Vec<Told>, Violation> {
             }
         })?;
         let process = record.process;
-        let (answer, help) = play_watched(&mut machine, record);
+        let (answer, v3) = play_watched(&mut machine, record);
         match record.act {
             Act::Begin(operation) => {
                 let serial = 1 + told.iter().filter(|t| t.name.process == process).count() as u32;
@@ -146,7 +146,7 @@ pub fn replay(shape: Shape, records: &[u8]) -> Result<Vec<Told>, Violation> {
                 let own = told.iter_mut().rfind(|t| t.name.process == process);
                 let own = own.expect("a step that is taken has its operation");
                 own.steps += 1;
-                if help.is_some_and(|help| help.moved) {
+                if v3.is_some_and(|v3| v3.moved) {
                     own.helps.push(index);
                 }
                 own.end = answer.map(|_| index);

@@ -1,5 +1,5 @@
-//! Helps: the advances of a child's block inside a refresh, begun in R3 or R5, and whether their V3
-//! moved the head.
+//! The V3s of advances begun in R3 or R5, of a child's block inside a refresh. Those that move the
+//! head are the helps.
 
 use crate::machine::Machine;
 use crate::process::Step;
@@ -9,14 +9,14 @@ use crate::tree::Shape;
 
 /// The V3 of an advance begun in R3 or R5.
 #[derive(Clone, Copy, PartialEq, Eq, Hash, Debug)]
-pub struct Help {
+pub struct ChildV3 {
     /// The child whose head it looked at.
     pub child: u32,
-    /// Whether it moved the head; else another had moved it.
+    /// Whether it moved the head, which is a help; else another had moved it.
     pub moved: bool,
 }
 
-impl Help {
+impl ChildV3 {
     /// Left children have the even numbers.
     pub fn is_left(self) -> bool {
         self.child.is_multiple_of(2)
@@ -29,9 +29,12 @@ pub fn help_limit(shape: Shape) -> u32 {
     4 * shape.root_height() - 2
 }
 
-/// Plays a record that has passed its tests: the answer if it is a Q, the help if it is the V3 of
-/// one. The help is told by the step that follows and by the heads, not by the rule that counts.
-pub fn play_watched(machine: &mut Machine, record: StepRecord) -> (Option<Answer>, Option<Help>) {
+/// Plays a record that has passed its tests: the answer if it is a Q, what it did if it is the V3 of
+/// a child. That is told by the step that follows and by the heads, not by the rule that counts.
+pub fn play_watched(
+    machine: &mut Machine,
+    record: StepRecord,
+) -> (Option<Answer>, Option<ChildV3>) {
     let process = record.process;
     let head = match machine.next_step(process) {
         Some(Step::V3 { advance }) => Some((advance.node, machine.memory.head(advance.node))),
@@ -40,20 +43,20 @@ pub fn play_watched(machine: &mut Machine, record: StepRecord) -> (Option<Answer
     let answer = play_record(machine, record);
     let next = machine.next_step(process);
     let in_refresh = matches!(next, Some(Step::R4 { .. } | Step::C1 { .. }));
-    let help = head.filter(|_| in_refresh).map(|(child, head)| Help {
+    let v3 = head.filter(|_| in_refresh).map(|(child, head)| ChildV3 {
         child,
         moved: machine.memory.head(child) != head,
     });
-    (answer, help)
+    (answer, v3)
 }
 
-/// All helps of a list that Run takes whole, in list order.
-pub fn helps_in(shape: Shape, records: &[u8]) -> Vec<Help> {
+/// The V3s of children in a list that Run takes whole, in list order.
+pub fn child_v3s(shape: Shape, records: &[u8]) -> Vec<ChildV3> {
     let mut machine = Machine::start(shape);
     let records = records.chunks_exact(STEP_RECORD_BYTES);
-    let helps = records.filter_map(|bytes| {
+    let v3s = records.filter_map(|bytes| {
         let record = StepRecord::read(bytes, shape.p()).expect("a record that is taken");
         play_watched(&mut machine, record).1
     });
-    helps.collect()
+    v3s.collect()
 }

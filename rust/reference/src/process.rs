@@ -31,7 +31,7 @@ pub enum Then {
 
 impl Then {
     /// Whether the advance is of a child's block inside a refresh; to move that head is a help.
-    pub fn is_help(self) -> bool {
+    pub fn of_child(self) -> bool {
         matches!(self, Then::R4 { .. } | Then::C1 { .. })
     }
 }

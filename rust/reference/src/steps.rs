@@ -70,7 +70,7 @@ pub fn one_step(memory: &mut Memory, process: u32, operation: Operation, step: S
         }
         Step::V3 { advance } => {
             let moved = memory.raise_head(advance.node, advance.place);
-            helped = moved && advance.then.is_help();
+            helped = moved && advance.then.of_child();
             end_advance(advance)
         }
         refreshing => refresh_step(memory, refreshing),

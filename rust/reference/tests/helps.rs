@@ -2,7 +2,7 @@
 
 use crate::support::{run_amply, written};
 use reference::help_lists::{help_lists, most_helped};
-use reference::helps::{help_limit, helps_in, Help};
+use reference::helps::{child_v3s, help_limit, ChildV3};
 use reference::process::StepName;
 use reference::records::{Answer, ANSWER_RECORD_BYTES};
 use reference::schedules::{schedule, Ending, Pace, Plan};
@@ -27,8 +27,8 @@ fn counts_of_fixed_lists() {
 
 #[test]
 fn heads_of_fixed_lists() {
-    let moved = |child| Help { child, moved: true };
-    let found = |child| Help {
+    let moved = |child| ChildV3 { child, moved: true };
+    let found = |child| ChildV3 {
         child,
         moved: false,
     };
@@ -43,10 +43,11 @@ fn heads_of_fixed_lists() {
         vec![found(2), found(3)],
         vec![],
     ];
+    assert_eq!(help_lists().len(), expected.len());
     for (fixed, expected) in help_lists().into_iter().zip(expected) {
         let shape = Shape::new(fixed.p, fixed.l).unwrap();
-        let helps = helps_in(shape, &fixed.list.bytes());
-        assert_eq!(helps, expected, "{}", fixed.about);
+        let v3s = child_v3s(shape, &fixed.list.bytes());
+        assert_eq!(v3s, expected, "{}", fixed.about);
     }
 }
 
@@ -69,19 +70,19 @@ impl Met {
             self.answers[answer.helps.min(3) as usize] += 1;
             self.most = self.most.max(answer.helps.into());
         }
-        let helps = helps_in(Shape::new(plan.p, plan.l).unwrap(), &list);
-        for help in &helps {
-            let heads = match help.moved {
+        let v3s = child_v3s(Shape::new(plan.p, plan.l).unwrap(), &list);
+        for v3 in &v3s {
+            let heads = match v3.moved {
                 true => &mut self.moved,
                 false => &mut self.found,
             };
-            let inner = help.child < plan.p;
-            heads[usize::from(inner)][usize::from(!help.is_left())] += 1;
+            let inner = v3.child < plan.p;
+            heads[usize::from(inner)][usize::from(!v3.is_left())] += 1;
         }
         // Where all finish, each head that is moved for a refresh is in one answer.
         if plan.ending == Ending::AllFinish {
             let told: u32 = answers.iter().map(|answer| u32::from(answer.helps)).sum();
-            let moved = helps.iter().filter(|help| help.moved).count();
+            let moved = v3s.iter().filter(|v3| v3.moved).count();
             assert_eq!(told as usize, moved, "{plan:?}");
         }
     }
@@ -141,7 +142,9 @@ fn each_case_of_more_processes() {
 fn as_many_as_there_can_be() {
     for (p, most) in [(2, 2), (4, 6), (8, 10)] {
         assert_eq!(limit(p), most);
-        for answer in answers(p, 2 * p.ilog2(), &most_helped(p).bytes()) {
+        let answers = answers(p, 2 * p.ilog2(), &most_helped(p).bytes());
+        assert!(answers.iter().any(|answer| answer.process == 0));
+        for answer in answers {
             let helps = if answer.process == 0 { most } else { 0 };
             assert_eq!(u32::from(answer.helps), helps, "{answer:?}");
         }

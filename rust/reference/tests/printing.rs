@@ -43,12 +43,12 @@ fn worked_print() {
 
 #[test]
 fn puts_that_are_helped() {
-    // Process 0 stops after its A, and process 1 moves the head of its leaf.
+    // Process 0 stops after its A, and process 1 moves the head of 0's leaf.
     let begun = List::new().put(0, 9).steps(0, 1).put(1, 8);
     let list = begun.steps(1, 34).steps(0, 24).bytes();
     assert_print(&list, "put 1 1 34 1 1\nput 0 1 25 0 1\nend 0 61\n");
-    let both_inner = help_lists()[6].list.clone().bytes();
-    assert_print(&both_inner, "put 0 1 37 2 1\nend 0 70\n");
+    let [.., both_inner, _, _] = help_lists();
+    assert_print(&both_inner.list.bytes(), "put 0 1 37 2 1\nend 0 70\n");
 }
 
 #[test]

@@ -142,19 +142,19 @@ struct Counting {
 }
 
 const RIGHT_COUNT: Counting = Counting {
-    counts: |then, moves| moves && then.is_help(),
+    counts: |then, moves| moves && then.of_child(),
     set_back: true,
 };
 
 /// A help counts although another has moved the head.
 const MOVED_BY_ANOTHER: Counting = Counting {
-    counts: |then, _| then.is_help(),
+    counts: |then, _| then.of_child(),
     ..RIGHT_COUNT
 };
 
 /// The advance of the own leaf counts too.
 const OWN_LEAF: Counting = Counting {
-    counts: |then, moves| moves && (then.is_help() || then == Then::RefreshParent),
+    counts: |then, moves| moves && (then.of_child() || then == Then::RefreshParent),
     ..RIGHT_COUNT
 };
 
@@ -168,7 +168,7 @@ const REFRESHED_NODE: Counting = Counting {
 const FAILED_REFRESH: Counting = Counting {
     counts: |then, moves| {
         let failed = matches!(then, Then::EndRefresh { success: false, .. });
-        moves && (then.is_help() || failed)
+        moves && (then.of_child() || failed)
     },
     ..RIGHT_COUNT
 };

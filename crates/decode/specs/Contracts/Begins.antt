@@ -11,6 +11,6 @@ use Rattle.decode.specs.declared.Begin.the-variants.{IllFormed, Opens}
 abbrev pub firstWord : StepRecord → ℕ
 firstWord r = r .process + 256 * (r .kind + 256 * r .zeros)
 
--- where there are p processes: its process opens its operation, unless it is ill-formed
+-- of a record that is no step, where there are p processes: its process opens its operation, unless it is ill-formed
 abbrev pub beginOf : ℕ → StepRecord → Begin
 beginOf p r = if illFormed p r then IllFormed else Opens (r .process) (operationOf r)

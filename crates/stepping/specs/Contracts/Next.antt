@@ -102,17 +102,21 @@ StepsTelling Each heads heads' q r = AtName Each q (NextTelling heads heads' q r
 abbrev pub StepsByTable : ((Step → Type 0) → Type 0) → List ℕ → List ℕ → List ℕ → Process → Process → Type 0
 StepsByTable Each starts table table' q r = AtName Each q (NextByTable starts table table' q r) ((r ≡ q) × (table' ≡ table))
 
--- V3: the head of its node is raised, and what is told is whether it moved; at another step none is
-abbrev pub Raises : List ℕ → List ℕ → Process → Bool → Type 0
-Raises heads heads' q moved =
-    ((a : After) (w : Visit) (v h : ℕ) → stepIn (q .status) ≡ V3 a w v h → (heads' ≡ raise (memoryOf [] heads) v h .heads) × (moved ≡ headIs (memoryOf [] heads) v h))
-    × (((a : After) (w : Visit) (v h : ℕ) → stepIn (q .status) ≡ V3 a w v h → ⊥) → (heads' ≡ heads) × (moved ≡ false))
+-- Where process q is at V3, P holds of its registers; at another step, Same does.
+abbrev pub AtV3 : Process → (After → ℕ → ℕ → Type 0) → Type 0 → Type 0
+AtV3 q P Same =
+    ((a : After) (w : Visit) (v h : ℕ) → stepIn (q .status) ≡ V3 a w v h → P a v h)
+    × (((a : After) (w : Visit) (v h : ℕ) → stepIn (q .status) ≡ V3 a w v h → ⊥) → Same)
 
--- whether the advance that process q, at V3, is in is of a child; at another step it is in none
+-- the head of its node is raised, and what is told is whether it moved; at another step none is
+abbrev pub Raises : List ℕ → List ℕ → Process → Bool → Type 0
+Raises heads heads' q raised = AtV3 q
+    (λ _ v h. (heads' ≡ raise (memoryOf [] heads) v h .heads) × (raised ≡ headIs (memoryOf [] heads) v h))
+    ((heads' ≡ heads) × (raised ≡ false))
+
+-- whether the advance that it is in is of a child; at another step it is in none
 abbrev pub AdvancesChild : Process → Bool → Type 0
-AdvancesChild q b =
-    ((a : After) (w : Visit) (v h : ℕ) → stepIn (q .status) ≡ V3 a w v h → b ≡ ofChild a)
-    × (((a : After) (w : Visit) (v h : ℕ) → stepIn (q .status) ≡ V3 a w v h → ⊥) → b ≡ false)
+AdvancesChild q b = AtV3 q (λ a _ _. b ≡ ofChild a) (b ≡ false)
 
 -- C3N has three functions: one decides, and one an outcome gives the process. Where process q is at C3N, P holds of its
 -- registers; at another step, Same does.

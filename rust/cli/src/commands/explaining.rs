@@ -9,9 +9,11 @@ use otq::Refusal;
 
 /// What is counted as a help.
 const HELP: &str = "\
-A help is the move of a head for another process's block: refreshing a node, an operation finds a block
-at a child's head (R3, R5), and its V3 raises that head. If the V3 finds it raised already, that is no
-help; nor are the moves after A and C4, of the heads of the own leaf and of the refreshed node.
+A node's head is the place of its next block; who writes a block there raises the head past it, in step
+V3. A help is such a move inside a refresh: an operation finds a block at a child's head (R3, R5), and
+its V3 raises that head. A trace tells whose block it was: that of the process which wrote it. If the V3
+finds the head raised already, that is no help; nor are the moves after A and C4, of the heads of the own
+leaf and of the refreshed node.
 ";
 
 pub fn explain(tool: &mut Tool, given: &Given) -> Result<Status, Failure> {

@@ -113,8 +113,9 @@ const COMMANDS: [Command; 10] = [
         usage: "[-p P -L L] STEPS [--from N] [--to N] [--whole]",
         about: "tells what each record does",
         more: "A line a record: its number, process and named step, what it read, what it wrote or moved,\n\
-               and whom it helped. It comes from the Rust version of the rules, whose table and answers\n\
-               are compared with the proved library before anything is printed.",
+               and whom it helped: the process that wrote the block, in a leaf or, with C4, in a node above.\n\
+               It comes from the Rust version of the rules, whose table and answers are compared with the\n\
+               proved library before anything is printed.",
         choices: &[&P, &L, &tracing::FROM, &tracing::TO, &WHOLE],
         files: (1, 1),
         proved: true,

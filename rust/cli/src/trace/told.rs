@@ -2,9 +2,10 @@
 
 use super::writers::Writers;
 use crate::words::count;
+use reference::helps::{play_watched, ChildV3};
 use reference::machine::Machine;
 use reference::memory::Memory;
-use reference::process::{Activity, Advance, Attempt, Refresh, Step};
+use reference::process::{Activity, Attempt, Refresh, Step};
 use reference::records::{Act, Answer, Operation, Outcome, StepRecord};
 use reference::run::play_record;
 use reference::tree::{left_child, parent, right_child, Block, Shape, ROOT};
@@ -30,15 +31,13 @@ pub fn play(machine: &mut Machine, writers: &mut Writers, record: StepRecord) ->
         process,
     };
     let seen = seen.step(step);
-    let helps = helps_of(machine, process);
-    let answer = play_record(machine, record);
+    let (answer, v3) = play_watched(machine, record);
     let next = machine.next_step(process);
     writers.keep(process, step, next);
     let did = match (step, answer, next) {
         (Step::A, ..) => written(machine, process),
         (Step::V3 { advance }, ..) => {
-            let counted = helps_of(machine, process) > helps;
-            help(advance, counted, writers)
+            v3.map_or_else(String::new, |v3| helped(v3, advance.place, writers))
         }
         (_, Some(answer), _) => ended(answer),
         _ => built(step, next),
@@ -82,25 +81,16 @@ fn written(machine: &Machine, process: u32) -> String {
     )
 }
 
-/// The helps so far of the operation that a process is inside of, as the rules count them.
-fn helps_of(machine: &Machine, process: u32) -> u8 {
-    match machine.process(process).activity {
-        Activity::Busy { helps, .. } => helps,
-        Activity::Idle => 0,
-    }
-}
-
-/// Whom a V3 helped, if it was counted as a help; else, in the advance of a child, that it was not.
-fn help(advance: Advance, counted: bool, writers: &Writers) -> String {
-    let Advance { node, place, then } = advance;
-    match counted {
+/// Whom the V3 of a child's block helped; or that it was no help, if the head was moved already.
+fn helped(v3: ChildV3, place: u32, writers: &Writers) -> String {
+    let ChildV3 { child, moved } = v3;
+    match moved {
         // Never its own block: what a process wrote, it has advanced before it refreshes a node.
         true => {
-            let helped = writers.of(node, place);
-            format!(": a help, moved the head of node {node} for process {helped}'s block")
+            let writer = writers.of(child, place);
+            format!(": a help, moved the head of node {child} for process {writer}'s block")
         }
-        false if then.is_help() => ": moved already, so it does not count as a help".to_string(),
-        false => String::new(),
+        false => ": moved already, so it does not count as a help".to_string(),
     }
 }
 

@@ -9,11 +9,9 @@ pub struct Writers(HashMap<(u32, u32), u32>);
 
 impl Writers {
     /// Keeps what the step of a process wrote: A always a block, C4 only if the place was absent. Both
-    /// go on to advance that block.
+    /// go on to advance that block; the root's, which goes on to V3, is nobody's child.
     pub fn keep(&mut self, process: u32, done: Step, next: Option<Step>) {
-        let (Step::A | Step::C4 { .. }, Some(Step::V1 { advance } | Step::V3 { advance })) =
-            (done, next)
-        else {
+        let (Step::A | Step::C4 { .. }, Some(Step::V1 { advance })) = (done, next) else {
             return;
         };
         if !matches!(advance.then, Then::EndRefresh { success: false, .. }) {
