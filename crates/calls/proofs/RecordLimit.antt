@@ -18,7 +18,7 @@ use Rattle.steps.proofs.Costs.{rest, rest-first}
 use Rattle.steps.proofs.Overall.{remaining, busy as busyIn, start-remaining, start-busy, begin-remaining, begin-busy, step-remaining, step-busy}
 use Rattle.calls.specs.Answer.{answerOf}
 use Rattle.calls.specs.Run.{operationOf, recordAnswers}
-use Rattle.calls.specs.History.{machineAfter, begins}
+use Rattle.calls.specs.History.{machineAfter}
 use Rattle.calls.specs.Demand3.{stepLimit}
 use Rattle.calls.specs.Forecast.{recordLimit, beginRecords}
 use Rattle.calls.proofs.Legal.{Accepted, Legal, none, more, answersAfter, answersAlong, not-step, not-begin}

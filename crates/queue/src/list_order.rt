@@ -13,7 +13,6 @@ use tree::layout::starts;
 use tree::layout::words_needed;
 ghost use mathlib.Core.Path.{_≡_};
 ghost use mathlib.Core.Bool.{true};
-ghost use mathlib.Core.List.{List};
 ghost use Prim.Native.Nat.{_*_};
 ghost use lib.ListN.{length, take};
 ghost use Rattle.tree.specs.Layout.{wordsNeeded};

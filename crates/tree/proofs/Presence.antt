@@ -9,7 +9,6 @@ use borrow.Author.Tests.{eqb-true, eq-eqb}
 use Rattle.base.proofs.Cases.{and-true}
 use Rattle.tree.specs.declared.Block.{Block}
 use Rattle.tree.specs.Blocks.{absent}
-use Rattle.tree.specs.Memory.{block}
 use Rattle.tree.specs.Contracts.Invariant.{count}
 
 pub absent-count : (b : Block) → absent b ≡ true → count b ≡ 0
