@@ -21,6 +21,20 @@
      block;
    - order record, 8 bytes: process; kind (1 put, 2 take); serial, 16 bits; root block, 32 bits.
 
+   The work table holds the blocks of a tree, by node. Node 1 is the root, nodes 2v and 2v + 1 are the
+   children of node v, and node p + k is the leaf of process k. A node of height k, a leaf having height
+   0, has places 0 to l * 2^k. Its blocks are one unbroken part of the table, OTQ_BLOCK_WORDS words a
+   block; the parts stand in node order from word 0, and places rise. The words of a block, in the order
+   of enum OtqBlockWord:
+   - puts and takes, of the node up to and including this block;
+   - super, the parent's head as an advance read it, 0 while it is not set and always in the root;
+   - end left and end right, the places of the last blocks of the children in it; in a leaf a put's value
+     (0 for a take), and 0;
+   - size, in the root the length of the queue after it, else 0;
+   - number, the number in the list, from 1, of the record that wrote it.
+   Block 0 is all zero. A later place is absent if its puts and takes are both 0. The subblocks of a block
+   in a child are those at the places after the end in the block before it, up to the end in the block.
+
    A node's head is the place of its next block; who writes a block there raises the head past it, in
    step V3. A help is such a move in the advance of a child, begun by R3 or R5: the operation raises the
    child's head past a block that it found there. A V3 that finds the head raised already is no help, and
@@ -65,6 +79,18 @@ enum OtqVerdict {
 #define OTQ_STEP_BYTES 8
 #define OTQ_ANSWER_BYTES 16
 #define OTQ_ORDER_BYTES 8
+#define OTQ_BLOCK_WORDS 7
+
+/* Where the words of a block stand in it. */
+enum OtqBlockWord {
+    OTQ_BLOCK_PUTS = 0,
+    OTQ_BLOCK_TAKES = 1,
+    OTQ_BLOCK_SUPER = 2,
+    OTQ_BLOCK_END_LEFT = 3,
+    OTQ_BLOCK_END_RIGHT = 4,
+    OTQ_BLOCK_SIZE = 5,
+    OTQ_BLOCK_NUMBER = 6
+};
 
 /* Used by the macros below: a number as a size_t, and the levels of the tree. */
 #ifdef __cplusplus
@@ -76,7 +102,8 @@ enum OtqVerdict {
 
 /* Lengths of buffers for a p and an l that are not turned down; constant if p and l are. The table
    must have so many words; so many answer and output bytes are enough for every list. */
-#define OTQ_TABLE_WORDS(p, l) (6 * (OTQ_LEVELS(p) * OTQ_SIZE(p) * OTQ_SIZE(l) + 2 * OTQ_SIZE(p) - 1))
+#define OTQ_TABLE_WORDS(p, l) \
+    (OTQ_BLOCK_WORDS * (OTQ_LEVELS(p) * OTQ_SIZE(p) * OTQ_SIZE(l) + 2 * OTQ_SIZE(p) - 1))
 #define OTQ_MOST_ANSWER_BYTES(p, l) (OTQ_ANSWER_BYTES * OTQ_SIZE(p) * OTQ_SIZE(l))
 #define OTQ_MOST_OUTPUT_BYTES(p, l) (OTQ_ORDER_BYTES * OTQ_SIZE(p) * OTQ_SIZE(l))
 
@@ -112,7 +139,10 @@ typedef struct OtqForecast {
    the run. Answer bytes past the answers and table words past those needed keep their content.
 
    In the table that it leaves unless turned down with 1 to 4, a block's superblock, the present block
-   of its parent's that has it as a subblock, stands at the block's super or one place later. */
+   of its parent's that has it as a subblock, stands at the block's super or one place later. The number
+   n of a present block, 1 to `taken`, is that of the record that wrote it: the first n - 1 records leave
+   its place absent, the first n leave it present. In each node the numbers rise strictly with the place,
+   and a block's number is above those of all its subblocks. */
 OtqRun otq_run(uint32_t p, uint32_t l,
                const uint8_t *records, size_t records_bytes,
                uint32_t *table, size_t table_words,

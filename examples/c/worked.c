@@ -1,6 +1,7 @@
 /* The worked example through otq.h: what its two begins foretell, then its answers as the printing
-   program prints them, then the root order (kind, process, serial, root block), then the check of the
-   log that it just got. From the repository's root, after `rt staticlib queue`:
+   program prints them, the record that wrote each root block, the root order (kind, process, serial, root
+   block), and the check of the log that it just got. From the repository's root, after
+   `rt staticlib queue`:
 
        gcc -std=c99 -Iinclude examples/c/worked.c target/staticlib/libqueue.a -o target/worked
        target/worked */
@@ -61,6 +62,18 @@ static void print_answer(const uint8_t *answer)
     printf("\n");
 }
 
+/* The present blocks of the root: its part is the first of the table, and its last place P * L. */
+static void print_root(void)
+{
+    const uint32_t *block = table;
+    for (int place = 1; place <= P * L; place++) {
+        block += OTQ_BLOCK_WORDS;
+        if (block[OTQ_BLOCK_PUTS] != 0 || block[OTQ_BLOCK_TAKES] != 0) {
+            printf("root block %d by record %" PRIu32 "\n", place, block[OTQ_BLOCK_NUMBER]);
+        }
+    }
+}
+
 static void print_order(const uint8_t *order)
 {
     printf("order %s %d %" PRIu32 " %" PRIu32 "\n", order[1] == 1 ? "put" : "take", order[0],
@@ -82,6 +95,7 @@ int main(void)
         print_answer(answers + i * OTQ_ANSWER_BYTES);
     }
     printf("end %" PRIu32 " %" PRIu64 "\n", run.refusal, run.taken);
+    print_root();
 
     OtqList list = otq_list_order(P, L, records, sizeof records, table, OTQ_TABLE_WORDS(P, L), output,
                                   sizeof output);

@@ -21,10 +21,10 @@ use Rattle.steps.specs.Contracts.Ready.{Sums, Decides}
 use Rattle.steps.proofs.OwnWords.{AlikeTotals, AlikeBefore, totals-alike, before-alike, same-next}
 
 -- the step that the code comes to is that of the rules
-came : (s : Shape) (starts t heads : List ℕ) (q z : Process) (x : Step) → PartsBegin s starts x → stepIn (q .status) ≡ x → NextByTable starts t t q z
-    → stepIn (step s 0 Take (memoryOf t heads) x .next) ≡ stepIn (z .status)
+came : (s : Shape) (number : ℕ) (starts t heads : List ℕ) (q z : Process) (x : Step) → PartsBegin s starts x → stepIn (q .status) ≡ x → NextByTable number starts t t q z
+    → stepIn (step s number 0 Take (memoryOf t heads) x .next) ≡ stepIn (z .status)
 unfolding go
-came s starts t heads q z x fits e p =
+came s number starts t heads q z x fits e p =
     let f = p .1 s 0 Take heads (subst (PartsBegin s starts) (sym e) fits) in
     let g = rw e at f in
     ap (λ (y : Stepped). stepIn (y .next)) g
@@ -33,10 +33,10 @@ module _ (s : Shape) (starts t u heads heads' : List ℕ) (x : Step) (is : List 
     (same : wordsAt (memoryOf t heads) is ≡ wordsAt (memoryOf u heads') is)
   where
     -- y is left where the table is t, and z where it is u
-    pub same-process : (q y z : Process) → stepIn (q .status) ≡ x → NextByTable starts t t q y → NextByTable starts u u q z → y ≡ z
-    same-process q y z e py pz =
+    pub same-process : (number : ℕ) (q y z : Process) → stepIn (q .status) ≡ x → NextByTable number starts t t q y → NextByTable number starts u u q z → y ≡ z
+    same-process number q y z e py pz =
         let next : stepIn (y .status) ≡ stepIn (z .status) =
-        sym (came s starts t heads q y x fits e py) ∙ ap stepIn (same-next s (memoryOf t heads) (memoryOf u heads') x is own same 0 Take) ∙ came s starts u heads' q z x fits e pz in
+        sym (came s number starts t heads q y x fits e py) ∙ ap stepIn (same-next s (memoryOf t heads) (memoryOf u heads') x is own same number 0 Take) ∙ came s number starts u heads' q z x fits e pz in
         py .0 ∙ ap (moved q (operationIn (q .status))) next ∙ sym (pz .0)
 
 -- what is known of two blocks of the memories is known of them by the starts

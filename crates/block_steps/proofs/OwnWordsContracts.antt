@@ -61,22 +61,22 @@ pub asked-on : (κs : Lfts 2) (a : ArgsD on.signature κs) → on-reads.Pre κs 
 asked-on κs a = refl
 
 -- ---- promised: of the process z that is left, by the rules
-pub promised-c3l : (κs : Lfts 2) (a : ArgsD c3l.signature κs) (z : ResD c3l.signature κs) (x : _) → c3l-reads.Post κs a z x
-    → ofC3L (λ n. stepIn (a .1 .1 .0 .status) ≡ n → NextByTable (a .1 .0 .now) (a .0 .now) (a .0 .now) (a .1 .1 .0) z)
-promised-c3l κs a z x p = p .0
+pub promised-c3l : (κs : Lfts 2) (a : ArgsD c3l.signature κs) (z : ResD c3l.signature κs) (x : _) → c3l-reads.Post κs a z x → (number : ℕ)
+    → ofC3L (λ n. stepIn (a .1 .1 .0 .status) ≡ n → NextByTable number (a .1 .0 .now) (a .0 .now) (a .0 .now) (a .1 .1 .0) z)
+promised-c3l κs a z x p number = p number .0
 
-pub promised-c3r : (κs : Lfts 2) (a : ArgsD c3r.signature κs) (z : ResD c3r.signature κs) (x : _) → c3r-reads.Post κs a z x
-    → ofC3R (λ n. stepIn (a .1 .1 .0 .status) ≡ n → NextByTable (a .1 .0 .now) (a .0 .now) (a .0 .now) (a .1 .1 .0) z)
-promised-c3r κs a z x p = p .0
+pub promised-c3r : (κs : Lfts 2) (a : ArgsD c3r.signature κs) (z : ResD c3r.signature κs) (x : _) → c3r-reads.Post κs a z x → (number : ℕ)
+    → ofC3R (λ n. stepIn (a .1 .1 .0 .status) ≡ n → NextByTable number (a .1 .0 .now) (a .0 .now) (a .0 .now) (a .1 .1 .0) z)
+promised-c3r κs a z x p number = p number .0
 
 pub promised-decision : (κs : Lfts 2) (a : ArgsD decision.signature κs) (b : ResD decision.signature κs) (x : _) → decision-reads.Post κs a b x
     → Decided (a .1 .0 .now) (a .0 .now) (a .1 .1 .0) b
 promised-decision κs a b x p = p
 
-pub promised-up : (κs : Lfts 0) (a : ArgsD up.signature κs) (z : ResD up.signature κs) (x : _) → up-reads.Post κs a z x → (starts table : List ℕ) → Decided starts table (a .0) true
-    → ofC3N (λ n. stepIn (a .0 .status) ≡ n → NextByTable starts table table (a .0) z)
-promised-up κs a z x p starts table d w l r puts takes e = decided-next starts table (a .0) z w l r puts takes e true (d .0 w l r puts takes e) (p .0 w l r puts takes e)
+pub promised-up : (κs : Lfts 0) (a : ArgsD up.signature κs) (z : ResD up.signature κs) (x : _) → up-reads.Post κs a z x → (number : ℕ) (starts table : List ℕ) → Decided starts table (a .0) true
+    → ofC3N (λ n. stepIn (a .0 .status) ≡ n → NextByTable number starts table table (a .0) z)
+promised-up κs a z x p number starts table d w l r puts takes e = decided-next number starts table (a .0) z w l r puts takes e true (d .0 w l r puts takes e) (p .0 w l r puts takes e)
 
-pub promised-on : (κs : Lfts 2) (a : ArgsD on.signature κs) (z : ResD on.signature κs) (x : _) → on-reads.Post κs a z x → Decided (a .1 .0 .now) (a .0 .now) (a .1 .1 .0) false
-    → ofC3N (λ n. stepIn (a .1 .1 .0 .status) ≡ n → NextByTable (a .1 .0 .now) (a .0 .now) (a .0 .now) (a .1 .1 .0) z)
-promised-on κs a z x p d w l r puts takes e = decided-next (a .1 .0 .now) (a .0 .now) (a .1 .1 .0) z w l r puts takes e false (d .0 w l r puts takes e) (p .0 w l r puts takes e)
+pub promised-on : (κs : Lfts 2) (a : ArgsD on.signature κs) (z : ResD on.signature κs) (x : _) → on-reads.Post κs a z x → (number : ℕ) → Decided (a .1 .0 .now) (a .0 .now) (a .1 .1 .0) false
+    → ofC3N (λ n. stepIn (a .1 .1 .0 .status) ≡ n → NextByTable number (a .1 .0 .now) (a .0 .now) (a .0 .now) (a .1 .1 .0) z)
+promised-on κs a z x p number d w l r puts takes e = decided-next number (a .1 .0 .now) (a .0 .now) (a .1 .1 .0) z w l r puts takes e false (d .0 w l r puts takes e) (p .0 w l r puts takes e)

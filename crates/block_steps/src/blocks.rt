@@ -38,12 +38,13 @@ ghost use Rattle.stepping.specs.Contracts.Next.{operationIn, stepIn, Moves, Ste
 ghost use Rattle.tree.specs.Contracts.Access.{Begins, HasPart, HasPlace, nodeBlock, totalsOf};
 ghost use Rattle.steps.specs.Contracts.Ready.{Adds, Sums, Decides};
 
-// A: the operation's block at the head of its own leaf, where no other process writes.
+// A: the operation's block at the head of its own leaf, where no other process writes. `number` is that of the record.
 pub fn step_a(
     heads: &[u32],
     table: &mut [u32],
     starts: &[usize; 17],
     leaf: u32,
+    number: u32,
     q: Process,
 ) -> Process
     requires { ⌜ (q .steps < 65536) × (isIdle (q .status) ≡ false) × (stepIn (q .status) ≡ Step.A) ⌝ }
@@ -51,11 +52,11 @@ pub fn step_a(
     ensures { λ r. ⌜ Moves q r × ((s : Shape) (k : ℕ) → leaf ≡ leafOf s k → Begins s (now (starts .entry)) leaf →
         let m = memoryOf (now (table .entry)) (now (heads .entry)) in
         let o = operationIn (q .status) in
-        step s k o m Step.A ≡ go s k o m (memoryOf (now (table .exit)) (now (heads .entry))) (stepIn (r .status))) ⌝ }
+        step s number k o m Step.A ≡ go s number k o m (memoryOf (now (table .exit)) (now (heads .entry))) (stepIn (r .status))) ⌝ }
 {
     let h = head_of(heads, leaf);
     let old = block_at(table, starts, leaf, h - 1);
-    let new = plus_operation(operation_in(q), old);
+    let new = plus_operation(number, operation_in(q), old);
     write_at(table, starts, leaf, h, new);
     let w = Visit {
         node: leaf,
@@ -69,7 +70,7 @@ pub fn step_a(
 pub fn step_v2(table: &mut [u32], starts: &[usize; 17], q: Process) -> Process
     requires { ⌜ (q .steps < 65536) × ((a : After) (w : Visit) (v h x : ℕ) → stepIn (q .status) ≡ Step.V2 a w v h x →
         HasPlace (now starts) (now table) v h × Fits (now starts) (Step.V2 a w v h x)) ⌝ }
-    ensures { λ r. ⌜ StepsByTable (λ P. (a : After) (w : Visit) (v h x : ℕ) → P (Step.V2 a w v h x)) (now (starts .entry)) (now (table .entry)) (now (table .exit)) q r ⌝ }
+    ensures { λ r. ⌜ ((number : ℕ) → StepsByTable (λ P. (a : After) (w : Visit) (v h x : ℕ) → P (Step.V2 a w v h x)) number (now (starts .entry)) (now (table .entry)) (now (table .exit)) q r) ⌝ }
 {
     let Step::V2 {
         after,
@@ -111,7 +112,7 @@ fn help(table: &[u32], starts: &[usize; 17], w: Visit, a: After, child: u32, c: 
 pub fn step_r3(table: &[u32], starts: &[usize; 17], q: Process) -> Process
     requires { ⌜ (q .steps < 65536) × ((w : Visit) (c : ℕ) → stepIn (q .status) ≡ Step.R3 w c →
         HasPart (now starts) (now table) (2 * w .node) × Fits (now starts) (Step.R3 w c)) ⌝ }
-    ensures { λ r. ⌜ StepsByTable (λ P. (w : Visit) (c : ℕ) → P (Step.R3 w c)) (now (starts .entry)) (now (table .entry)) (now (table .entry)) q r ⌝ }
+    ensures { λ r. ⌜ ((number : ℕ) → StepsByTable (λ P. (w : Visit) (c : ℕ) → P (Step.R3 w c)) number (now (starts .entry)) (now (table .entry)) (now (table .entry)) q r) ⌝ }
 {
     let Step::R3 { visit, child } = step_in(q) else {
         return q;
@@ -124,7 +125,7 @@ pub fn step_r3(table: &[u32], starts: &[usize; 17], q: Process) -> Process
 pub fn step_r5(table: &[u32], starts: &[usize; 17], q: Process) -> Process
     requires { ⌜ (q .steps < 65536) × ((w : Visit) (c : ℕ) → stepIn (q .status) ≡ Step.R5 w c →
         HasPart (now starts) (now table) (2 * w .node + 1) × Fits (now starts) (Step.R5 w c)) ⌝ }
-    ensures { λ r. ⌜ StepsByTable (λ P. (w : Visit) (c : ℕ) → P (Step.R5 w c)) (now (starts .entry)) (now (table .entry)) (now (table .entry)) q r ⌝ }
+    ensures { λ r. ⌜ ((number : ℕ) → StepsByTable (λ P. (w : Visit) (c : ℕ) → P (Step.R5 w c)) number (now (starts .entry)) (now (table .entry)) (now (table .entry)) q r) ⌝ }
 {
     let Step::R5 { visit, child } = step_in(q) else {
         return q;
@@ -137,7 +138,7 @@ pub fn step_r5(table: &[u32], starts: &[usize; 17], q: Process) -> Process
 pub fn step_c3l(table: &[u32], starts: &[usize; 17], q: Process) -> Process
     requires { ⌜ (q .steps < 65536) × ((w : Visit) (l r : ℕ) → stepIn (q .status) ≡ Step.C3L w l r →
         HasPlace (now starts) (now table) (2 * w .node) l × Fits (now starts) (Step.C3L w l r)) ⌝ }
-    ensures { λ z. ⌜ StepsByTable (λ P. (w : Visit) (l r : ℕ) → P (Step.C3L w l r)) (now (starts .entry)) (now (table .entry)) (now (table .entry)) q z ⌝ }
+    ensures { λ z. ⌜ ((number : ℕ) → StepsByTable (λ P. (w : Visit) (l r : ℕ) → P (Step.C3L w l r)) number (now (starts .entry)) (now (table .entry)) (now (table .entry)) q z) ⌝ }
 {
     let Step::C3L { visit, left, right } = step_in(q) else {
         return q;
@@ -159,7 +160,7 @@ pub fn step_c3l(table: &[u32], starts: &[usize; 17], q: Process) -> Process
 pub fn step_c3r(table: &[u32], starts: &[usize; 17], q: Process) -> Process
     requires { ⌜ (q .steps < 65536) × ((w : Visit) (l r puts takes : ℕ) → stepIn (q .status) ≡ Step.C3R w l r puts takes →
         Sums (now starts) (now table) w r puts takes × Fits (now starts) (Step.C3R w l r puts takes)) ⌝ }
-    ensures { λ z. ⌜ StepsByTable (λ P. (w : Visit) (l r puts takes : ℕ) → P (Step.C3R w l r puts takes)) (now (starts .entry)) (now (table .entry)) (now (table .entry)) q z ⌝ }
+    ensures { λ z. ⌜ ((number : ℕ) → StepsByTable (λ P. (w : Visit) (l r puts takes : ℕ) → P (Step.C3R w l r puts takes)) number (now (starts .entry)) (now (table .entry)) (now (table .entry)) q z) ⌝ }
 {
     let Step::C3R {
         visit,
@@ -254,17 +255,17 @@ pub fn step_c3n_on(table: &[u32], starts: &[usize; 17], q: Process) -> Process
     moved(q, Step::C4 { visit, built: new })
 }
 
-// C4: the block is written if its place is still empty. The refresh has then succeeded.
-pub fn step_c4(table: &mut [u32], starts: &[usize; 17], q: Process) -> Process
+// C4: the block is written if its place is still empty. The refresh has then succeeded. `number` is that of the record.
+pub fn step_c4(table: &mut [u32], starts: &[usize; 17], number: u32, q: Process) -> Process
     requires { ⌜ (q .steps < 65536) × ((w : Visit) (b : Built) → stepIn (q .status) ≡ Step.C4 w b →
         HasPlace (now starts) (now table) (w .node) (w .head) × Fits (now starts) (Step.C4 w b)) ⌝ }
-    ensures { λ r. ⌜ StepsByTable (λ P. (w : Visit) (b : Built) → P (Step.C4 w b)) (now (starts .entry)) (now (table .entry)) (now (table .exit)) q r ⌝ }
+    ensures { λ r. ⌜ StepsByTable (λ P. (w : Visit) (b : Built) → P (Step.C4 w b)) number (now (starts .entry)) (now (table .entry)) (now (table .exit)) q r ⌝ }
 {
     let Step::C4 { visit, built } = step_in(q) else {
         return q;
     };
     let v = visit.node;
-    let success = write_if_absent(table, starts, v, visit.head, block_of(built));
+    let success = write_if_absent(table, starts, v, visit.head, block_of(number, built));
     let refresh = visit.refresh;
     moved(
         q,

@@ -9,11 +9,11 @@ ghost use Rattle.tree.specs.Size.{rootSize};
 ghost use Rattle.steps.specs.Rules.{plusOperation, sameTotals, blockOf};
 ghost use Rattle.tree.specs.Contracts.Access.{totalsOf};
 
-// A leaf's next block: the totals of the last one plus this operation. A take has no value, and a leaf has no children,
-// so their words are 0.
-pub fn plus_operation(o: Operation, b: Block) -> Block
+// A leaf's next block: the totals of the last one plus this operation, and the number of the record that adds it. A take
+// has no value, and a leaf has no children, so their words are 0.
+pub fn plus_operation(number: u32, o: Operation, b: Block) -> Block
     requires { ⌜ (b .puts < 65536) × (b .takes < 65536) ⌝ }
-    ensures { λ r. ⌜ r ≡ plusOperation o b ⌝ }
+    ensures { λ r. ⌜ r ≡ plusOperation number o b ⌝ }
 {
     match o {
         Operation::Put(x) => Block {
@@ -23,6 +23,7 @@ pub fn plus_operation(o: Operation, b: Block) -> Block
             left: x,
             right: 0,
             size: 0,
+            number,
         },
         Operation::Take => Block {
             puts: b.puts,
@@ -31,6 +32,7 @@ pub fn plus_operation(o: Operation, b: Block) -> Block
             left: 0,
             right: 0,
             size: 0,
+            number,
         },
     }
 }
@@ -56,9 +58,9 @@ pub fn same_totals(puts: u32, takes: u32, old: Totals) -> bool
     puts == old.puts && takes == old.takes
 }
 
-// The block itself. Its superblock is set later, by an advance.
-pub fn block_of(n: Built) -> Block
-    ensures { λ r. ⌜ r ≡ blockOf n ⌝ }
+// The block itself, with the number of the record that writes it. Its superblock is set later, by an advance.
+pub fn block_of(number: u32, n: Built) -> Block
+    ensures { λ r. ⌜ r ≡ blockOf number n ⌝ }
 {
     Block {
         puts: n.puts,
@@ -67,5 +69,6 @@ pub fn block_of(n: Built) -> Block
         left: n.left,
         right: n.right,
         size: n.size,
+        number,
     }
 }

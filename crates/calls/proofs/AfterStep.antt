@@ -54,19 +54,19 @@ block-same : (o : Operation) (b c b' c' : Block) → Same b' b → Same c' c →
 block-same (Put x) b c b' c' p q f = (omega (arith, f .0, p .puts, q .puts), omega (arith, f .1, p .takes, q .takes), q .left ∙ f .2)
 block-same Take b c b' c' p q f = (omega (arith, f .0, p .puts, q .puts), omega (arith, f .1, p .takes, q .takes))
 
-block-added : (o : Operation) (b b' : Block) → Same b' b → IsBlockOf o b' (plusOperation o b)
+block-added : (number : ℕ) (o : Operation) (b b' : Block) → Same b' b → IsBlockOf o b' (plusOperation number o b)
 unfolding plusOperation
-block-added (Put x) b b' p = (omega (arith, p .puts), sym (p .takes), refl)
-block-added Take b b' p = (sym (p .puts), omega (arith, p .takes))
+block-added number (Put x) b b' p = (omega (arith, p .puts), sym (p .takes), refl)
+block-added number Take b b' p = (sym (p .puts), omega (arith, p .takes))
 
--- process k, inside operation o at step n, takes a step where history and machine agree
-pub record StepTaken (s : Shape) (m : Machine) (c : ℕ → ℕ) (h : List Event) (log : List AnswerRecord) (k : ℕ) (o : Operation) (n : Step) : Type 0 where
+-- process k, inside operation o at step n, takes a step, by the record with this number, where history and machine agree
+pub record StepTaken (s : Shape) (number : ℕ) (m : Machine) (c : ℕ → ℕ) (h : List Event) (log : List AnswerRecord) (k : ℕ) (o : Operation) (n : Step) : Type 0 where
   pub agrees : Agrees s m c h log
   pub tall : 1 ≤ s .height
   pub low : k < processes s
   pub busy : processOf m k .status ≡ Busy o n
 
-module _ {s : Shape} {m : Machine} {c : ℕ → ℕ} {h : List Event} {log : List AnswerRecord} {k : ℕ} {o : Operation} {n : Step} (taken : StepTaken s m c h log k o n) where
+module _ {s : Shape} {number : ℕ} {m : Machine} {c : ℕ → ℕ} {h : List Event} {log : List AnswerRecord} {k : ℕ} {o : Operation} {n : Step} (taken : StepTaken s number m c h log k o n) where
   open StepTaken taken using (agrees as ag, tall, low as kp, busy)
 
   abbrev y : OpId
@@ -74,7 +74,7 @@ module _ {s : Shape} {m : Machine} {c : ℕ → ℕ} {h : List Event} {log : Lis
 
   -- whether the step is a help
   abbrev helped : Bool
-  helped = step s k o (m .memory) n .helped
+  helped = step s number k o (m .memory) n .helped
 
   abbrev h' : List Event
   h' = h ++ (stepEvent (isQ n) y helped ∷ [])
@@ -82,28 +82,28 @@ module _ {s : Shape} {m : Machine} {c : ℕ → ℕ} {h : List Event} {log : Lis
   abbrev inv : Invariant s m
   inv = ag .invariant
 
-  pub inv' : Invariant s (stepOf s m k)
-  inv' = step-keeps s tall m inv k kp o n busy
+  pub inv' : Invariant s (stepOf s number m k)
+  inv' = step-keeps s tall number m inv k kp o n busy
 
   abbrev mem' : Memory
-  mem' = stepOf s m k .memory
+  mem' = stepOf s number m k .memory
 
-  eff : Effect s k o (m .memory) (holding m k) mem' (stageOf (step s k o (m .memory) n .next))
+  eff : Effect s number k o (m .memory) (holding m k) mem' (stageOf (step s number k o (m .memory) n .next))
   eff =
-      subst (λ (x : Memory). Effect s k o (m .memory) (holding m k) x (stageOf (step s k o (m .memory) n .next)))
-      (sym (stepped-memory s tall m inv k kp o n busy)) (step-effect s tall m inv k kp o n busy)
+      subst (λ (x : Memory). Effect s number k o (m .memory) (holding m k) x (stageOf (step s number k o (m .memory) n .next)))
+      (sym (stepped-memory s tall number m inv k kp o n busy)) (step-effect s tall number m inv k kp o n busy)
 
   pub later : Later s (m .memory) mem'
   later = later-grows (later-refl s (m .memory)) (eff .grows)
 
   abbrev next : Process
-  next = stepped (processOf m k) (step s k o (m .memory) n)
+  next = stepped (processOf m k) (step s number k o (m .memory) n)
 
-  here : processOf (stepOf s m k) k ≡ next
-  here = stepped-here s tall m inv k kp o n busy
+  here : processOf (stepOf s number m k) k ≡ next
+  here = stepped-here s tall number m inv k kp o n busy
 
-  there : (j : ℕ) → j ≢ k → processOf (stepOf s m k) j ≡ processOf m j
-  there = stepped-other s tall m inv k kp o n busy
+  there : (j : ℕ) → j ≢ k → processOf (stepOf s number m k) j ≡ processOf m j
+  there = stepped-other s tall number m inv k kp o n busy
 
   pub mine : Doing h y o
   unfolding operation
@@ -114,13 +114,13 @@ module _ {s : Shape} {m : Machine} {c : ℕ → ℕ} {h : List Event} {log : Lis
 
   -- ---- counts
   pub not-mine : (x : OpId) → same x y ≡ false → countsOf x h' ≡ countsOf x h
-  not-mine = counts-other (isQ n) y helped h (q-helps-none s k o (m .memory) n)
+  not-mine = counts-other (isQ n) y helped h (q-helps-none s number k o (m .memory) n)
 
   pub is-mine : countsIn next ≡ countsOf y h'
   unfolding operation
   is-mine =
       ap (λ (z : OwnCounts). record { steps = z .steps + 1; helps = if helped then z .helps + 1 else z .helps }) (ag .current k kp)
-      ∙ sym (counts-own (isQ n) y helped h (q-helps-none s k o (m .memory) n))
+      ∙ sym (counts-own (isQ n) y helped h (q-helps-none s number k o (m .memory) n))
 
   few' : (x : OpId) → ownSteps x h' ≤ rest s A
   few' x = on (same x y) refl
@@ -140,35 +140,35 @@ module _ {s : Shape} {m : Machine} {c : ℕ → ℕ} {h : List Event} {log : Lis
       on false e = not-mine x e ∙ ag .unstarted x (sym (opened-kept (isQ n) y helped h x) ∙ l)
 
   -- an operation that is not finished by this step goes on
-  unfinished' : (x : OpId) → isOpened x h' ≡ true → isFinished x h' ≡ false → Running s (stepOf s m k) c x
+  unfinished' : (x : OpId) → isOpened x h' ≡ true → isFinished x h' ≡ false → Running s (stepOf s number m k) c x
   unfinished' x a b =
       let f = or-false (isFinished x h) (isQ n && same x y) (sym (finished-more (isQ n) y helped h x) ∙ b) in
       old (ag .unfinished x (sym (opened-kept (isQ n) y helped h x) ∙ a) (f .0)) (f .1)
     where
-      old : Running s m c x → isQ n && same x y ≡ false → Running s (stepOf s m k) c x
+      old : Running s m c x → isQ n && same x y ≡ false → Running s (stepOf s number m k) c x
       old r g = record { process = r .process; last = r .last; busy = on (ℕ-discrete (x .process) k) }
         where
-          on : Dec (x .process ≡ k) → isIdle (processOf (stepOf s m k) (x .process) .status) ≡ false
+          on : Dec (x .process ≡ k) → isIdle (processOf (stepOf s number m k) (x .process) .status) ≡ false
           on (yes z) =
               let w : x ≡ y = λ i. record { process = z i; serial = (r .last ∙ ap c z) i } in
               let q : isQ n ≡ false = sym (rw (ap (λ (u : OpId). same u y) w ∙ same-refl y) (and-one (isQ n))) ∙ g in
-              ap (λ (j : ℕ). isIdle (processOf (stepOf s m k) j .status)) z ∙ ap (λ (p : Process). isIdle (p .status)) here ∙ still-busy s k o (m .memory) n q
+              ap (λ (j : ℕ). isIdle (processOf (stepOf s number m k) j .status)) z ∙ ap (λ (p : Process). isIdle (p .status)) here ∙ still-busy s number k o (m .memory) n q
           on (no z) = ap (λ (p : Process). isIdle (p .status)) (there (x .process) z) ∙ r .busy
 
-  current' : (j : ℕ) → j < processes s → countsIn (processOf (stepOf s m k) j) ≡ countsOf (record { process = j; serial = c j }) h'
+  current' : (j : ℕ) → j < processes s → countsIn (processOf (stepOf s number m k) j) ≡ countsOf (record { process = j; serial = c j }) h'
   unfolding operation
   current' j jp = on (ℕ-discrete j k)
     where
-      on : Dec (j ≡ k) → countsIn (processOf (stepOf s m k) j) ≡ countsOf (record { process = j; serial = c j }) h'
+      on : Dec (j ≡ k) → countsIn (processOf (stepOf s number m k) j) ≡ countsOf (record { process = j; serial = c j }) h'
       on (yes z) = rw z (ap countsIn here ∙ is-mine)
       on (no z) =
           ap countsIn (there j z) ∙ ag .current j jp
           ∙ sym (not-mine (record { process = j; serial = c j }) (other-process (record { process = j; serial = c j }) y z))
 
-  counts' : (j : ℕ) → j < processes s → processOf (stepOf s m k) j .begun ≡ c j
+  counts' : (j : ℕ) → j < processes s → processOf (stepOf s number m k) j .begun ≡ c j
   counts' j jp = on (ℕ-discrete j k)
     where
-      on : Dec (j ≡ k) → processOf (stepOf s m k) j .begun ≡ c j
+      on : Dec (j ≡ k) → processOf (stepOf s number m k) j .begun ≡ c j
       on (yes z) = rw z (ap (λ (p : Process). p .begun) here ∙ ag .counts k kp)
       on (no z) = ap (λ (p : Process). p .begun) (there j z) ∙ ag .counts j jp
 
@@ -176,14 +176,14 @@ module _ {s : Shape} {m : Machine} {c : ℕ → ℕ} {h : List Event} {log : Lis
   pub does-same : (x : OpId) → 1 ≤ x .serial → x .serial ≤ c (x .process) → does x h' ≡ does x h
   does-same x a b = does-kept x h (stepEvent (isQ n) y helped ∷ []) (opened-yes ag tall x a b)
 
-  doing' : (j : ℕ) → j < processes s → (o' : Operation) (n' : Step) → processOf (stepOf s m k) j .status ≡ Busy o' n' → Doing h' (record { process = j; serial = c j }) o'
+  doing' : (j : ℕ) → j < processes s → (o' : Operation) (n' : Step) → processOf (stepOf s number m k) j .status ≡ Busy o' n' → Doing h' (record { process = j; serial = c j }) o'
   unfolding operation
   doing' j jp o' n' b = on (ℕ-discrete j k)
     where
       on : Dec (j ≡ k) → Doing h' (record { process = j; serial = c j }) o'
       on (yes z) =
-          let w : step s k o (m .memory) n .next ≡ Busy o' n' = sym (ap (λ (p : Process). p .status) here) ∙ ap (λ (i : ℕ). processOf (stepOf s m k) i .status) (sym z) ∙ b in
-          let v = next-busy s k o (m .memory) n o' n' w in
+          let w : step s number k o (m .memory) n .next ≡ Busy o' n' = sym (ap (λ (p : Process). p .status) here) ∙ ap (λ (i : ℕ). processOf (stepOf s number m k) i .status) (sym z) ∙ b in
+          let v = next-busy s number k o (m .memory) n o' n' w in
           subst (λ (i : ℕ). Doing h' (record { process = i; serial = c i }) o') (sym z)
           (record {
             some = mine .some;
@@ -212,7 +212,7 @@ module _ {s : Shape} {m : Machine} {c : ℕ → ℕ} {h : List Event} {log : Lis
       old : NodeSound s (m .memory) (leafOf s j)
       old = inv .sound .node (leafOf s j) nj
 
-      on : LeafWrote s k o (m .memory) (holding m k) mem' j i
+      on : LeafWrote s number k o (m .memory) (holding m k) mem' j i
           → IsBlockOf (does (record { process = j; serial = suc i }) h') (block s mem' (leafOf s j) i) (block s mem' (leafOf s j) (suc i))
       on (inl g) =
           subst (λ (q : Operation). IsBlockOf q (block s mem' (leafOf s j) i) (block s mem' (leafOf s j) (suc i)))
@@ -228,7 +228,7 @@ module _ {s : Shape} {m : Machine} {c : ℕ → ℕ} {h : List Event} {log : Lis
           let p : Same (block s mem' (leafOf s j) i) (block s (m .memory) (leafOf s k) i) =
           subst (λ (r : ℕ). Same (block s mem' (leafOf s j) i) (block s (m .memory) (leafOf s r) i)) (g .0) (eff .grows .stays (leafOf s j) i nj (below-head old i v)) in
           subst (λ (q : Operation). IsBlockOf q (block s mem' (leafOf s j) i) (block s mem' (leafOf s j) (suc i))) (sym w)
-          (subst (IsBlockOf o (block s mem' (leafOf s j) i)) (sym (g .3)) (block-added o (block s (m .memory) (leafOf s k) i) (block s mem' (leafOf s j) i) p))
+          (subst (IsBlockOf o (block s mem' (leafOf s j) i)) (sym (g .3)) (block-added number o (block s (m .memory) (leafOf s k) i) (block s mem' (leafOf s j) i) p))
 
   -- ---- what finished, and before what
   found-grows : (x : OpId) → Found s (m .memory) x → Found s mem' x
@@ -274,7 +274,7 @@ module _ {s : Shape} {m : Machine} {c : ℕ → ℕ} {h : List Event} {log : Lis
 
   -- all but the answers
   pub step-agrees : (log' : List AnswerRecord) → log' ≡ map (queueRecord s (mem' .table) h') (finishing h')
-      → Agrees s (stepOf s m k) c h' log'
+      → Agrees s (stepOf s number m k) c h' log'
   unfolding operation
   step-agrees log' answers =
       record {

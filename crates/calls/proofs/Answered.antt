@@ -30,17 +30,17 @@ use Rattle.calls.proofs.RootAnswers.{reply-is}
 use Rattle.calls.proofs.StepEvents.{stepEvent, finished-more, finishing-more}
 use Rattle.calls.proofs.AfterStep.{StepTaken, inv', later, mine, not-mine, is-mine, does-same, leaves', finished', step-agrees}
 
-module _ {s : Shape} {m : Machine} {c : ℕ → ℕ} {h : List Event} {log : List AnswerRecord} {k : ℕ} {o : Operation} {n : Step} (taken : StepTaken s m c h log k o n) where
+module _ {s : Shape} {number : ℕ} {m : Machine} {c : ℕ → ℕ} {h : List Event} {log : List AnswerRecord} {k : ℕ} {o : Operation} {n : Step} (taken : StepTaken s number m c h log k o n) where
   open StepTaken taken using (agrees as ag, tall, low as kp, busy)
 
   abbrev mem' : Memory
-  mem' = stepOf s m k .memory
+  mem' = stepOf s number m k .memory
 
   abbrev y : OpId
   y = record { process = k; serial = c k }
 
   abbrev helped : Bool
-  helped = step s k o (m .memory) n .helped
+  helped = step s number k o (m .memory) n .helped
 
   abbrev h' : List Event
   h' = h ++ (stepEvent (isQ n) y helped ∷ [])
@@ -57,7 +57,7 @@ module _ {s : Shape} {m : Machine} {c : ℕ → ℕ} {h : List Event} {log : Lis
     -- Q changes no memory
     same-memory : mem' ≡ m .memory
     same-memory =
-        stepped-memory s tall m (ag .invariant) k kp o n busy ∙ ap (λ (x : Step). step s k o (m .memory) x .memory) (is-q n q) ∙ q-memory s k o (m .memory)
+        stepped-memory s tall number m (ag .invariant) k kp o n busy ∙ ap (λ (x : Step). step s number k o (m .memory) x .memory) (is-q n q) ∙ q-memory s number k o (m .memory)
 
     stands : 1 ≤ times y (rootOperations s (mem' .table))
     stands =
@@ -80,7 +80,7 @@ module _ {s : Shape} {m : Machine} {c : ℕ → ℕ} {h : List Event} {log : Lis
 
     -- Q is no help
     quiet : processOf m k .helps ≡ (if helped then processOf m k .helps + 1 else processOf m k .helps)
-    quiet = rw (q-helps-none s k o (m .memory) n q)
+    quiet = rw (q-helps-none s number k o (m .memory) n q)
 
     answer-is : answerOf s m k o ≡ queueRecord s (mem' .table) h' y
     unfolding answerOf queueRecord
@@ -99,7 +99,7 @@ module _ {s : Shape} {m : Machine} {c : ℕ → ℕ} {h : List Event} {log : Lis
   given true q = ap (λ (a : AnswerRecord). a ∷ []) (answer-is q)
   given false q = refl
 
-  pub step-answers : Agrees s (stepOf s m k) c h' (log ++ (if isQ n then answerOf s m k o ∷ [] else []))
+  pub step-answers : Agrees s (stepOf s number m k) c h' (log ++ (if isQ n then answerOf s m k o ∷ [] else []))
   step-answers =
       step-agrees taken (log ++ (if isQ n then answerOf s m k o ∷ [] else []))
       (ap (λ (l : List AnswerRecord). l ++ (if isQ n then answerOf s m k o ∷ [] else []))

@@ -15,8 +15,7 @@ use Rattle.base.proofs.Cases.{both}
 use Rattle.base.proofs.Sums.{sum, sum-change, sum-most}
 use Rattle.record.specs.declared.StepRecord.{StepRecord}
 use Rattle.record.specs.StepRecords.{isBegin}
-use Rattle.calls.specs.History.{begins}
-use Rattle.calls.specs.Forecast.{beginRecords}
+use Rattle.calls.specs.Forecast.{begins, beginRecords}
 
 -- a list of one element or of none
 pub one-or-none : {A : Type 0} (b : Bool) (x : A) → length (if b then x ∷ [] else []) ≡ (if b then 1 else 0)

@@ -5,6 +5,7 @@ use mathlib.Core.List.{List}
 use lib.ListN.{take}
 use Rattle.record.specs.declared.StepRecord.{StepRecord}
 use Rattle.tree.specs.Shape.{Shape}
+use Rattle.calls.specs.Numbered.{numbered}
 use Rattle.calls.specs.Run.{play}
 use Rattle.calls.specs.History.{history}
 use Rattle.calls.specs.Demand3.{stepLimit}
@@ -16,11 +17,11 @@ use Rattle.calls.proofs.WaitFree.{wait-free}
 
 -- ---- a run of any records, to its end or up to its first refusal
 module _ (s : Shape) (tall : 1 ≤ s .height) (room : ℕ) (rs : List StepRecord) where
-  agreed : Run s (take (play s room rs .taken) rs)
+  agreed : Run s (numbered (take (play s room rs .taken) rs))
   agreed = runs s tall (played-legal s room rs)
 
-  pub played-linearizable : Linearizable (history s (take (play s room rs .taken) rs)) (play s room rs .answers)
-  played-linearizable = subst (Linearizable (history s (take (play s room rs .taken) rs))) (sym (played-answers s room rs)) (linearizable agreed tall)
+  pub played-linearizable : Linearizable (history s (numbered (take (play s room rs .taken) rs))) (play s room rs .answers)
+  played-linearizable = subst (Linearizable (history s (numbered (take (play s room rs .taken) rs)))) (sym (played-answers s room rs)) (linearizable agreed tall)
 
-  pub played-wait-free : WaitFree (stepLimit s) (history s (take (play s room rs .taken) rs))
+  pub played-wait-free : WaitFree (stepLimit s) (history s (numbered (take (play s room rs .taken) rs)))
   played-wait-free = wait-free agreed tall

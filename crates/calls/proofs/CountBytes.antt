@@ -19,6 +19,7 @@ use Rattle.steps.proofs.Limits.{short-for}
 use Rattle.calls.specs.Refusals.{accepted, callRefusal}
 use Rattle.calls.specs.Run.{run}
 use Rattle.calls.specs.LogVerdict.{recordAt}
+use Rattle.calls.specs.Numbered.{numbered}
 use Rattle.calls.specs.History.{Event, operation, history, ownSteps, ownHelps}
 use Rattle.calls.specs.Demand3.{queueRecord, finishing, stepLimit, QueuePromises}
 use Rattle.calls.proofs.OwnCounts.{helps-within}
@@ -62,7 +63,7 @@ module _ {s : Shape} {h : List Event} {log t : List ℕ} (low : s .height ≤ 3)
 pub count-bytes : (p l : ℕ) (records table answers : List ℕ) → accepted (callRefusal p l (length table) (length records)) ≡ true
     → let e = run p l records table answers in
     let log = take (answerSize * e .answered) (e .answers) in
-    let h = history (shapeFor p l) (take (e .taken) (stepRecords records)) in
+    let h = history (shapeFor p l) (numbered (take (e .taken) (stepRecords records))) in
     (i : ℕ) → i < length (finishing h)
     → let x = getD (finishing h) i (operation 0 0) in (getD (recordAt i log) 2 0 ≡ ownSteps x h) × (getD (recordAt i log) 3 0 ≡ ownHelps x h)
 count-bytes p l records table answers taken = counts-told (short-for p l) (demand3-run p l records table answers taken)

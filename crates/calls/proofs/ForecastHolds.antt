@@ -22,8 +22,9 @@ use Rattle.steps.proofs.Overall.{inside, busy}
 use Rattle.calls.specs.declared.Refusal.{Refusal}
 use Rattle.calls.specs.declared.Refusal.the-variants.{TableShort, AnswersFull}
 use Rattle.calls.specs.Refusals.{refusalNumber, accepted, torn, firstRefusal, settingsRefusal, bytesRefusal, bufferRefusal, callRefusal}
+use Rattle.calls.specs.Numbered.{Numbered, numbered}
 use Rattle.calls.specs.Run.{RunResult, Played, play, runTurnedDown, runPlayed, run}
-use Rattle.calls.specs.History.{machineAfter, begins, operation, history}
+use Rattle.calls.specs.History.{operation, begunBy, machineAfter, history}
 use Rattle.calls.specs.Forecast.{recordLimit, forecastRefusal, foreseen, forecast, beginRecords, AllFinish, StaysWithin, Forecasts}
 use Rattle.calls.proofs.Acceptance.{passed-test}
 use Rattle.calls.proofs.Played.{whole-answers, whole-legal, took-all}
@@ -31,22 +32,22 @@ use Rattle.calls.proofs.RecordsStay.{opened-yes}
 use Rattle.calls.proofs.Runs.{Run, runs}
 use Rattle.calls.proofs.Theorem.{tall-for, run-is}
 use Rattle.calls.proofs.Unrefused.{run-accepted, run-played}
-use Rattle.calls.proofs.RecordLimit.{spent}
+use Rattle.calls.proofs.RecordLimit.{list-spent}
 use Rattle.calls.proofs.Rooms.{Fits, begins-roomy, roomy-fits}
 use Rattle.calls.proofs.PlannedBegins.{forecast-settings}
 use Rattle.calls.proofs.RunLimits.{list-records, list-answers, run-within}
 
 -- ---- where all operations finish, no process is inside one
-module _ (s : Shape) (tall : 1 ≤ s .height) (rs : List StepRecord) (run : Run s rs) (all : AllFinish (history s rs)) where
-  idle : (k : ℕ) → k < processes s → (x : Status) → processOf (machineAfter s rs) k .status ≡ x → inside x ≤ 0
+module _ (s : Shape) (tall : 1 ≤ s .height) (ns : List Numbered) (run : Run s ns) (all : AllFinish (history s ns)) where
+  idle : (k : ℕ) → k < processes s → (x : Status) → processOf (machineAfter s ns) k .status ≡ x → inside x ≤ 0
   unfolding isIdle operation
   idle k kp Idle e = omega arith
   idle k kp (Busy o n) e =
       let d = run .doing k kp o n e in
-      contradiction _ (all (operation k (begins k rs)) (opened-yes run tall (operation k (begins k rs)) (d .some) (omega arith))) (d .unfinished)
+      contradiction _ (all (operation k (begunBy k (history s ns))) (opened-yes run tall (operation k (begunBy k (history s ns))) (d .some) (omega arith))) (d .unfinished)
 
-  all-idle : busy s (machineAfter s rs) ≡ 0
-  all-idle = omega (arith, sum-most (λ k. inside (processOf (machineAfter s rs) k .status)) (processes s) 0 (λ k kp. idle k kp _ refl))
+  all-idle : busy s (machineAfter s ns) ≡ 0
+  all-idle = omega (arith, sum-most (λ k. inside (processOf (machineAfter s ns) k .status)) (processes s) 0 (λ k kp. idle k kp _ refl))
 
 -- ---- a list with n begins, and what Run leaves of it
 module _ (p l : ℕ) (records table answers : List ℕ) (n : ℕ) (many : length (beginRecords (stepRecords records)) ≡ n) where
@@ -86,17 +87,17 @@ module _ (p l : ℕ) (records table answers : List ℕ) (n : ℕ) (many : length
     unfolding runPlayed
     whole = ap (λ (x : RunResult). take (x .taken) rs) e-is ∙ took-all s (length answers) rs ok
 
-    exactly : AllFinish (history s (take (e .taken) rs)) → answerSize * e .answered ≡ answerSize * n
+    exactly : AllFinish (history s (numbered (take (e .taken) rs))) → answerSize * e .answered ≡ answerSize * n
     unfolding runPlayed answerSize
     exactly all =
         let legal = whole-legal s (length answers) rs ok in
-        let done = all-idle s (tall-for p l) rs (runs s (tall-for p l) legal) (subst (λ (l : List StepRecord). AllFinish (history s l)) whole all) in
+        let done = all-idle s (tall-for p l) (numbered rs) (runs s (tall-for p l) legal) (subst (λ (l : List StepRecord). AllFinish (history s (numbered l))) whole all) in
         omega (
           arith,
           many,
           ap (λ (x : RunResult). x .answered) e-is,
           ap length (whole-answers s (length answers) rs ok),
-          spent s (tall-for p l) legal .answers,
+          list-spent s (tall-for p l) rs legal .answers,
           done,
         )
 
@@ -119,7 +120,7 @@ module _ (p l : ℕ) (records table answers : List ℕ) (n : ℕ) (many : length
     neither : (e .refusal ≢ refusalNumber TableShort) × (e .refusal ≢ refusalNumber AnswersFull)
     neither = let z = or-false _ _ run-fits in (eqb-false _ _ (z .0), eqb-false _ _ (z .1))
 
-  stays : accepted (settingsRefusal p l) ≡ true → StaysWithin (foreseen s n) e (history s (take (e .taken) rs)) (length table) (length answers)
+  stays : accepted (settingsRefusal p l) ≡ true → StaysWithin (foreseen s n) e (history s (numbered (take (e .taken) rs))) (length table) (length answers)
   unfolding foreseen
   stays settings = record { records = within-records; answers = within-answers; exact = exactly; enough = neither settings }
 

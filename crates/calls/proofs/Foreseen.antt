@@ -3,7 +3,7 @@ use Prim.Native.Nat.{ℕ, _≤_}
 use native.Mathlib.Omega.{arith}
 use mathlib.Core.Path.{_≡_, refl}
 use mathlib.Core.Bool.{true, false}
-use mathlib.Core.List.{List, [], _∷_, _++_, append-nil}
+use mathlib.Core.List.{List, [], _∷_, _++_, append-nil, map-append}
 use lib.ListN.{length}
 use Rattle.base.proofs.Cases.{cases}
 use Rattle.record.specs.declared.StepRecord.{StepRecord}
@@ -11,9 +11,12 @@ use Rattle.record.specs.StepRecords.{stepSize, isBegin, stepRecords}
 use Rattle.tree.specs.Shape.{Shape, shapeFor}
 use Rattle.calls.specs.Refusals.{refusalNumber, accepted, torn, settingsRefusal, bytesRefusal}
 use Rattle.calls.specs.Run.{run}
-use Rattle.calls.specs.History.{machineAfter, begins}
-use Rattle.calls.specs.Forecast.{beginsRefusal, forecastRefusal, foreseen, forecast, beginRecords}
+use Rattle.calls.specs.Numbered.{Numbered, numbered}
+use Rattle.calls.specs.History.{machineAfter}
+use Rattle.calls.specs.Forecast.{begins, beginsRefusal, forecastRefusal, foreseen, forecast, beginRecords}
 use Rattle.calls.proofs.Acceptance.{first-accepted}
+use Rattle.calls.proofs.Numbers.{items, items-numbered}
+use Rattle.calls.proofs.RecordLimit.{legal-begun}
 use Rattle.calls.proofs.Legal.{Accepted, Legal, none, more}
 use Rattle.calls.proofs.Played.{whole-legal}
 use Rattle.calls.proofs.CallAccepted.{accepted-settings}
@@ -25,23 +28,27 @@ use Rattle.calls.proofs.PlannedBegins.{Planned, plan, planned-snoc}
 
 -- ---- general H: every legal list
 module _ (s : Shape) (tall : 1 ≤ s .height) where
-  begin-planned : (rs : List StepRecord) (r : StepRecord) → Legal s rs → Accepted s (machineAfter s rs) r → isBegin r ≡ true → Planned s (begins (r .process) (beginRecords rs)) r
-  begin-planned rs r l a b =
+  begin-planned : (ns : List Numbered) (r : StepRecord) → Legal s ns → Accepted s (machineAfter s ns) r → isBegin r ≡ true → Planned s (begins (r .process) (beginRecords (items ns))) r
+  begin-planned ns r l a b =
       record {
         formed = a .formed;
         begins = b;
-        fewer = omega (arith, a .within b, runs s tall l .counts (r .process) (a .process-low), begins-among (r .process) rs);
+        fewer = omega (arith, a .within b, runs s tall l .counts (r .process) (a .process-low), legal-begun s (r .process) l, begins-among (r .process) (items ns));
       }
 
-  pub legal-planned : {rs : List StepRecord} → Legal s rs → accepted (beginsRefusal s [] (beginRecords rs)) ≡ true
+  legal-planned : {ns : List Numbered} → Legal s ns → accepted (beginsRefusal s [] (beginRecords (items ns))) ≡ true
   unfolding beginRecords beginsRefusal accepted refusalNumber
   legal-planned none = refl
-  legal-planned (more {rs} {r} l a) =
+  legal-planned (more {ns} n l a) =
       let before = legal-planned l in
-      rw (begin-records-append rs (r ∷ []))
-      (cases (λ (bs : List StepRecord). accepted (beginsRefusal s [] (beginRecords rs ++ bs)) ≡ true) (isBegin r)
-      (λ b. planned-snoc s [] (beginRecords rs) r before (plan s (begins (r .process) (beginRecords rs)) r (begin-planned rs r l a b)))
-      (λ b. rw (append-nil (beginRecords rs)) before))
+      let bs = beginRecords (items ns) in
+      rw (map-append (λ (x : Numbered). x .item) ns (n ∷ []), begin-records-append (items ns) (n .item ∷ []))
+      (cases (λ (x : List StepRecord). accepted (beginsRefusal s [] (bs ++ x)) ≡ true) (isBegin (n .item))
+      (λ b. planned-snoc s [] bs (n .item) before (plan s (begins (n .item .process) bs) (n .item) (begin-planned ns (n .item) l a b)))
+      (λ b. rw (append-nil bs) before))
+
+  pub list-planned : (rs : List StepRecord) → Legal s (numbered rs) → accepted (beginsRefusal s [] (beginRecords rs)) ≡ true
+  list-planned rs l = rw (items-numbered rs) at (legal-planned l)
 
 -- ---- of what Run returns
 module _ (p l : ℕ) (records table answers : List ℕ) (none : run p l records table answers .refusal ≡ 0) (bytes : List ℕ) (whole : torn stepSize (length bytes) ≡ false)
@@ -54,7 +61,7 @@ module _ (p l : ℕ) (records table answers : List ℕ) (none : run p l records 
     begins-pass : accepted (beginsRefusal (shapeFor p l) [] (stepRecords bytes)) ≡ true
     begins-pass =
         rw (← these)
-        (legal-planned (shapeFor p l) (tall-for p l) (whole-legal (shapeFor p l) (length answers) (stepRecords records) (run-played p l records table answers none)))
+        (list-planned (shapeFor p l) (tall-for p l) (stepRecords records) (whole-legal (shapeFor p l) (length answers) (stepRecords records) (run-played p l records table answers none)))
 
     all-pass : accepted (forecastRefusal p l bytes) ≡ true
     unfolding forecastRefusal

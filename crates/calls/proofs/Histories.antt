@@ -1,6 +1,7 @@
 -- What records and histories say when more follow.
-use Prim.Native.Nat.{ℕ, _+_}
-use mathlib.Core.Path.{_≡_, refl, ap}
+use Prim.Native.Nat.{ℕ, suc, _+_}
+use native.Mathlib.Omega.{arith}
+use mathlib.Core.Path.{_≡_, refl, ap, sym, _∙_}
 use mathlib.Core.Bool.{Bool, true, false, _&&_, _||_, or-assoc, or-false, and-false}
 use mathlib.Core.List.{List, [], _∷_, _++_, foldl, foldl-append, append-assoc, append-nil}
 use lib.Seq.{append-snoc}
@@ -12,48 +13,48 @@ use Rattle.tree.specs.Shape.{Shape}
 use Rattle.tree.specs.Order.{OpId}
 use Rattle.tree.specs.Standing.{same}
 use Rattle.tree.proofs.Names.{count-append}
-use Rattle.steps.specs.Machine.{start}
-use Rattle.calls.specs.Run.{takeRecord, recordAnswers}
-use Rattle.calls.specs.History.{Event, opens, moves, finishes, machineAfter, begins, event, eventsAfter, history}
+use Rattle.steps.specs.Machine.{processOf, atQ, helpBy}
+use Rattle.calls.specs.Numbered.{Numbered}
+use Rattle.calls.specs.Run.{operationOf, takeRecord, recordAnswers}
+use Rattle.calls.specs.History.{Event, opens, moves, finishes, operation, begunBy, Course, courseStart, nextEvent, courseRecord, courseAfter, machineAfter, history}
 use Rattle.calls.specs.History.{isOpening, isOwnStep, isOwnHelp, isFinish, isOpened, isFinished, finishedBefore, ownSteps, ownHelps, does}
 use Rattle.calls.specs.Demand3.{finishing}
+use Rattle.calls.specs.Forecast.{begins}
 use Rattle.calls.proofs.Legal.{answersAfter, answersAlong}
 
 -- ---- records
 
 module _ (s : Shape) where
-  pub machine-append : (rs ts : List StepRecord) → machineAfter s (rs ++ ts) ≡ foldl (takeRecord s) (machineAfter s rs) ts
-  unfolding machineAfter
-  machine-append rs ts = foldl-append (takeRecord s) (start s) rs ts
+  course-append : (ns ts : List Numbered) → courseAfter s (ns ++ ts) ≡ foldl (courseRecord s) (courseAfter s ns) ts
+  unfolding courseAfter
+  course-append ns ts = foldl-append (courseRecord s) (courseStart s) ns ts
 
-  pub machine-snoc : (rs : List StepRecord) (r : StepRecord) → machineAfter s (rs ++ (r ∷ [])) ≡ takeRecord s (machineAfter s rs) r
-  machine-snoc rs r = machine-append rs (r ∷ [])
+  pub machine-snoc : (ns : List Numbered) (n : Numbered) → machineAfter s (ns ++ (n ∷ [])) ≡ takeRecord s (machineAfter s ns) n
+  unfolding machineAfter courseRecord
+  machine-snoc ns n = ap (λ (c : Course). c .machine) (course-append ns (n ∷ []))
 
-  events-append : (before rs ts : List StepRecord) → eventsAfter s before (rs ++ ts) ≡ eventsAfter s before rs ++ eventsAfter s (before ++ rs) ts
-  unfolding eventsAfter
-  events-append before [] ts = rw append-nil
-  events-append before (r ∷ rs) ts = rw (events-append (before ++ (r ∷ [])) rs ts, append-snoc)
+  pub history-snoc : (ns : List Numbered) (n : Numbered) → history s (ns ++ (n ∷ [])) ≡ history s ns ++ (nextEvent s (courseAfter s ns) n ∷ [])
+  unfolding history courseRecord
+  history-snoc ns n = ap (λ (c : Course). c .events) (course-append ns (n ∷ []))
 
-  pub history-append : (rs ts : List StepRecord) → history s (rs ++ ts) ≡ history s rs ++ eventsAfter s rs ts
-  unfolding history
-  history-append rs ts = events-append [] rs ts
+  -- the events of records that follow
+  pub history-append : (ns ts : List Numbered) → (more : List Event) × (history s (ns ++ ts) ≡ history s ns ++ more)
+  history-append ns [] = ([], ap (history s) (append-nil ns) ∙ sym (append-nil (history s ns)))
+  history-append ns (n ∷ ts) =
+      let later = history-append (ns ++ (n ∷ [])) ts in
+      let e = nextEvent s (courseAfter s ns) n in (
+        e ∷ later .0,
+        ap (history s) (sym (append-snoc ns n ts)) ∙ later .1 ∙ ap (λ (h : List Event). h ++ later .0) (history-snoc ns n) ∙ append-snoc (history s ns) e (later .0),
+      )
 
-  pub history-snoc : (rs : List StepRecord) (r : StepRecord) → history s (rs ++ (r ∷ [])) ≡ history s rs ++ (event s rs r ∷ [])
-  unfolding eventsAfter
-  history-snoc rs r = history-append rs (r ∷ [])
-
-  answers-after-append : (before rs ts : List StepRecord) → answersAfter s before (rs ++ ts) ≡ answersAfter s before rs ++ answersAfter s (before ++ rs) ts
+  answers-after-append : (before ns ts : List Numbered) → answersAfter s before (ns ++ ts) ≡ answersAfter s before ns ++ answersAfter s (before ++ ns) ts
   unfolding answersAfter
   answers-after-append before [] ts = rw append-nil
-  answers-after-append before (r ∷ rs) ts = rw (answers-after-append (before ++ (r ∷ [])) rs ts, append-snoc, append-assoc)
+  answers-after-append before (n ∷ ns) ts = rw (answers-after-append (before ++ (n ∷ [])) ns ts, append-snoc, append-assoc)
 
-  pub answers-append : (rs ts : List StepRecord) → answersAlong s (rs ++ ts) ≡ answersAlong s rs ++ answersAfter s rs ts
-  unfolding answersAlong
-  answers-append rs ts = answers-after-append [] rs ts
-
-  pub answers-snoc : (rs : List StepRecord) (r : StepRecord) → answersAlong s (rs ++ (r ∷ [])) ≡ answersAlong s rs ++ recordAnswers s (machineAfter s rs) r
-  unfolding answersAfter
-  answers-snoc rs r = rw answers-append (rw append-nil)
+  pub answers-snoc : (ns : List Numbered) (n : Numbered) → answersAlong s (ns ++ (n ∷ [])) ≡ answersAlong s ns ++ recordAnswers s (machineAfter s ns) (n .item)
+  unfolding answersAlong answersAfter
+  answers-snoc ns n = rw (answers-after-append [] ns (n ∷ [])) (rw append-nil)
 
 pub begins-append : (k : ℕ) (rs ts : List StepRecord) → begins k (rs ++ ts) ≡ begins k rs + begins k ts
 unfolding begins
@@ -65,6 +66,40 @@ unfolding begins
 begins-snoc k rs r = begins-append k rs (r ∷ [])
 
 -- ---- events
+
+-- those that open
+begunBy-append : (k : ℕ) (h g : List Event) → begunBy k (h ++ g) ≡ begunBy k h + begunBy k g
+unfolding begunBy
+begunBy-append k [] g = omega arith
+begunBy-append k (opens x o ∷ h) g = on (eqb (x .process) k) (begunBy-append k h g)
+  where
+    on : (b : Bool) → begunBy k (h ++ g) ≡ begunBy k h + begunBy k g
+        → (if b then suc (begunBy k (h ++ g)) else begunBy k (h ++ g)) ≡ (if b then suc (begunBy k h) else begunBy k h) + begunBy k g
+    on true e = omega (arith, e)
+    on false e = e
+begunBy-append k (moves x helped ∷ h) g = begunBy-append k h g
+begunBy-append k (finishes x ∷ h) g = begunBy-append k h g
+
+-- one record more opens an operation of its process, if it is a begin
+module _ (s : Shape) (j : ℕ) where
+  begun-event : (c : Course) (n : Numbered) → begunBy j (nextEvent s c n ∷ []) ≡ (if isBegin (n .item) && eqb (n .item .process) j then 1 else 0)
+  unfolding nextEvent begunBy operation
+  begun-event c n = on (isBegin (n .item))
+    where
+      step-none : (b : Bool) (x : OpId) (helped : Bool) → begunBy j ((if b then finishes x else moves x helped) ∷ []) ≡ 0
+      step-none true x helped = refl
+      step-none false x helped = refl
+
+      on : (b : Bool) → begunBy j ((if b then opens (operation (n .item .process) (begunBy (n .item .process) (c .events) + 1)) (operationOf (n .item))
+          else if atQ (processOf (c .machine) (n .item .process) .status) then finishes (operation (n .item .process) (begunBy (n .item .process) (c .events)))
+          else moves (operation (n .item .process) (begunBy (n .item .process) (c .events))) (helpBy s (n .number) (c .machine) (n .item .process))) ∷ []) ≡ (if b && eqb (n .item .process) j then 1 else 0)
+      on true = refl
+      on false = step-none (atQ (processOf (c .machine) (n .item .process) .status)) _ _
+
+  pub begun-snoc : (ns : List Numbered) (n : Numbered)
+      → begunBy j (history s (ns ++ (n ∷ []))) ≡ begunBy j (history s ns) + (if isBegin (n .item) && eqb (n .item .process) j then 1 else 0)
+  begun-snoc ns n =
+      ap (begunBy j) (history-snoc s ns n) ∙ begunBy-append j (history s ns) _ ∙ ap (λ (i : ℕ). begunBy j (history s ns) + i) (begun-event (courseAfter s ns) n)
 
 module _ (x : OpId) where
   pub isOpened-append : (h k : List Event) → isOpened x (h ++ k) ≡ isOpened x h || isOpened x k

@@ -17,11 +17,13 @@ use Rattle.tree.specs.Order.{rootOrder}
 use Rattle.tree.proofs.OrderGrows.{order-grows}
 use Rattle.steps.specs.Machine.{Machine}
 use Rattle.calls.specs.Refusals.{accepted, torn}
+use Rattle.calls.specs.Numbered.{Numbered, numberedAfter, numbered}
 use Rattle.calls.specs.Run.{play, run}
 use Rattle.order.specs.OrderList.{orderRecord, orderList}
 use Rattle.calls.specs.ListOrder.{playAll, listOrder}
 use Rattle.calls.specs.History.{machineAfter}
 use Rattle.calls.specs.Continuation.{RunGrows, ListGrows, HistoryGrows}
+use Rattle.calls.proofs.Numbers.{numbered-append}
 use Rattle.calls.proofs.Legal.{Legal}
 use Rattle.calls.proofs.Prefixes.{legal-prefix}
 use Rattle.calls.proofs.Played.{whole-machine, whole-legal}
@@ -36,17 +38,18 @@ module _ (s : Shape) (tall : 1 ≤ s .height) where
   Grown m n = IsBeginning (rootOrder s (m .memory .table)) (rootOrder s (n .memory .table))
 
   -- over legal records
-  pub legal-grows : (rs ts : List StepRecord) → Legal s (rs ++ ts) → Grown (machineAfter s rs) (machineAfter s (rs ++ ts))
-  legal-grows rs ts l =
-      rw (order-grows s (machineAfter s rs .memory) (machineAfter s (rs ++ ts) .memory) (runs s tall (legal-prefix s rs ts l) .invariant .sound)
-      (runs s tall l .invariant .sound) (later-run s tall rs ts l))
-      (beginning-append (rootOrder s (machineAfter s rs .memory .table)) _)
+  pub legal-grows : (ns ts : List Numbered) → Legal s (ns ++ ts) → Grown (machineAfter s ns) (machineAfter s (ns ++ ts))
+  legal-grows ns ts l =
+      rw (order-grows s (machineAfter s ns .memory) (machineAfter s (ns ++ ts) .memory) (runs s tall (legal-prefix s ns ts l) .invariant .sound)
+      (runs s tall l .invariant .sound) (later-run s tall ns ts l))
+      (beginning-append (rootOrder s (machineAfter s ns .memory .table)) _)
 
   -- over runs without refusal, each with a room of its own
   pub played-grows : (room room' : ℕ) (rs ts : List StepRecord) → accepted (play s room rs .refusal) ≡ true → accepted (play s room' (rs ++ ts) .refusal) ≡ true
       → Grown (play s room rs .machine) (play s room' (rs ++ ts) .machine)
   played-grows room room' rs ts ok ok' =
-      rw (whole-machine s room rs ok, whole-machine s room' (rs ++ ts) ok') (legal-grows rs ts (whole-legal s room' (rs ++ ts) ok'))
+      rw (whole-machine s room rs ok, whole-machine s room' (rs ++ ts) ok', numbered-append rs ts)
+      (legal-grows (numbered rs) (numberedAfter (length rs) ts) (rw (numbered-append rs ts) at (whole-legal s room' (rs ++ ts) ok')))
 
 -- ---- a list of bytes and its continuation
 module _ (p l : ℕ) (records more : List ℕ) where

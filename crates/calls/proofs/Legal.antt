@@ -22,6 +22,7 @@ use Rattle.steps.specs.Machine.{Machine, processOf, isIdle, isQ, atQ}
 use Rattle.calls.specs.declared.Refusal.the-variants.{IllFormed, StepWhileIdle, AnswersFull}
 use Rattle.calls.specs.Answer.{answersFrom, answersOf}
 use Rattle.calls.specs.Refusals.{refusalNumber, accepted, beginRefusal, stepRefusal, recordRefusal}
+use Rattle.calls.specs.Numbered.{Numbered}
 use Rattle.calls.specs.Run.{recordAnswers}
 use Rattle.calls.specs.History.{machineAfter}
 use Rattle.calls.proofs.Acceptance.{passed}
@@ -35,17 +36,17 @@ pub record Accepted (s : Shape) (m : Machine) (r : StepRecord) : Type 0 where
   pub busy : isStep r ≡ true → isIdle (processOf m (r .process) .status) ≡ false
 
 -- records each of which is accepted after those before it
-pub data Legal (s : Shape) : List StepRecord → Type 0 where
+pub data Legal (s : Shape) : List Numbered → Type 0 where
   none : Legal s []
-  more : {rs : List StepRecord} {r : StepRecord} → Legal s rs → Accepted s (machineAfter s rs) r → Legal s (rs ++ (r ∷ []))
+  more : {ns : List Numbered} (n : Numbered) → Legal s ns → Accepted s (machineAfter s ns) (n .item) → Legal s (ns ++ (n ∷ []))
 
 -- the answers that records give which follow others, one after the other
-unfoldable pub answersAfter : Shape → List StepRecord → List StepRecord → List AnswerRecord
+unfoldable pub answersAfter : Shape → List Numbered → List Numbered → List AnswerRecord
 answersAfter s before [] = []
-answersAfter s before (r ∷ rs) = recordAnswers s (machineAfter s before) r ++ answersAfter s (before ++ (r ∷ [])) rs
+answersAfter s before (n ∷ ns) = recordAnswers s (machineAfter s before) (n .item) ++ answersAfter s (before ++ (n ∷ [])) ns
 
-unfoldable pub answersAlong : Shape → List StepRecord → List AnswerRecord
-answersAlong s rs = answersAfter s [] rs
+unfoldable pub answersAlong : Shape → List Numbered → List AnswerRecord
+answersAlong s ns = answersAfter s [] ns
 
 -- ---- a record that is not refused
 

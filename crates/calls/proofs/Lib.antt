@@ -1,4 +1,5 @@
 pub mod Acceptance
+pub mod Numbers
 pub mod Legal
 pub mod Histories
 pub mod RunsBy
@@ -17,6 +18,7 @@ pub mod RootAnswers
 pub mod AfterStep
 pub mod Answered
 pub mod Runs
+pub mod NumbersStay
 pub mod BeginRecords
 pub mod RecordLimit
 pub mod Rooms

@@ -16,8 +16,7 @@ use Rattle.record.specs.StepRecords.{isStep, isBegin, illFormed, stepRecords}
 use Rattle.tree.specs.Shape.{Shape, processes, shapeFor}
 use Rattle.calls.specs.declared.Refusal.the-variants.{None, IllFormed, BegunAll, StepAmongBegins}
 use Rattle.calls.specs.Refusals.{refusalNumber, accepted, firstRefusal, settingsRefusal, bytesRefusal}
-use Rattle.calls.specs.History.{begins}
-use Rattle.calls.specs.Forecast.{plannedRefusal, beginsRefusal, forecastRefusal}
+use Rattle.calls.specs.Forecast.{begins, plannedRefusal, beginsRefusal, forecastRefusal}
 use Rattle.calls.proofs.Acceptance.{passed, both-accepted, first-accepted}
 use Rattle.calls.proofs.Legal.{not-step, no-step, formed-low}
 use Rattle.calls.proofs.Histories.{begins-snoc}

@@ -15,8 +15,10 @@ use Rattle.tree.specs.Shape.{Shape}
 use Rattle.steps.specs.Machine.{Machine, processOf}
 use Rattle.calls.specs.declared.Refusal.{Refusal}
 use Rattle.calls.specs.Refusals.{accepted, recordRefusal}
+use Rattle.calls.specs.Numbered.{numberedAfter, numbered}
 use Rattle.calls.specs.Run.{takeRecord, Played, atStart, taking, refusing, playRecord, play}
-use Rattle.calls.specs.History.{machineAfter}
+use Rattle.calls.specs.History.{courseStart, courseAfter, machineAfter}
+use Rattle.calls.proofs.Numbers.{nextAfter, numbered-snoc}
 use Rattle.calls.proofs.Legal.{Accepted, Legal, none, more, answersAfter, answersAlong, accept, answers-room}
 use Rattle.calls.proofs.Histories.{machine-snoc, answers-snoc}
 use Rattle.calls.proofs.RunsBy.{playRecordBy, playBy, by-append, by-over, by-taken, by-refused}
@@ -28,14 +30,14 @@ record Tracks (s : Shape) (room : ℕ) (rs : List StepRecord) (g : Played) : Typ
   cut : rs ≡ took ++ rest
   count : g .taken ≡ length took
   all : accepted (g .refusal) ≡ true → rest ≡ []
-  machine : g .machine ≡ machineAfter s took
-  answers : g .answers ≡ answersAlong s took
-  legal : Legal s took
+  machine : g .machine ≡ machineAfter s (numbered took)
+  answers : g .answers ≡ answersAlong s (numbered took)
+  legal : Legal s (numbered took)
   has-room : answerSize * length (g .answers) ≤ room
 
 module _ (s : Shape) (room : ℕ) where
   tracks-start : Tracks s room [] (atStart s)
-  unfolding atStart machineAfter answersAlong answersAfter
+  unfolding atStart machineAfter courseAfter courseStart answersAlong answersAfter numbered numberedAfter
   tracks-start =
       record {
         took = [];
@@ -70,15 +72,19 @@ module _ (s : Shape) (room : ℕ) where
   unfolding taking answerSize
   tracks-taking rs g r t e f =
       let whole : rs ≡ t .took = t .cut ∙ ap (λ (l : List StepRecord). t .took ++ l) (t .all e) ∙ append-nil (t .took) in
+      let n = nextAfter (length (t .took)) r in
       record {
         took = t .took ++ (r ∷ []);
         rest = [];
         cut = ap (λ (l : List StepRecord). l ++ (r ∷ [])) whole ∙ sym (append-nil (t .took ++ (r ∷ [])));
         count = simp length-append (ap (λ (n : ℕ). n + 1) (t .count));
         all = λ z. refl;
-        machine = ap (λ (m : Machine). takeRecord s m r) (t .machine) ∙ sym (machine-snoc s (t .took) r);
-        answers = cc (answers-snoc s (t .took) r);
-        legal = more (t .legal) (subst (λ (m : Machine). Accepted s m r) (t .machine) (accept s (room - answerSize * length (g .answers)) (g .machine) r f));
+        machine =
+            (λ i. takeRecord s (t .machine i) (nextAfter (t .count i) r)) ∙ sym (ap (machineAfter s) (numbered-snoc (t .took) r) ∙ machine-snoc s (numbered (t .took)) n);
+        answers = cc (ap (answersAlong s) (numbered-snoc (t .took) r), answers-snoc s (numbered (t .took)) n);
+        legal =
+            subst (Legal s) (sym (numbered-snoc (t .took) r))
+            (more n (t .legal) (subst (λ (m : Machine). Accepted s m r) (t .machine) (accept s (room - answerSize * length (g .answers)) (g .machine) r f)));
         has-room = simp length-append (omega (arith, t .has-room, answers-room s (room - 16 * length (g .answers)) (g .machine) r f));
       }
 
@@ -107,14 +113,14 @@ module _ (s : Shape) (room : ℕ) where
       let t : Tracks s room rs (play s room rs) = tracks rs in
       sym (ap (λ (n : ℕ). take n rs) (t .count) ∙ ap (take (length (t .took))) (t .cut) ∙ take-append-seam (t .took) (t .rest))
 
-  pub played-machine : (rs : List StepRecord) → play s room rs .machine ≡ machineAfter s (take (play s room rs .taken) rs)
-  played-machine rs = tracks rs .machine ∙ ap (machineAfter s) (first rs)
+  pub played-machine : (rs : List StepRecord) → play s room rs .machine ≡ machineAfter s (numbered (take (play s room rs .taken) rs))
+  played-machine rs = tracks rs .machine ∙ ap (λ (l : List StepRecord). machineAfter s (numbered l)) (first rs)
 
-  pub played-answers : (rs : List StepRecord) → play s room rs .answers ≡ answersAlong s (take (play s room rs .taken) rs)
-  played-answers rs = tracks rs .answers ∙ ap (answersAlong s) (first rs)
+  pub played-answers : (rs : List StepRecord) → play s room rs .answers ≡ answersAlong s (numbered (take (play s room rs .taken) rs))
+  played-answers rs = tracks rs .answers ∙ ap (λ (l : List StepRecord). answersAlong s (numbered l)) (first rs)
 
-  pub played-legal : (rs : List StepRecord) → Legal s (take (play s room rs .taken) rs)
-  played-legal rs = subst (Legal s) (first rs) (tracks rs .legal)
+  pub played-legal : (rs : List StepRecord) → Legal s (numbered (take (play s room rs .taken) rs))
+  played-legal rs = subst (λ (l : List StepRecord). Legal s (numbered l)) (first rs) (tracks rs .legal)
 
   pub played-length : (rs : List StepRecord) → length (take (play s room rs .taken) rs) ≡ play s room rs .taken
   played-length rs = sym (tracks rs .count ∙ ap length (first rs))
@@ -134,14 +140,14 @@ module _ (s : Shape) (room : ℕ) where
     pub took-all : take (play s room rs .taken) rs ≡ rs
     took-all = ap (λ (i : ℕ). take i rs) (played-all rs ok) ∙ take-length rs
 
-    pub whole-machine : play s room rs .machine ≡ machineAfter s rs
-    whole-machine = played-machine rs ∙ ap (machineAfter s) took-all
+    pub whole-machine : play s room rs .machine ≡ machineAfter s (numbered rs)
+    whole-machine = played-machine rs ∙ ap (λ (l : List StepRecord). machineAfter s (numbered l)) took-all
 
-    pub whole-answers : play s room rs .answers ≡ answersAlong s rs
-    whole-answers = played-answers rs ∙ ap (answersAlong s) took-all
+    pub whole-answers : play s room rs .answers ≡ answersAlong s (numbered rs)
+    whole-answers = played-answers rs ∙ ap (λ (l : List StepRecord). answersAlong s (numbered l)) took-all
 
-    pub whole-legal : Legal s rs
-    whole-legal = subst (Legal s) took-all (played-legal rs)
+    pub whole-legal : Legal s (numbered rs)
+    whole-legal = subst (λ (l : List StepRecord). Legal s (numbered l)) took-all (played-legal rs)
 
   -- a run that is over stays as it is
   pub over-stays : (g : Played) → accepted (g .refusal) ≡ false → (rs : List StepRecord) → foldl (playRecord s room) g rs ≡ g

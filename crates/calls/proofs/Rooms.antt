@@ -24,6 +24,7 @@ use Rattle.steps.proofs.Overall.{inside}
 use Rattle.calls.specs.declared.Refusal.{Refusal}
 use Rattle.calls.specs.declared.Refusal.the-variants.{TableShort, AnswersFull}
 use Rattle.calls.specs.Refusals.{refusalNumber, accepted, beginRefusal, stepRefusal, recordRefusal}
+use Rattle.calls.specs.Numbered.{numbered}
 use Rattle.calls.specs.Run.{Played, atStart, taking, refusing, playRecord, play}
 use Rattle.calls.specs.ListOrder.{playAll}
 use Rattle.calls.specs.History.{machineAfter}
@@ -32,7 +33,7 @@ use Rattle.calls.proofs.Legal.{Legal, formed-low}
 use Rattle.calls.proofs.RunsBy.{Tests, playRecordBy, playBy, by-append}
 use Rattle.calls.proofs.Played.{whole-machine, whole-legal, whole-answers, play-append}
 use Rattle.calls.proofs.BeginRecords.{begin-records-first, begin-records-most}
-use Rattle.calls.proofs.RecordLimit.{spent, legal-begins}
+use Rattle.calls.proofs.RecordLimit.{list-spent, list-begins}
 
 -- the tests of a record where there is always room for one answer more, and a run by them
 abbrev roomyTests : Tests
@@ -85,7 +86,7 @@ inside-q (Busy o n) e = refl
 module _ (s : Shape) (tall : 1 ≤ s .height) (room : ℕ) where
   -- there is room for an answer to each operation that the records begin
   abbrev HasRoom : List StepRecord → Type 0
-  HasRoom rs = Legal s rs → answerSize * length (beginRecords rs) ≤ room
+  HasRoom rs = Legal s (numbered rs) → answerSize * length (beginRecords rs) ≤ room
 
   -- so there is for the next one
   module _ (rs : List StepRecord) (r : StepRecord) (fits : HasRoom rs) (ok : accepted (play s room rs .refusal) ≡ true) where
@@ -95,15 +96,15 @@ module _ (s : Shape) (tall : 1 ≤ s .height) (room : ℕ) where
     one-more : r .process < processes s → atQ (processOf (g .machine) (r .process) .status) ≡ true → answerSize ≤ room - answerSize * length (g .answers)
     unfolding answerSize
     one-more low q =
-        let l : Legal s rs = whole-legal s room rs ok in
-        let here : atQ (processOf (machineAfter s rs) (r .process) .status) ≡ true = ap (λ (m : Machine). atQ (processOf m (r .process) .status)) (sym (whole-machine s room rs ok)) ∙ q in
+        let l : Legal s (numbered rs) = whole-legal s room rs ok in
+        let here : atQ (processOf (machineAfter s (numbered rs)) (r .process) .status) ≡ true = ap (λ (m : Machine). atQ (processOf m (r .process) .status)) (sym (whole-machine s room rs ok)) ∙ q in
         omega (
           arith,
           fits l,
-          spent s tall l .answers,
+          list-spent s tall rs l .answers,
           ap length (whole-answers s room rs ok),
-          inside-q (processOf (machineAfter s rs) (r .process) .status) here,
-          sum-part (λ k. inside (processOf (machineAfter s rs) k .status)) (processes s) (r .process) low,
+          inside-q (processOf (machineAfter s (numbered rs)) (r .process) .status) here,
+          sum-part (λ k. inside (processOf (machineAfter s (numbered rs)) k .status)) (processes s) (r .process) low,
         )
 
     met-roomy : recordRefusal s (room - answerSize * length (g .answers)) (processOf (g .machine) (r .process)) r ≡ recordRefusal s answerSize (processOf (g .machine) (r .process)) r
@@ -150,7 +151,7 @@ module _ (s : Shape) (tall : 1 ≤ s .height) (rs : List StepRecord) where
   -- room for p × L answers
   pub all-room : (room : ℕ) → answerSize * (processes s * s .most) ≤ room → play s room rs ≡ playAll s rs
   unfolding answerSize
-  all-room room h = roomy s tall room rs (λ us vs e l. omega (arith, legal-begins s tall l)) ∙ sym all-roomy
+  all-room room h = roomy s tall room rs (λ us vs e l. omega (arith, list-begins s tall us l)) ∙ sym all-roomy
 
 -- ---- and it never lacks room
 module _ (s : Shape) where

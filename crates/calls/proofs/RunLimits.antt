@@ -1,6 +1,6 @@
 -- Every run takes at most (40H + 2) × p × L records and gives at most p × L answers, and with room for p × L answers it
 -- is the run with room for all. For general H; and of what Run leaves, for every p, L, list of bytes, table and buffer.
-use Prim.Native.Nat.{ℕ, _*_, _≤_}
+use Prim.Native.Nat.{ℕ, _+_, _*_, _≤_}
 use native.Mathlib.Omega.{arith}
 use native.Mathlib.Nat.{mul-le-mul-right, le-trans}
 use mathlib.Core.Path.{_≡_, refl, ap, _∙_}
@@ -11,18 +11,22 @@ use Rattle.record.specs.declared.StepRecord.{StepRecord}
 use Rattle.record.specs.StepRecords.{stepRecords}
 use Rattle.record.specs.AnswerRecords.{answerSize}
 use Rattle.tree.specs.Shape.{Shape, processes, shapeFor}
+use Rattle.tree.proofs.Places.{processes-most}
 use Rattle.steps.proofs.Limits.{allowed-width}
 use Rattle.calls.specs.declared.Refusal.{Refusal}
 use Rattle.calls.specs.Refusals.{accepted, callRefusal}
+use Rattle.calls.specs.Numbered.{numbered}
 use Rattle.calls.specs.Run.{RunResult, Played, play, runTurnedDown, runPlayed, run}
 use Rattle.calls.specs.ListOrder.{playAll}
+use Rattle.calls.specs.Demand3.{stepLimit}
 use Rattle.calls.specs.Forecast.{recordLimit, beginRecords}
+use Rattle.calls.proofs.Numbers.{numbered-length}
 use Rattle.calls.proofs.Legal.{Legal}
 use Rattle.calls.proofs.Played.{played-answers, played-legal, played-length}
 use Rattle.calls.proofs.CallAccepted.{accepted-processes}
 use Rattle.calls.proofs.Theorem.{tall-for, run-down, run-is}
 use Rattle.calls.proofs.BeginRecords.{begin-records-first}
-use Rattle.calls.proofs.RecordLimit.{spent, legal-begins}
+use Rattle.calls.proofs.RecordLimit.{list-spent, list-begins}
 use Rattle.calls.proofs.Rooms.{all-room}
 
 -- ---- general H
@@ -33,15 +37,15 @@ module _ (s : Shape) (tall : 1 ≤ s .height) (room : ℕ) (rs : List StepRecord
   abbrev took : List StepRecord
   took = take (g .taken) rs
 
-  legal : Legal s took
+  legal : Legal s (numbered took)
   legal = played-legal s room rs
 
   -- by the operations that it begins
   taken-by : g .taken ≤ length (beginRecords took) * recordLimit s
-  taken-by = omega (arith, played-length s room rs, spent s tall legal .records)
+  taken-by = omega (arith, played-length s room rs, numbered-length took, list-spent s tall took legal .records)
 
   answered-by : length (g .answers) ≤ length (beginRecords took)
-  answered-by = omega (arith, ap length (played-answers s room rs), spent s tall legal .answers)
+  answered-by = omega (arith, ap length (played-answers s room rs), list-spent s tall took legal .answers)
 
   taken-within : (n : ℕ) → length (beginRecords took) ≤ n → g .taken ≤ n * recordLimit s
   taken-within n h = le-trans taken-by (mul-le-mul-right (recordLimit s) h)
@@ -58,10 +62,17 @@ module _ (s : Shape) (tall : 1 ≤ s .height) (room : ℕ) (rs : List StepRecord
 
   -- by p and L
   pub most-records : g .taken ≤ processes s * s .most * recordLimit s
-  most-records = taken-within (processes s * s .most) (legal-begins s tall legal)
+  most-records = taken-within (processes s * s .most) (list-begins s tall took legal)
+
+  -- so with at most 8 processes of at most 500 operations, the number of a record fits 32 bits, also that of the next
+  pub number-fits : s .height ≤ 3 → s .most ≤ 500 → g .taken + 1 ≤ 4294967295
+  unfolding recordLimit stepLimit
+  number-fits low few =
+      let operations : processes s * s .most ≤ 4000 = omega (arith, few, mul-le-mul-right (s .most) (processes-most s low)) in
+      omega (arith, low, most-records, mul-le-mul-right (recordLimit s) operations)
 
   pub most-answers : length (g .answers) ≤ processes s * s .most
-  most-answers = omega (arith, answered-by, legal-begins s tall legal)
+  most-answers = omega (arith, answered-by, list-begins s tall took legal)
 
 -- ---- what Run leaves
 module _ (p l : ℕ) (records table answers : List ℕ) where

@@ -27,12 +27,13 @@ use Rattle.steps.specs.Machine.{Machine, start, processOf, withProcess, isIdle,
 use Rattle.steps.specs.Rules.{step}
 use Rattle.steps.proofs.Keeps.{start-invariant, start-process}
 use Rattle.calls.specs.Answer.{answerOf, answersFrom, answersOf}
+use Rattle.calls.specs.Numbered.{Numbered}
 use Rattle.calls.specs.Run.{operationOf, takeRecord, recordAnswers}
-use Rattle.calls.specs.History.{Event, opens, machineAfter, doesQ, doesHelp, begins, operation, event, eventsAfter, history, isOpened, isFinished, finishedBefore, ownSteps, ownHelps}
+use Rattle.calls.specs.History.{Event, opens, operation, begunBy, courseStart, nextEvent, courseAfter, machineAfter, history, isOpened, isFinished, finishedBefore, ownSteps, ownHelps}
 use Rattle.calls.specs.Demand3.{finishing}
 use Rattle.calls.proofs.Legal.{Accepted, Legal, none, more, answersAfter, answersAlong, not-step, not-begin}
 use Rattle.calls.proofs.Prefixes.{legal-prefix, legal-accepted}
-use Rattle.calls.proofs.Histories.{machine-snoc, history-snoc, answers-snoc, begins-snoc}
+use Rattle.calls.proofs.Histories.{machine-snoc, history-snoc, answers-snoc, begun-snoc}
 use Rattle.calls.proofs.OwnCounts.{countsIn}
 use Rattle.calls.proofs.Agrees.{Doing, Agrees}
 use Rattle.calls.proofs.AfterBegin.{begin-agrees}
@@ -41,8 +42,8 @@ use Rattle.calls.proofs.AfterStep.{StepTaken, later}
 use Rattle.calls.proofs.Answered.{step-answers}
 
 -- what is known of the run of a list
-abbrev pub Run : Shape → List StepRecord → Type 0
-Run s rs = Agrees s (machineAfter s rs) (λ k. begins k rs) (history s rs) (answersAlong s rs)
+abbrev pub Run : Shape → List Numbered → Type 0
+Run s ns = Agrees s (machineAfter s ns) (λ k. begunBy k (history s ns)) (history s ns) (answersAlong s ns)
 
 -- ---- no records
 module _ (s : Shape) where
@@ -69,7 +70,7 @@ module _ (s : Shape) where
       on (no e) = rw (lt-leb (x .serial) 0 (omega arith)) (sym (mathlib.Core.Bool.and-false (leb 1 (x .serial))))
 
   start-agrees : Run s []
-  unfolding machineAfter begins history eventsAfter answersAlong answersAfter isOpened isFinished finishedBefore ownSteps ownHelps finishing start
+  unfolding machineAfter history courseAfter courseStart begunBy answersAlong answersAfter isOpened isFinished finishedBefore ownSteps ownHelps finishing start
   start-agrees =
       record {
         invariant = start-invariant s;
@@ -98,116 +99,124 @@ unfolding isIdle
 busy-status Idle e = absurd (true≢false e)
 busy-status (Busy o n) e = (o, n, refl)
 
-module _ (s : Shape) (tall : 1 ≤ s .height) (rs : List StepRecord) (r : StepRecord) (run : Run s rs) (acc : Accepted s (machineAfter s rs) r) where
+module _ (s : Shape) (tall : 1 ≤ s .height) (ns : List Numbered) (n : Numbered) (run : Run s ns) (acc : Accepted s (machineAfter s ns) (n .item)) where
+  abbrev r : StepRecord
+  r = n .item
+
   abbrev k : ℕ
   k = r .process
 
   abbrev m : Machine
-  m = machineAfter s rs
+  m = machineAfter s ns
+
+  abbrev h : List Event
+  h = history s ns
+
+  history-more : (e : Event) → nextEvent s (courseAfter s ns) n ≡ e → history s (ns ++ (n ∷ [])) ≡ h ++ (e ∷ [])
+  history-more e is = history-snoc s ns n ∙ ap (λ (x : Event). h ++ (x ∷ [])) is
 
   module _ (z : isStep r ≡ false) where
     b : isBegin r ≡ true
     b = not-step r z
 
-    pub taken-begin : takeRecord s m r ≡ begin m k (operationOf r)
+    pub taken-begin : takeRecord s m n ≡ begin m k (operationOf r)
     unfolding takeRecord
     taken-begin = rw z
 
-    event-begin : event s rs r ≡ opens (operation k (begins k rs + 1)) (operationOf r)
-    unfolding event
+    abbrev opening : Event
+    opening = opens (operation k (begunBy k h + 1)) (operationOf r)
+
+    event-begin : nextEvent s (courseAfter s ns) n ≡ opening
+    unfolding nextEvent history
     event-begin = rw b
 
     pub none-answered : recordAnswers s m r ≡ []
     unfolding recordAnswers
     none-answered = rw z
 
-    one-more : begins k rs + 1 ≡ begins k (rs ++ (r ∷ []))
-    one-more = sym (begins-snoc k rs r ∙ rw (b, eq-eqb k k refl))
+    one-more : begunBy k (history s (ns ++ (n ∷ []))) ≡ begunBy k h + 1
+    one-more = begun-snoc s k ns n ∙ rw (b, eq-eqb k k refl)
 
-    no-more : (j : ℕ) → j ≢ k → begins j (rs ++ (r ∷ [])) ≡ begins j rs
-    no-more j ne = begins-snoc j rs r ∙ rw (b, ne-eqb k j (λ e. ne (sym e))) (omega arith)
+    no-more : (j : ℕ) → j ≢ k → begunBy j (history s (ns ++ (n ∷ []))) ≡ begunBy j h
+    no-more j ne = begun-snoc s j ns n ∙ rw (b, ne-eqb k j (λ e. ne (sym e))) (omega arith)
 
-    after-begin : Run s (rs ++ (r ∷ []))
+    after-begin : Run s (ns ++ (n ∷ []))
+    unfolding operation
     after-begin =
-        recount (sym (machine-snoc s rs r ∙ taken-begin)) (λ j. refl) (sym (history-snoc s rs r ∙ ap (λ (e : Event). history s rs ++ (e ∷ [])) event-begin))
-        (sym (answers-snoc s rs r ∙ ap (λ (l : List AnswerRecord). answersAlong s rs ++ l) none-answered ∙ append-nil (answersAlong s rs)))
-        (begin-agrees run tall k (acc .process-low) (operationOf r) (acc .idle b) (acc .within b) (λ j. begins j (rs ++ (r ∷ []))) (sym one-more) no-more)
+        recount (sym (machine-snoc s ns n ∙ taken-begin)) (λ j. refl) (sym (history-more opening event-begin))
+        (sym (answers-snoc s ns n ∙ ap (λ (l : List AnswerRecord). answersAlong s ns ++ l) none-answered ∙ append-nil (answersAlong s ns)))
+        (begin-agrees run tall k (acc .process-low) (operationOf r) (acc .idle b) (acc .within b) (λ j. begunBy j (history s (ns ++ (n ∷ [])))) one-more no-more)
 
   module _ (z : isStep r ≡ true) where
-    pub busy : (o : Operation) × (n : Step) × (processOf m k .status ≡ Busy o n)
+    pub busy : (o : Operation) × (x : Step) × (processOf m k .status ≡ Busy o x)
     busy = busy-status (processOf m k .status) (acc .busy z)
 
     abbrev o : Operation
     o = busy .0
 
-    abbrev n : Step
-    n = busy .1
+    abbrev x : Step
+    x = busy .1
 
-    of-step : StepTaken s m (λ j. begins j rs) (history s rs) (answersAlong s rs) k o n
+    of-step : StepTaken s (n .number) m (λ j. begunBy j h) h (answersAlong s ns) k o x
     of-step = record { agrees = run; tall = tall; low = acc .process-low; busy = busy .2 }
 
-    pub taken-step : takeRecord s m r ≡ stepOf s m k
+    pub taken-step : takeRecord s m n ≡ stepOf s (n .number) m k
     unfolding takeRecord
     taken-step = rw z
 
-    q-or-not : doesQ s rs r ≡ isQ n
-    unfolding doesQ atQ
-    q-or-not = rw (z, busy .2)
+    abbrev moving : Event
+    moving = stepEvent (isQ x) (operation k (begunBy k h)) (step s (n .number) k o (m .memory) x .helped)
 
-    help-or-not : doesHelp s rs r ≡ step s k o (m .memory) n .helped
-    unfolding doesHelp helpBy helpFrom
-    help-or-not = rw (z, busy .2)
+    event-step : nextEvent s (courseAfter s ns) n ≡ moving
+    unfolding nextEvent history machineAfter atQ helpBy helpFrom
+    event-step = rw (not-begin r z, busy .2)
 
-    event-step : event s rs r ≡ stepEvent (isQ n) (operation k (begins k rs)) (step s k o (m .memory) n .helped)
-    unfolding event
-    event-step = rw (not-begin r z, q-or-not, help-or-not)
-
-    pub answered : recordAnswers s m r ≡ (if isQ n then answerOf s m k o ∷ [] else [])
+    pub answered : recordAnswers s m r ≡ (if isQ x then answerOf s m k o ∷ [] else [])
     unfolding recordAnswers answersOf answersFrom
     answered = rw (z, busy .2)
 
-    as-many : (j : ℕ) → begins j rs ≡ begins j (rs ++ (r ∷ []))
-    as-many j = sym (begins-snoc j rs r ∙ rw (not-begin r z) (omega arith))
+    as-many : (j : ℕ) → begunBy j h ≡ begunBy j (history s (ns ++ (n ∷ [])))
+    as-many j = sym (begun-snoc s j ns n ∙ rw (not-begin r z) (omega arith))
 
-    after-step : Run s (rs ++ (r ∷ []))
+    after-step : Run s (ns ++ (n ∷ []))
     unfolding operation
     after-step =
-        recount (sym (machine-snoc s rs r ∙ taken-step)) as-many (sym (history-snoc s rs r ∙ ap (λ (e : Event). history s rs ++ (e ∷ [])) event-step))
-        (sym (answers-snoc s rs r ∙ ap (λ (l : List AnswerRecord). answersAlong s rs ++ l) answered))
+        recount (sym (machine-snoc s ns n ∙ taken-step)) as-many (sym (history-more moving event-step))
+        (sym (answers-snoc s ns n ∙ ap (λ (l : List AnswerRecord). answersAlong s ns ++ l) answered))
         (step-answers of-step)
 
-    later-step : Later s (m .memory) (machineAfter s (rs ++ (r ∷ [])) .memory)
+    later-step : Later s (m .memory) (machineAfter s (ns ++ (n ∷ [])) .memory)
     later-step =
-        subst (λ (x : Machine). Later s (m .memory) (x .memory)) (sym (machine-snoc s rs r ∙ taken-step)) (later of-step)
+        subst (λ (x : Machine). Later s (m .memory) (x .memory)) (sym (machine-snoc s ns n ∙ taken-step)) (later of-step)
 
-  after-record : Run s (rs ++ (r ∷ []))
+  after-record : Run s (ns ++ (n ∷ []))
   after-record = on (isStep r) refl
     where
-      on : (b : Bool) → isStep r ≡ b → Run s (rs ++ (r ∷ []))
+      on : (b : Bool) → isStep r ≡ b → Run s (ns ++ (n ∷ []))
       on true z = after-step z
       on false z = after-begin z
 
-  begin-memory : begin m k (operationOf r) .memory ≡ m .memory
+  pub begin-memory : begin m k (operationOf r) .memory ≡ m .memory
   unfolding begin withProcess
   begin-memory = refl
 
-  later-record : Later s (m .memory) (machineAfter s (rs ++ (r ∷ [])) .memory)
+  later-record : Later s (m .memory) (machineAfter s (ns ++ (n ∷ [])) .memory)
   later-record = on (isStep r) refl
     where
-      on : (b : Bool) → isStep r ≡ b → Later s (m .memory) (machineAfter s (rs ++ (r ∷ [])) .memory)
+      on : (b : Bool) → isStep r ≡ b → Later s (m .memory) (machineAfter s (ns ++ (n ∷ [])) .memory)
       on true z = later-step z
       on false z =
-          subst (Later s (m .memory)) (sym (ap (λ (x : Machine). x .memory) (machine-snoc s rs r ∙ taken-begin z) ∙ begin-memory)) (later-refl s (m .memory))
+          subst (Later s (m .memory)) (sym (ap (λ (x : Machine). x .memory) (machine-snoc s ns n ∙ taken-begin z) ∙ begin-memory)) (later-refl s (m .memory))
 
 -- ---- every legal list
-pub runs : (s : Shape) → 1 ≤ s .height → {rs : List StepRecord} → Legal s rs → Run s rs
+pub runs : (s : Shape) → 1 ≤ s .height → {ns : List Numbered} → Legal s ns → Run s ns
 runs s tall none = start-agrees s
-runs s tall (more {rs} {r} l a) = after-record s tall rs r (runs s tall l) a
+runs s tall (more {ns} n l a) = after-record s tall ns n (runs s tall l) a
 
 -- what is present after the first records stays as the others are played
-pub later-run : (s : Shape) → 1 ≤ s .height → (rs ts : List StepRecord) → Legal s (rs ++ ts) → Later s (machineAfter s rs .memory) (machineAfter s (rs ++ ts) .memory)
-later-run s tall rs [] l = subst (λ (x : List StepRecord). Later s (machineAfter s rs .memory) (machineAfter s x .memory)) (sym (append-nil rs)) (later-refl s (machineAfter s rs .memory))
-later-run s tall rs (r ∷ ts) l =
-    let e : (rs ++ (r ∷ [])) ++ ts ≡ rs ++ (r ∷ ts) = append-snoc rs r ts in
-    later-trans (later-record s tall rs r (runs s tall (legal-prefix s rs (r ∷ ts) l)) (legal-accepted s rs r ts l))
-    (subst (λ (x : List StepRecord). Later s (machineAfter s (rs ++ (r ∷ [])) .memory) (machineAfter s x .memory)) e (later-run s tall (rs ++ (r ∷ [])) ts (subst (Legal s) (sym e) l)))
+pub later-run : (s : Shape) → 1 ≤ s .height → (ns ts : List Numbered) → Legal s (ns ++ ts) → Later s (machineAfter s ns .memory) (machineAfter s (ns ++ ts) .memory)
+later-run s tall ns [] l = subst (λ (x : List Numbered). Later s (machineAfter s ns .memory) (machineAfter s x .memory)) (sym (append-nil ns)) (later-refl s (machineAfter s ns .memory))
+later-run s tall ns (n ∷ ts) l =
+    let e : (ns ++ (n ∷ [])) ++ ts ≡ ns ++ (n ∷ ts) = append-snoc ns n ts in
+    later-trans (later-record s tall ns n (runs s tall (legal-prefix s ns (n ∷ ts) l)) (legal-accepted s ns n ts l))
+    (subst (λ (x : List Numbered). Later s (machineAfter s (ns ++ (n ∷ [])) .memory) (machineAfter s x .memory)) e (later-run s tall (ns ++ (n ∷ [])) ts (subst (Legal s) (sym e) l)))

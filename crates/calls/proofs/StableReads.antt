@@ -7,6 +7,7 @@ use native.Mathlib.Decide.{decLt}
 use mathlib.Core.Path.{_≡_, refl, ap, sym, _∙_, subst}
 use mathlib.Core.Bool.{true}
 use mathlib.Core.List.{List, _++_}
+use lib.ListN.{length}
 use Rattle.record.specs.declared.StepRecord.{StepRecord}
 use Rattle.tree.specs.declared.Block.{Block}
 use Rattle.tree.specs.Shape.{Shape, processes, root}
@@ -35,9 +36,11 @@ use Rattle.steps.proofs.Progress.{Rooted, Carried}
 use Rattle.steps.proofs.Invariant.{holding}
 use Rattle.calls.specs.Answer.{replyOf}
 use Rattle.calls.specs.Refusals.{accepted}
+use Rattle.calls.specs.Numbered.{Numbered, numberedAfter, numbered}
 use Rattle.calls.specs.Run.{play}
-use Rattle.calls.specs.History.{Event, machineAfter, begins, operation, eventsAfter, history, does}
+use Rattle.calls.specs.History.{Event, operation, begunBy, machineAfter, history, does}
 use Rattle.calls.specs.StableReads.{EqualSaveSuper, StableReads}
+use Rattle.calls.proofs.Numbers.{numbered-append}
 use Rattle.calls.proofs.Legal.{Legal, answersAlong}
 use Rattle.calls.proofs.Histories.{history-append}
 use Rattle.calls.proofs.Prefixes.{legal-prefix}
@@ -47,33 +50,35 @@ use Rattle.calls.proofs.RecordsStay.{opened-yes, answer-kept}
 use Rattle.calls.proofs.RootAnswers.{reply-is}
 use Rattle.calls.proofs.AfterStep.{StepTaken, mine, rooted}
 use Rattle.calls.proofs.Runs.{Run, runs, later-run}
+use Rattle.calls.proofs.NumbersStay.{number-stays}
 use Rattle.calls.proofs.Played.{whole-legal, whole-machine}
 
-equal-save-super : {x y : Block} → Same x y → EqualSaveSuper x y
-equal-save-super e = record { puts = e .puts; takes = e .takes; left = e .left; right = e .right; size = e .size }
+equal-save-super : {x y : Block} → Same x y → x .number ≡ y .number → EqualSaveSuper x y
+equal-save-super e f = record { puts = e .puts; takes = e .takes; left = e .left; right = e .right; size = e .size; number = f }
 
-module _ (s : Shape) (tall : 1 ≤ s .height) (rs ts : List StepRecord) (legal : Legal s (rs ++ ts)) (k : ℕ) (kp : k < processes s) where
+module _ (s : Shape) (tall : 1 ≤ s .height) (ns ts : List Numbered) (legal : Legal s (ns ++ ts)) (k : ℕ) (kp : k < processes s) where
   abbrev m : Machine
-  m = machineAfter s rs
+  m = machineAfter s ns
 
   abbrev n : Machine
-  n = machineAfter s (rs ++ ts)
+  n = machineAfter s (ns ++ ts)
 
-  now : Run s rs
-  now = runs s tall (legal-prefix s rs ts legal)
+  now : Run s ns
+  now = runs s tall (legal-prefix s ns ts legal)
 
-  then : Run s (rs ++ ts)
+  then : Run s (ns ++ ts)
   then = runs s tall legal
 
   later : Later s (m .memory) (n .memory)
-  later = later-run s tall rs ts legal
+  later = later-run s tall ns ts legal
 
   abbrev sound : Sound s (m .memory)
   sound = now .invariant .sound
 
   -- ---- a block below a head
   stays : (v i : ℕ) → Node s v → i < headOf (m .memory) v → EqualSaveSuper (block s (n .memory) v i) (block s (m .memory) v i)
-  stays v i nv h = equal-save-super (later .stays v i nv (below-head (sound .node v nv) i h))
+  stays v i nv h =
+      let p = below-head (sound .node v nv) i h in equal-save-super (later .stays v i nv p) (number-stays s tall ns ts legal v i nv p)
 
   -- its ends are below heads
   ends : (v i : ℕ) → Inner s v → i < headOf (m .memory) v → (d : Side) → endOf d (block s (m .memory) v i) < headOf (m .memory) (childOf d v)
@@ -86,9 +91,9 @@ module _ (s : Shape) (tall : 1 ≤ s .height) (rs ts : List StepRecord) (legal :
   -- ---- an operation that stands in the root
   module _ (o : Operation) (at : processOf m k .status ≡ Busy o Q) where
     abbrev x : OpId
-    x = record { process = k; serial = begins k rs }
+    x = record { process = k; serial = begunBy k (history s ns) }
 
-    of-q : StepTaken s m (λ j. begins j rs) (history s rs) (answersAlong s rs) k o Q
+    of-q : StepTaken s 0 m (λ j. begunBy j (history s ns)) (history s ns) (answersAlong s ns) k o Q
     of-q = record { agrees = now; tall = tall; low = kp; busy = at }
 
     found : Found s (m .memory) x
@@ -137,10 +142,10 @@ module _ (s : Shape) (tall : 1 ≤ s .height) (rs ts : List StepRecord) (legal :
 
     -- in both the plain queue gives it the same answer, and that is its reply
     abbrev h : List Event
-    h = history s rs
+    h = history s ns
 
     abbrev more : List Event
-    more = eventsAfter s rs ts
+    more = history-append s ns ts .0
 
     does-now : does x h ≡ o
     unfolding operation
@@ -150,7 +155,7 @@ module _ (s : Shape) (tall : 1 ≤ s .height) (rs ts : List StepRecord) (legal :
     does-then = does-kept x h more (opened-yes now tall x (found .first) (le-refl _)) ∙ does-now
 
     leaves-then : LeavesAre s (n .memory) (h ++ more)
-    leaves-then = subst (LeavesAre s (n .memory)) (history-append s rs ts) (then .leaves)
+    leaves-then = subst (LeavesAre s (n .memory)) (history-append s ns ts .1) (then .leaves)
 
     same-reply : replyOf s (n .memory .table) x o ≡ replyOf s (m .memory .table) x o
     same-reply =
@@ -163,7 +168,7 @@ module _ (s : Shape) (tall : 1 ≤ s .height) (rs ts : List StepRecord) (legal :
   legal-stable : StableReads s m n k
   unfolding operation
   legal-stable =
-      let serial : processOf m k .begun ≡ begins k rs = now .counts k kp in
+      let serial : processOf m k .begun ≡ begunBy k (history s ns) = now .counts k kp in
       record {
         stays = λ v i f l. stays v i (omega arith);
         opens = λ v i f l. ends v i (record { first = f; last = l });
@@ -181,4 +186,5 @@ pub stable-reads : (s : Shape) → 1 ≤ s .height → (room room' : ℕ) (rs ts
     → accepted (play s room' (rs ++ ts) .refusal) ≡ true
     → (k : ℕ) → k < processes s → StableReads s (play s room rs .machine) (play s room' (rs ++ ts) .machine) k
 stable-reads s tall room room' rs ts ok ok' k kp =
-    rw (whole-machine s room rs ok, whole-machine s room' (rs ++ ts) ok') (legal-stable s tall rs ts (whole-legal s room' (rs ++ ts) ok') k kp)
+    rw (whole-machine s room rs ok, whole-machine s room' (rs ++ ts) ok', numbered-append rs ts)
+    (legal-stable s tall (numbered rs) (numberedAfter (length rs) ts) (rw (numbered-append rs ts) at (whole-legal s room' (rs ++ ts) ok')) k kp)

@@ -19,6 +19,7 @@ use Rattle.tree.specs.Shape.{Shape, heightFor, shapeFor}
 use Rattle.tree.specs.Layout.{wordsNeeded}
 use Rattle.steps.specs.Machine.{Machine}
 use Rattle.calls.specs.Refusals.{accepted, callRefusal}
+use Rattle.calls.specs.Numbered.{Numbered, numbered}
 use Rattle.calls.specs.Run.{Played, play, runTurnedDown, runPlayed, run}
 use Rattle.calls.specs.History.{machineAfter, history}
 use Rattle.calls.specs.Demand3.{QueuePromises, Demand3, RunKeeps}
@@ -31,8 +32,8 @@ module _ (s : Shape) (tall : 1 ≤ s .height) (room : ℕ) (rs : List StepRecord
   abbrev g : Played
   g = play s room rs
 
-  abbrev took : List StepRecord
-  took = take (g .taken) rs
+  abbrev took : List Numbered
+  took = numbered (take (g .taken) rs)
 
   agreed : Run s took
   agreed = runs s tall (played-legal s room rs)

@@ -25,7 +25,7 @@ module _ {s : Shape} {m : Machine} {c : ℕ → ℕ} {h : List Event} {log : Lis
   busy-fewer : (k : ℕ) → k < processes s → (x : Status) → processOf m k .status ≡ x → isIdle x ≡ false → processOf m k .steps < rest s A
   unfolding isIdle
   busy-fewer k kp Idle e b = absurd (true≢false b)
-  busy-fewer k kp (Busy o n) e b = steps-left s tall m (ag .invariant) k kp o n e
+  busy-fewer k kp (Busy o n) e b = steps-left s tall 0 m (ag .invariant) k kp o n e
 
   running-fewer : (x : OpId) → Running s m c x → ownSteps x h < stepLimit s
   unfolding stepLimit operation

@@ -6,17 +6,17 @@
 --   before the first record the needed words are zero, each head is 1 and every process is idle:
 --       start (steps, Machine)
 --   each record meets what the one before left; a refused record and those after it play no part:
---       machineAfter, over the records taken (History)
+--       courseAfter, over the records taken (History)
 --   an operation is opened by a begin record, has its kind and value; its serial is its number among its begins:
---       event, operation, begins, does, isOpened (History)
+--       nextEvent, operation, begunBy, does, isOpened (History)
 --   it finishes with the record that does its Q:
---       doesQ, isFinished (History)
+--       nextEvent, isFinished (History)
 --   it finished before another began:
 --       finishedBefore (History)
 --   its own steps; a finished operation's answer gives their number:
 --       ownSteps (History); queueRecord
 --   of request e: its helps, which its answer gives too, the moves made for children inside refreshes:
---       doesHelp, ownHelps (History); queueRecord
+--       nextEvent, ownHelps (History); queueRecord
 --   it stands in root block b once for each time that opening b's puts or takes gives its place:
 --       standsIn (tree, Standing), opened (tree, Order)
 --   nothing else stands there:
@@ -42,6 +42,7 @@ use Rattle.tree.specs.Layout.{wordsNeeded}
 use Rattle.tree.specs.Blocks.{blockAt}
 use Rattle.tree.specs.Order.{OpId, lastRoot, rootOperations}
 use Rattle.tree.specs.Standing.{same, times, standsIn, rootBlockOf}
+use Rattle.calls.specs.Numbered.{numbered}
 use Rattle.calls.specs.Run.{RunResult}
 use Rattle.calls.specs.PlainQueue.{fed, answers}
 use Rattle.calls.specs.History.{Event, opens, moves, finishes, history, isOpened, isFinished, finishedBefore, ownSteps, ownHelps, does}
@@ -99,7 +100,7 @@ pub record QueuePromises (s : Shape) (h : List Event) (log t : List ℕ) : Type 
 
 -- Demand 3, on p, L, the records taken, the answer bytes written and the table words left
 abbrev pub Demand3 : ℕ → ℕ → List StepRecord → List ℕ → List ℕ → Type 0
-Demand3 p l taken log t = QueuePromises (shapeFor p l) (history (shapeFor p l) taken) log t
+Demand3 p l taken log t = QueuePromises (shapeFor p l) (history (shapeFor p l) (numbered taken)) log t
 
 -- Demand 3 of a call of Run on some records: of those that it took, the bytes that it wrote and the needed words that
 -- it left

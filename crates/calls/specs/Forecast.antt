@@ -1,11 +1,11 @@
 -- Forecast: what a list of begin records, one for each operation, will need, before it runs.
-use Prim.Native.Nat.{ℕ, _+_, _*_, _≤_}
+use Prim.Native.Nat.{ℕ, suc, _+_, _*_, _≤_}
 use mathlib.Core.Path.{_≡_}
 use mathlib.Core.Logic.{_≢_}
-use mathlib.Core.Bool.{true}
+use mathlib.Core.Bool.{true, _&&_}
 use mathlib.Core.List.{List, [], _∷_, _++_}
 use lib.ListN.{length, take}
-use lib.Dec.{leb}
+use lib.Dec.{leb, eqb}
 use Rattle.base.specs.Choice.{if_then_else_}
 use Rattle.record.specs.declared.StepRecord.{StepRecord}
 use Rattle.record.specs.StepRecords.{isStep, isBegin, illFormed, stepRecords}
@@ -16,8 +16,9 @@ use Rattle.tree.specs.Order.{OpId}
 use Rattle.calls.specs.declared.Refusal.{Refusal}
 use Rattle.calls.specs.declared.Refusal.the-variants.{None, TableShort, IllFormed, BegunAll, AnswersFull, StepAmongBegins}
 use Rattle.calls.specs.Refusals.{refusalNumber, accepted, firstRefusal, settingsRefusal, bytesRefusal}
+use Rattle.calls.specs.Numbered.{numbered}
 use Rattle.calls.specs.Run.{RunResult, run}
-use Rattle.calls.specs.History.{Event, begins, history, isOpened, isFinished}
+use Rattle.calls.specs.History.{Event, history, isOpened, isFinished}
 use Rattle.calls.specs.Demand3.{stepLimit}
 
 -- ---- the call
@@ -25,6 +26,11 @@ use Rattle.calls.specs.Demand3.{stepLimit}
 -- the most records of an operation: its begin and its own steps
 unfoldable pub recordLimit : Shape → ℕ
 recordLimit s = stepLimit s + 1
+
+-- the begins of process k
+unfoldable pub begins : ℕ → List StepRecord → ℕ
+begins k [] = 0
+begins k (r ∷ rs) = let n = begins k rs in if isBegin r && eqb (r .process) k then suc n else n
 
 -- a record whose process begins so many operations before it: 5; 12 kind 0; 8
 unfoldable pub plannedRefusal : Shape → ℕ → StepRecord → Refusal
@@ -93,4 +99,4 @@ abbrev pub Forecasts : ℕ → ℕ → List ℕ → ForecastResult → Type 0
 Forecasts p l bytes f =
     f .refusal ≡ 0 → (records table answers : List ℕ) → beginRecords (stepRecords records) ≡ stepRecords bytes
     → let e = run p l records table answers in
-    StaysWithin f e (history (shapeFor p l) (take (e .taken) (stepRecords records))) (length table) (length answers)
+    StaysWithin f e (history (shapeFor p l) (numbered (take (e .taken) (stepRecords records)))) (length table) (length answers)

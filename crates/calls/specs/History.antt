@@ -1,17 +1,17 @@
--- The history of a run: what each record that was taken did, as an event of an operation.
+-- The history of a run: what each record that was taken did, as an event of an operation; a fold over the records.
 use Prim.Native.Nat.{ℕ, suc, _+_}
 use mathlib.Core.Bool.{Bool, false, _&&_, _||_}
 use mathlib.Core.List.{List, [], _∷_, _++_, foldl}
 use lib.Dec.{eqb}
 use Rattle.base.specs.Choice.{if_then_else_}
-use Rattle.record.specs.declared.StepRecord.{StepRecord}
-use Rattle.record.specs.StepRecords.{isStep, isBegin}
+use Rattle.record.specs.StepRecords.{isBegin}
 use Rattle.tree.specs.Shape.{Shape}
 use Rattle.tree.specs.Order.{OpId}
 use Rattle.tree.specs.Standing.{same}
 use Rattle.steps.specs.declared.Operation.{Operation}
 use Rattle.steps.specs.declared.Operation.the-variants.{Take}
 use Rattle.steps.specs.Machine.{Machine, start, processOf, atQ, helpBy}
+use Rattle.calls.specs.Numbered.{Numbered}
 use Rattle.calls.specs.Run.{operationOf, takeRecord}
 
 -- a record opens an operation, does a step of it, of which is known whether it was a help, or does its Q, with which it
@@ -23,43 +23,51 @@ pub data Event : Type 0 where
 
 -- ---- the events of the records
 
--- which record does a Q, and which a help: the step rules, played over the records before it, have its process at Q, or
--- tell that its step moves a child's head inside a refresh. Nothing else here names the step rules.
-unfoldable pub machineAfter : Shape → List StepRecord → Machine
-machineAfter s before = foldl (takeRecord s) (start s) before
-
-unfoldable pub doesQ : Shape → List StepRecord → StepRecord → Bool
-doesQ s before r = isStep r && atQ (processOf (machineAfter s before) (r .process) .status)
-
-unfoldable pub doesHelp : Shape → List StepRecord → StepRecord → Bool
-doesHelp s before r = isStep r && helpBy s (machineAfter s before) (r .process)
-
--- the begins of process k
-unfoldable pub begins : ℕ → List StepRecord → ℕ
-begins k [] = 0
-begins k (r ∷ rs) = let n = begins k rs in if isBegin r && eqb (r .process) k then suc n else n
-
 -- the operation of a process with that serial, its number among the process's begins
 unfoldable pub operation : ℕ → ℕ → OpId
 operation k serial = record { process = k; serial = serial }
 
--- the event of a record: a begin opens the next operation of its process, a step is one of the last that its process
--- began
-unfoldable pub event : Shape → List StepRecord → StepRecord → Event
-event s before r =
+-- the operations that process k has opened in a history
+unfoldable pub begunBy : ℕ → List Event → ℕ
+begunBy k [] = 0
+begunBy k (opens x o ∷ h) = let n = begunBy k h in if eqb (x .process) k then suc n else n
+begunBy k (moves x helped ∷ h) = begunBy k h
+begunBy k (finishes x ∷ h) = begunBy k h
+
+-- the course of a run: what the records left of the machine, and their events
+pub record Course : Type 0 where
+  pub machine : Machine
+  pub events : List Event
+
+unfoldable pub courseStart : Shape → Course
+courseStart s = record { machine = start s; events = [] }
+
+-- the event of the next record: a begin opens the next operation of its process, a step is one of the last that its
+-- process opened. Which step is a Q, and which a help, the step rules say of the machine: its process is at Q, or the
+-- step moves a child's head inside a refresh. Nothing else here names them.
+unfoldable pub nextEvent : Shape → Course → Numbered → Event
+nextEvent s c n =
+    let r = n .item in
     let k = r .process in
-    let n = begins k before in
-    if isBegin r then opens (operation k (n + 1)) (operationOf r)
-    else if doesQ s before r then finishes (operation k n)
-    else moves (operation k n) (doesHelp s before r)
+    let serial = begunBy k (c .events) in
+    if isBegin r then opens (operation k (serial + 1)) (operationOf r)
+    else if atQ (processOf (c .machine) k .status) then finishes (operation k serial)
+    else moves (operation k serial) (helpBy s (n .number) (c .machine) k)
 
--- the events of records that follow others, in list order
-unfoldable pub eventsAfter : Shape → List StepRecord → List StepRecord → List Event
-eventsAfter s before [] = []
-eventsAfter s before (r ∷ rs) = event s before r ∷ eventsAfter s (before ++ (r ∷ [])) rs
+unfoldable pub courseRecord : Shape → Course → Numbered → Course
+courseRecord s c n =
+    record { machine = takeRecord s (c .machine) n; events = c .events ++ (nextEvent s c n ∷ []) }
 
-unfoldable pub history : Shape → List StepRecord → List Event
-history s rs = eventsAfter s [] rs
+-- the records one after the other
+unfoldable pub courseAfter : Shape → List Numbered → Course
+courseAfter s ns = foldl (courseRecord s) (courseStart s) ns
+
+-- the machine that they left, and their events in list order
+unfoldable pub machineAfter : Shape → List Numbered → Machine
+machineAfter s ns = courseAfter s ns .machine
+
+unfoldable pub history : Shape → List Numbered → List Event
+history s ns = courseAfter s ns .events
 
 -- ---- what a history says of an operation
 

@@ -1,5 +1,6 @@
 pub mod Answer
 pub mod Refusals
+pub mod Numbered
 pub mod Run
 pub mod ListOrder
 pub mod CheckLog

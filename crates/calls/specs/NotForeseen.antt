@@ -12,6 +12,7 @@ use Rattle.record.specs.AnswerRecords.{answerSize}
 use Rattle.tree.specs.Shape.{shapeFor}
 use Rattle.steps.specs.declared.Operation.the-variants.{Take}
 use Rattle.calls.specs.Refusals.{refusalNumber}
+use Rattle.calls.specs.Numbered.{numbered}
 use Rattle.calls.specs.Run.{RunResult, run}
 use Rattle.calls.specs.History.{Event, opens, finishes, history}
 use Rattle.calls.specs.Forecast.{ForecastResult, forecast, beginRecords, AllFinish, StaysWithin, Forecasts}
@@ -41,26 +42,26 @@ unfolding rules op
 doneFinishes x e = e
 
 -- a record more than the limit, 42
-pub oneRecordMore : StaysWithin foreseenTake (ran 0 43 0) begun 66 16 → ⊥
+pub oneRecordMore : StaysWithin foreseenTake (ran 0 43 0) begun 77 16 → ⊥
 unfolding rules beginTake
 oneRecordMore w = omega (arith, w .records)
 
 -- an answer more than the take has
-pub oneAnswerMore : StaysWithin foreseenTake (ran 0 42 2) begun 66 16 → ⊥
+pub oneAnswerMore : StaysWithin foreseenTake (ran 0 42 2) begun 77 16 → ⊥
 unfolding rules beginTake
 oneAnswerMore w = omega (arith, w .answers)
 
 -- no answer, though the take finished
-pub oneAnswerLess : StaysWithin foreseenTake (ran 0 18 0) done 66 16 → ⊥
+pub oneAnswerLess : StaysWithin foreseenTake (ran 0 18 0) done 77 16 → ⊥
 unfolding rules beginTake
 oneAnswerLess w = omega (arith, w .exact refl doneFinishes)
 
 -- 3 on the words foreseen, and 9 with the bytes foreseen
-pub tableTooShort : StaysWithin foreseenTake (ran 3 0 0) [] 66 16 → ⊥
+pub tableTooShort : StaysWithin foreseenTake (ran 3 0 0) [] 77 16 → ⊥
 unfolding rules beginTake
 tableTooShort w = w .enough (omega arith) (omega arith) .0 refl
 
-pub answersTooShort : StaysWithin foreseenTake (ran 9 17 0) begun 66 16 → ⊥
+pub answersTooShort : StaysWithin foreseenTake (ran 9 17 0) begun 77 16 → ⊥
 unfolding rules beginTake
 answersTooShort w = w .enough (omega arith) (omega arith) .1 refl
 
@@ -78,7 +79,7 @@ module _ (p l : ℕ) (bytes : List ℕ) (f : ForecastResult) (none : f .refusal 
     unfolding answerSize
     saysAnswers = claim none records table answers these .answers
 
-    pub saysExact : e .refusal ≡ 0 → AllFinish (history (shapeFor p l) (take (e .taken) (stepRecords records))) → 16 * e .answered ≡ f .answerBytes
+    pub saysExact : e .refusal ≡ 0 → AllFinish (history (shapeFor p l) (numbered (take (e .taken) (stepRecords records)))) → 16 * e .answered ≡ f .answerBytes
     unfolding answerSize
     saysExact = claim none records table answers these .exact
 
@@ -89,9 +90,9 @@ module _ (p l : ℕ) (bytes : List ℕ) (f : ForecastResult) (none : f .refusal 
 -- the steps of a list are not among its begins
 pub withSteps : (f : ForecastResult) → f .refusal ≡ 0 → Forecasts 2 2 (beginTake 0) f → 18 ≤ f .records
 unfolding rules beginTake steps
-withSteps f none claim = claim none takeAlone (replicate 66 0) (replicate 16 0) refl .records
+withSteps f none claim = claim none takeAlone (replicate 77 0) (replicate 16 0) refl .records
 
 -- what it does not claim: the bytes of a list that does not finish are not exact
-pub notExact : answerSize * run 2 2 (beginTake 0) (replicate 66 0) (replicate 16 0) .answered ≡ foreseenTake .answerBytes → ⊥
+pub notExact : answerSize * run 2 2 (beginTake 0) (replicate 77 0) (replicate 16 0) .answered ≡ foreseenTake .answerBytes → ⊥
 unfolding rules beginTake
 notExact e = omega (arith, e)

@@ -22,9 +22,9 @@ logWith b = bytes 0 3 17 0 0 1 b
 abbrev pub logWithHelps : ℕ → List ℕ
 logWithHelps u = bytes 0 3 17 u 0 1 1
 
--- what is judged: a verdict v with index i on a log of that take, with a table of 42 words
+-- what is judged: a verdict v with index i on a log of that take, with a table of 49 words
 abbrev pub VerdictTells : List ℕ → ℕ → ℕ → Type 0
-VerdictTells log v i = Judges 2 1 42 takeAlone log v i
+VerdictTells log v i = Judges 2 1 49 takeAlone log v i
 
 -- the log of the rules: 'same'
 pub onItsLog : (v i : ℕ) → VerdictTells (logWith 1) v i → v ≡ 0
@@ -58,6 +58,6 @@ pub onTornLog : (v i : ℕ) → VerdictTells (take 15 (logWith 1)) v i → Neith
 unfolding rules beginTake steps
 onTornLog v i j = (λ e. omega (arith, j .same .0 e .0 .call), λ e. omega (arith, j .differs i .0 (e, refl) .0 .call))
 
-pub onRefusedList : (v i : ℕ) → Judges 2 1 42 (steps 1 0) [] v i → Neither v
+pub onRefusedList : (v i : ℕ) → Judges 2 1 49 (steps 1 0) [] v i → Neither v
 unfolding rules beginTake steps
 onRefusedList v i j = (λ e. omega (arith, j .same .0 e .0 .list), λ e. omega (arith, j .differs i .0 (e, refl) .0 .list))

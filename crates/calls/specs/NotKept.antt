@@ -38,19 +38,19 @@ y = operation 1 1
 abbrev pub x2 : OpId
 x2 = operation 0 2
 
--- the six words of a block: puts, takes, end left, end right and size; its super is 0, which no clause reads
-abbrev pub sixWords : ℕ → ℕ → ℕ → ℕ → ℕ → List ℕ
-sixWords puts takes left right size = puts ∷ takes ∷ 0 ∷ left ∷ right ∷ size ∷ []
+-- the words of a block: puts, takes, end left, end right and size; its super and its number are 0, which no clause reads
+abbrev pub blockWith : ℕ → ℕ → ℕ → ℕ → ℕ → List ℕ
+blockWith puts takes left right size = puts ∷ takes ∷ 0 ∷ left ∷ right ∷ size ∷ 0 ∷ []
 
 abbrev pub none : List ℕ
-none = sixWords 0 0 0 0 0
+none = blockWith 0 0 0 0 0
 
 -- the words of block 1 of a leaf: a put of n, a take
 abbrev pub putBlock : ℕ → List ℕ
-putBlock n = sixWords 1 0 n 0 0
+putBlock n = blockWith 1 0 n 0 0
 
 abbrev pub takeBlock : List ℕ
-takeBlock = sixWords 0 1 0 0 0
+takeBlock = blockWith 0 1 0 0 0
 
 -- the table words at H = 1, L = 1: root blocks 1 and 2, and block 1 of either leaf; each block 0 is all zero
 abbrev pub table : List ℕ → List ℕ → List ℕ → List ℕ → List ℕ
@@ -81,14 +81,14 @@ lost o left right log k = omega (arith, k .finishedOnce x refl)
 
 -- atMostOnce: x has not finished, and stands in root blocks 1 and 3, as the end in block 2 goes back from 1 to e = 0
 abbrev pub threeBlocks : ℕ → List ℕ
-threeBlocks e = table2 (sixWords 1 0 1 0 1) (sixWords 2 0 e 0 1) (sixWords 3 0 1 0 2) (putBlock 7) none
+threeBlocks e = table2 (blockWith 1 0 1 0 1) (blockWith 2 0 e 0 1) (blockWith 3 0 1 0 2) (putBlock 7) none
 
 pub twice : Refuted (shape 1 2) (opens x (Put 7) ∷ []) (threeBlocks 0)
 unfolding rules
 twice log k = omega (arith, k .atMostOnce x)
 
 -- atMostOnce: x stands in root block 1 as a put and as a take, as its leaf's block adds both
-pub ofBothKinds : Refuted (shape 1 1) (opens x (Put 7) ∷ []) (table (sixWords 1 1 1 0 2) none (sixWords 1 1 7 0 0) none)
+pub ofBothKinds : Refuted (shape 1 1) (opens x (Put 7) ∷ []) (table (blockWith 1 1 1 0 2) none (blockWith 1 1 7 0 0) none)
 unfolding rules
 ofBothKinds log k = omega (arith, k .atMostOnce x)
 
@@ -98,7 +98,7 @@ abbrev pub withoutX : List (List Event)
 withoutX = [] ∷ (opens y Take ∷ []) ∷ (opens x2 Take ∷ []) ∷ []
 
 abbrev pub takeOfX : List ℕ
-takeOfX = table (sixWords 0 1 1 0 0) none takeBlock none
+takeOfX = table (blockWith 0 1 1 0 0) none takeBlock none
 
 pub unopened : All (λ h. Refuted (shape 1 1) h takeOfX) withoutX
 unfolding rules
@@ -114,7 +114,7 @@ abbrev pub overlapping : List Event
 overlapping = opens x (Put 7) ∷ opens y Take ∷ moves x false ∷ moves y true ∷ finishes y ∷ moves x false ∷ finishes x ∷ []
 
 abbrev pub inTwoBlocks : List ℕ
-inTwoBlocks = table (sixWords 1 0 1 0 1) (sixWords 1 1 1 1 0) (putBlock 7) takeBlock
+inTwoBlocks = table (blockWith 1 0 1 0 1) (blockWith 1 1 1 1 0) (putBlock 7) takeBlock
 
 abbrev pub rightLog : List ℕ
 rightLog = bytes 1 2 2 1 7 1 2 ++ bytes 0 1 3 0 0 1 1
@@ -163,7 +163,7 @@ abbrev pub twoPuts : List Event
 twoPuts = opens x (Put 7) ∷ opens y (Put 8) ∷ finishes y ∷ []
 
 abbrev pub lastSize : ℕ → List ℕ
-lastSize n = table (sixWords 1 0 1 0 1) (sixWords 2 0 1 1 n) (putBlock 7) (putBlock 8)
+lastSize n = table (blockWith 1 0 1 0 1) (blockWith 2 0 1 1 n) (putBlock 7) (putBlock 8)
 
 -- endSize: no other size than 2 will do; one too large, one too small
 pub noOtherSize : (n : ℕ) (log : List ℕ) → QueuePromises (shape 1 1) twoPuts log (lastSize n) → n ≡ 2
@@ -183,12 +183,12 @@ abbrev pub apart : List Event
 apart = opens x (Put 7) ∷ finishes x ∷ opens y Take ∷ finishes y ∷ []
 
 -- realTime: both in one block, where the put comes first in root order all the same
-pub inOneBlock : Refuted (shape 1 1) apart (table (sixWords 1 1 1 1 0) none (putBlock 7) takeBlock)
+pub inOneBlock : Refuted (shape 1 1) apart (table (blockWith 1 1 1 1 0) none (putBlock 7) takeBlock)
 unfolding rules
 inOneBlock log k = omega (arith, k .realTime x y 1 1 (omega arith) (omega arith) refl (omega arith) (omega arith))
 
 -- realTime: the take in the earlier block
-pub turnedRound : Refuted (shape 1 1) apart (table (sixWords 0 1 0 1 0) (sixWords 1 1 1 1 1) (putBlock 7) takeBlock)
+pub turnedRound : Refuted (shape 1 1) apart (table (blockWith 0 1 0 1 0) (blockWith 1 1 1 1 1) (putBlock 7) takeBlock)
 unfolding rules
 turnedRound log k = omega (arith, k .realTime x y 2 1 (omega arith) (omega arith) refl (omega arith) (omega arith))
 
@@ -196,7 +196,7 @@ turnedRound log k = omega (arith, k .realTime x y 2 1 (omega arith) (omega arith
 abbrev pub takeThenPut : List Event
 takeThenPut = opens x Take ∷ finishes x ∷ opens y (Put 7) ∷ []
 
-pub valueToCome : Refuted (shape 1 1) takeThenPut (table (sixWords 1 1 1 1 0) none takeBlock (putBlock 7))
+pub valueToCome : Refuted (shape 1 1) takeThenPut (table (blockWith 1 1 1 1 0) none takeBlock (putBlock 7))
 unfolding rules
 valueToCome log k = omega (arith, k .realTime x y 1 1 (omega arith) (omega arith) refl (omega arith) (omega arith))
 
@@ -204,7 +204,7 @@ valueToCome log k = omega (arith, k .realTime x y 1 1 (omega arith) (omega arith
 abbrev pub inTurn : List Event
 inTurn = opens x (Put 7) ∷ finishes x ∷ opens x2 Take ∷ finishes x2 ∷ []
 
-pub ofOneProcess : Refuted (shape 1 2) inTurn (table2 (sixWords 1 1 2 0 0) none none (putBlock 7) (sixWords 1 1 0 0 0))
+pub ofOneProcess : Refuted (shape 1 2) inTurn (table2 (blockWith 1 1 2 0 0) none none (putBlock 7) (blockWith 1 1 0 0 0))
 unfolding rules
 ofOneProcess log k = omega (arith, k .realTime x x2 1 1 (omega arith) (omega arith) refl (omega arith) (omega arith))
 
@@ -234,7 +234,7 @@ steps82 t = tooMany (shape 2 1) t 81 (finishes x ∷ []) (omega arith)
 -- x in root block 1; the end in block 2 kept at 1; x opened; the right log; size 2; the put in root block 1 and the
 -- take in root block 2; 41 and 81 steps
 pub putRight :
-    (times x (rootOperations (shape 1 1) (table (sixWords 1 0 1 0 1) none (putBlock 7) none)) ≡ 1)
+    (times x (rootOperations (shape 1 1) (table (blockWith 1 0 1 0 1) none (putBlock 7) none)) ≡ 1)
     × (times x (rootOperations (shape 1 2) (threeBlocks 1)) ≡ 1)
     × (isOpened x (opens x Take ∷ []) ≡ true)
     × (rightLog ≡ logBytes (map (queueRecord (shape 1 1) inTwoBlocks overlapping) (finishing overlapping)))
@@ -253,7 +253,7 @@ abbrev pub putThenTake : List StepRecord
 putThenTake = stepRecords (beginPut 7 0 ++ steps 17 0 ++ beginTake 1 ++ steps 17 1)
 
 -- the table cleared and left
-pub cleared : (log : List ℕ) → Demand3 2 1 putThenTake log (replicate 42 0) → ⊥
+pub cleared : (log : List ℕ) → Demand3 2 1 putThenTake log (replicate 49 0) → ⊥
 unfolding rules beginPut beginTake steps
 cleared log k = omega (arith, k .finishedOnce x refl)
 

@@ -16,6 +16,7 @@ use Rattle.steps.specs.Machine.{Machine, start, processOf, begin, stepOf}
 use Rattle.calls.specs.declared.Refusal.{Refusal}
 use Rattle.calls.specs.declared.Refusal.the-variants.{None}
 use Rattle.calls.specs.Answer.{answersOf}
+use Rattle.calls.specs.Numbered.{Numbered}
 use Rattle.calls.specs.Refusals.{refusalNumber, accepted, callRefusal, recordRefusal}
 
 -- the operation that a begin record opens
@@ -23,8 +24,9 @@ unfoldable pub operationOf : StepRecord → Operation
 operationOf r = if isBeginPut r then Put (r .value) else Take
 
 -- a record that is taken: what it leaves of the machine, and the answers that it gives
-unfoldable pub takeRecord : Shape → Machine → StepRecord → Machine
-takeRecord s m r = if isStep r then stepOf s m (r .process) else begin m (r .process) (operationOf r)
+unfoldable pub takeRecord : Shape → Machine → Numbered → Machine
+takeRecord s m n =
+    let r = n .item in if isStep r then stepOf s (n .number) m (r .process) else begin m (r .process) (operationOf r)
 
 unfoldable pub recordAnswers : Shape → Machine → StepRecord → List AnswerRecord
 recordAnswers s m r = if isStep r then answersOf s m (r .process) else []
@@ -39,10 +41,11 @@ pub record Played : Type 0 where
 unfoldable pub atStart : Shape → Played
 atStart s = record { machine = start s; answers = []; taken = 0; refusal = None }
 
+-- the next record is the one after those taken, so that its number in the whole list is one more
 unfoldable pub taking : Shape → Played → StepRecord → Played
 taking s g r =
     record {
-      machine = takeRecord s (g .machine) r;
+      machine = takeRecord s (g .machine) (record { number = g .taken + 1; item = r });
       answers = g .answers ++ recordAnswers s (g .machine) r;
       taken = g .taken + 1;
       refusal = None;

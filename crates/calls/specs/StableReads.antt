@@ -22,6 +22,7 @@ pub record EqualSaveSuper (x y : Block) : Type 0 where
   pub left : x .left ≡ y .left
   pub right : x .right ≡ y .right
   pub size : x .size ≡ y .size
+  pub number : x .number ≡ y .number
 
 -- What is below a head can no longer change: in n it is what it is in m. What a block below a head opens is below heads
 -- too: its ends are. Process k at C3L, C3R or C3N: the block that it reads is below a head. Process k at Q: its root

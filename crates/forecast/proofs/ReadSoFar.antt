@@ -19,8 +19,7 @@ use Rattle.tree.specs.Shape.{Shape, processes}
 use Rattle.calls.specs.declared.Refusal.{Refusal}
 use Rattle.calls.specs.declared.Refusal.the-variants.{None}
 use Rattle.calls.specs.Refusals.{accepted, firstRefusal}
-use Rattle.calls.specs.History.{begins}
-use Rattle.calls.specs.Forecast.{plannedRefusal, beginsRefusal}
+use Rattle.calls.specs.Forecast.{begins, plannedRefusal, beginsRefusal}
 use Rattle.calls.proofs.Histories.{begins-snoc}
 use Rattle.calls.proofs.PlannedBegins.{Planned, planned}
 

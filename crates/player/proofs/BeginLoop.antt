@@ -48,13 +48,13 @@ abbrev recordAt : Call → ℕ → StepRecord
 recordAt c i = stepRecord (take 8 (drop (8 * i) (c .records)))
 
 -- one that is refused
-refused : {c : Call} {t : State} {i : ℕ} → LoopInvariant c t i → i < countOf c → (x : Refusal) → Gives c t (recordAt c i) (memoryAt t) (Refused x) → EndsWith c t x i
+refused : {c : Call} {t : State} {i : ℕ} → LoopInvariant c t i → i < countOf c → (x : Refusal) → Gives c t i (recordAt c i) (memoryAt t) (Refused x) → EndsWith c t x i
 refused inv more = loop-refused inv more _ (loop-record inv more)
 
 ill-refused : {c : Call} {t : State} {i : ℕ} → LoopInvariant c t i → i < countOf c → illFormed (c .p) (recordAt c i) ≡ true → EndsWith c t IllFormed i
 ill-refused {c} {t} {i} inv more e =
     let r = recordAt c i in
-    refused inv more IllFormed (laws.ill-refused (shapeOf c) (t .left) (machineAt c t) r (ap (λ (x : ℕ). illFormed x r) (inv .width) ∙ e))
+    refused inv more IllFormed (laws.ill-refused (shapeOf c) (t .left) i (machineAt c t) r (ap (λ (x : ℕ). illFormed x r) (inv .width) ∙ e))
 
 -- a first word below p, and a value
 pub valued-ill : {c : Call} {t : State} {i first value : ℕ} → LoopInvariant c t i → i < countOf c → first ≡ numberOf (take 4 (drop (8 * i) (c .records)))
@@ -123,13 +123,13 @@ module _ {c : Call} {t : State} {i first value : ℕ} {b : Begin} (w : OtherAt c
 
       pub begin-refused : accepted x ≡ false → EndsWith c t x i
       unfolding shapeFor
-      begin-refused e = refused (w .inv) (w .more) x (laws.begin-refused (shapeOf c) (t .left) (machineAt c t) r well-formed begins x tests e)
+      begin-refused e = refused (w .inv) (w .more) x (laws.begin-refused (shapeOf c) (t .left) i (machineAt c t) r well-formed begins x tests e)
 
       pub begin-moves : accepted x ≡ true → LoopInvariant c (afterMove t j (entered q o) (memoryAt t)) (i + 1)
       unfolding shapeFor
       begin-moves e =
-          let given = laws.begin-moves (shapeOf c) (t .left) (machineAt c t) r well-formed begins (ap accepted tests ∙ e) in
+          let given = laws.begin-moves (shapeOf c) (t .left) i (machineAt c t) r well-formed begins (ap accepted tests ∙ e) in
           subst (λ (y : Operation). LoopInvariant c (afterMove t j (entered q y) (memoryAt t)) (i + 1)) (sym (is-begin .2))
           (subst (λ (k : ℕ). LoopInvariant c (afterMove t k (entered q (operationOf r)) (memoryAt t)) (i + 1)) (sym place)
           (loop-moves (w .inv) (w .more) r (loop-record (w .inv) (w .more)) (entered q (operationOf r)) (memoryAt t) low refl refl
-          (subst (λ (y : Process). Gives c t r (memoryAt t) (Moved (entered y (operationOf r)))) (plays .here) given)))
+          (subst (λ (y : Process). Gives c t i r (memoryAt t) (Moved (entered y (operationOf r)))) (plays .here) given)))

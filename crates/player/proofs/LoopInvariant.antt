@@ -23,6 +23,7 @@ use Rattle.calls.specs.declared.Refusal.{Refusal}
 use Rattle.calls.specs.declared.Refusal.the-variants.{None}
 use Rattle.calls.specs.Answer.{answerOf}
 use Rattle.calls.specs.Run.{atStart, play}
+use Rattle.calls.proofs.RunLimits.{number-fits}
 use Rattle.log.specs.Contracts.Leading.{leadingOf, written}
 use Rattle.log.proofs.Counted.{leading-none}
 use Rattle.log.proofs.Written.{written-none}
@@ -61,6 +62,10 @@ module _ {c : Call} {t : State} {i : ℕ} (k : LoopInvariant c t i) where
   pub loop-narrow : c .p ≤ 8
   loop-narrow = omega (arith, k .width, processes-most (shapeOf c) (k .begun .tall))
 
+  -- the number of the next record is a word
+  pub loop-number : i + 1 ≤ 4294967295
+  loop-number = rw (k .so-far .count) at (number-fits (shapeOf c) (k .begun .inner) (c .room) (take i (listOf c)) (k .begun .tall) (k .begun .few))
+
   -- after the last record
   pub loop-ends : countOf c ≤ i → EndsWith c t None (countOf c)
   loop-ends h =
@@ -92,11 +97,11 @@ module _ {c : Call} {t : State} {i : ℕ} (k : LoopInvariant c t i) where
     loop-record = sym (record-at (c .records) i (omega arith))
 
     module _ (r : StepRecord) (is : r ≡ getD (listOf c) i (stepRecord [])) where
-      pub loop-refused : (x : Refusal) → Gives c t r (memoryAt t) (Refused x) → EndsWith c t x i
+      pub loop-refused : (x : Refusal) → Gives c t i r (memoryAt t) (Refused x) → EndsWith c t x i
       loop-refused = so-far-refused (k .so-far) r within is
 
       pub loop-moves : (q : Process) (n : Memory) → r .process < c .p → length (n .heads) ≡ length (t .heads) → length (n .table) ≡ length (t .table)
-          → Gives c t r n (Moved q) → LoopInvariant c (afterMove t (r .process) q n) (i + 1)
+          → Gives c t i r n (Moved q) → LoopInvariant c (afterMove t (r .process) q n) (i + 1)
       loop-moves q n low eh et h =
           record {
             begun = k .begun;
@@ -108,7 +113,7 @@ module _ {c : Call} {t : State} {i : ℕ} (k : LoopInvariant c t i) where
           }
 
       pub loop-finishes : (o : Operation) (a : AnswerRecord) (out : List ℕ) (equal : ℕ) → r .process < c .p → length out ≡ length (t .out)
-          → Gives c t r (memoryAt t) (Finished o) → a ≡ answerOf (shapeOf c) (machineAt c t) (r .process) o → 16 ≤ t .left
+          → Gives c t i r (memoryAt t) (Finished o) → a ≡ answerOf (shapeOf c) (machineAt c t) (r .process) o → 16 ≤ t .left
           → equal ≡ leadingOf (playedTo c i .answers ++ (a ∷ [])) (c .log) → out ≡ written (c .out) (playedTo c i .answers ++ (a ∷ []))
           → LoopInvariant c (afterAnswer t (r .process) (rested (getD (t .procs) (r .process) idle)) out equal) (i + 1)
       loop-finishes o a out equal low eo h is-a enough same bytes =

@@ -114,9 +114,9 @@ afterAnswer t k q out equal =
 abbrev pub PlaysAs : Call → State → ℕ → Process → Type 0
 PlaysAs c t k q = Plays (shapeOf c) (processesOf c t) (c .starts) (t .heads) (t .table) k q
 
--- record r has this result and leaves memory n
-abbrev pub Gives : Call → State → StepRecord → Memory → RecordResult → Type 0
-Gives c t r n x = ResultOf (shapeOf c) (t .left) (machineAt c t) r n x
+-- record r, which follows i others, has this result and leaves memory n
+abbrev pub Gives : Call → State → ℕ → StepRecord → Memory → RecordResult → Type 0
+Gives c t i r n x = ResultOf (shapeOf c) (t .left) i (machineAt c t) r n x
 
 -- the call ends in state t with refusal x, after i records
 abbrev pub EndsWith : Call → State → Refusal → ℕ → Type 0

@@ -18,7 +18,9 @@ use Rattle.calls.specs.declared.Refusal.the-variants.{None}
 use Rattle.calls.specs.Answer.{answerOf}
 use Rattle.calls.specs.Refusals.{refusalNumber, accepted, recordRefusal}
 use Rattle.calls.specs.Run.{Played, takeRecord, recordAnswers, taking, refusing, play}
-use Rattle.calls.specs.History.{begins, history}
+use Rattle.calls.specs.Numbered.{Numbered, numbered}
+use Rattle.calls.specs.History.{begunBy, history}
+use Rattle.calls.proofs.Numbers.{nextAfter}
 use Rattle.calls.proofs.Agrees.{Agrees}
 use Rattle.calls.proofs.Legal.{answersAlong}
 use Rattle.calls.proofs.Played.{played-machine, played-legal, over-stays, play-append, play-taken, play-refused}
@@ -26,12 +28,12 @@ use Rattle.calls.proofs.Runs.{runs}
 use Rattle.player.proofs.RecordResults.{Refused, Moved, Finished, ResultOf}
 
 -- what the records that a run took did agrees with the machine that it left
-abbrev pub PlayedAs : Shape → List StepRecord → Machine → Type 0
-PlayedAs s took m = Agrees s m (λ k. begins k took) (history s took) (answersAlong s took)
+abbrev pub PlayedAs : Shape → List Numbered → Machine → Type 0
+PlayedAs s took m = Agrees s m (λ k. begunBy k (history s took)) (history s took) (answersAlong s took)
 
-pub played-agrees : (s : Shape) → 1 ≤ s .height → (room : ℕ) (rs : List StepRecord) → PlayedAs s (take (play s room rs .taken) rs) (play s room rs .machine)
+pub played-agrees : (s : Shape) → 1 ≤ s .height → (room : ℕ) (rs : List StepRecord) → PlayedAs s (numbered (take (play s room rs .taken) rs)) (play s room rs .machine)
 played-agrees s tall room rs =
-    subst (PlayedAs s (take (play s room rs .taken) rs)) (sym (played-machine s room rs)) (runs s tall (played-legal s room rs))
+    subst (PlayedAs s (numbered (take (play s room rs .taken) rs))) (sym (played-machine s room rs)) (runs s tall (played-legal s room rs))
 
 module _ (s : Shape) (room : ℕ) (rs : List StepRecord) (going : play s room rs .refusal ≡ None) (r : StepRecord) where
   abbrev g : Played
@@ -45,24 +47,24 @@ module _ (s : Shape) (room : ℕ) (rs : List StepRecord) (going : play s room rs
   unfolding accepted refusalNumber
   on = ap accepted going
 
-  pub result-refused : (n : Memory) (x : Refusal) → ResultOf s leftOf (g .machine) r n (Refused x) → play s room (rs ++ (r ∷ [])) ≡ refusing g x
+  pub result-refused : (n : Memory) (x : Refusal) → ResultOf s leftOf (g .taken) (g .machine) r n (Refused x) → play s room (rs ++ (r ∷ [])) ≡ refusing g x
   unfolding answerSize
   result-refused n x t = play-refused s room rs r on (ap accepted (t .0) ∙ t .1) [] ∙ ap (refusing g) (t .0)
 
   -- a record that is accepted: the machine and the answers are those that it leaves
-  taken-as : accepted (recordRefusal s leftOf (processOf (g .machine) (r .process)) r) ≡ true → (m : Machine) → takeRecord s (g .machine) r ≡ m
+  taken-as : accepted (recordRefusal s leftOf (processOf (g .machine) (r .process)) r) ≡ true → (m : Machine) → takeRecord s (g .machine) (nextAfter (g .taken) r) ≡ m
       → (xs : List AnswerRecord) → recordAnswers s (g .machine) r ≡ xs
       → play s room (rs ++ (r ∷ [])) ≡ record { machine = m; answers = g .answers ++ xs; taken = g .taken + 1; refusal = None }
   unfolding answerSize taking
   taken-as ok m em xs ea = play-taken s room rs r on ok ∙ rw (em, ea)
 
-  pub result-moved : (n : Memory) (q : Process) → ResultOf s leftOf (g .machine) r n (Moved q)
+  pub result-moved : (n : Memory) (q : Process) → ResultOf s leftOf (g .taken) (g .machine) r n (Moved q)
       → play s room (rs ++ (r ∷ [])) ≡ record { machine = withProcess (g .machine) (r .process) q n; answers = g .answers; taken = g .taken + 1; refusal = None }
   result-moved n q t =
       taken-as (t .0) _ (t .2) [] (t .1)
       ∙ ap (λ (x : List AnswerRecord). record { machine = withProcess (g .machine) (r .process) q n; answers = x; taken = g .taken + 1; refusal = None }) (append-nil (g .answers))
 
-  pub result-finished : (n : Memory) (o : Operation) → ResultOf s leftOf (g .machine) r n (Finished o)
+  pub result-finished : (n : Memory) (o : Operation) → ResultOf s leftOf (g .taken) (g .machine) r n (Finished o)
       → play s room (rs ++ (r ∷ []))
       ≡ record {
         machine = withProcess (g .machine) (r .process) (rested (processOf (g .machine) (r .process))) n;

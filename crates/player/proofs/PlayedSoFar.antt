@@ -24,8 +24,9 @@ use Rattle.calls.specs.declared.Refusal.{Refusal}
 use Rattle.calls.specs.declared.Refusal.the-variants.{None}
 use Rattle.calls.specs.Answer.{answerOf}
 use Rattle.calls.specs.Refusals.{accepted}
+use Rattle.calls.specs.Numbered.{Numbered, numbered}
 use Rattle.calls.specs.Run.{Played, refusing, play}
-use Rattle.calls.specs.History.{Event, operation, begins, does, history}
+use Rattle.calls.specs.History.{Event, operation, begunBy, does, history}
 use Rattle.calls.proofs.Agrees.{Doing}
 use Rattle.calls.proofs.Leaves.{IsBlockOf, LeavesAre}
 use Rattle.log.specs.Contracts.Leading.{leadingOf, written}
@@ -56,13 +57,13 @@ own-block s m h leaves n low o (suc i) some what has =
     (subst (λ (x : Operation). IsBlockOf x (block s m (leafOf s n) i) (block s m (leafOf s n) (suc i))) what (leaves n low i has))
 
 -- a process of a machine that a run left
-plays-of : (s : Shape) (took : List StepRecord) (m : Machine) → PlayedAs s took m → 1 ≤ s .height → s .height ≤ 3 → s .most ≤ 500
+plays-of : (s : Shape) (took : List Numbered) (m : Machine) → PlayedAs s took m → 1 ≤ s .height → s .height ≤ 3 → s .most ≤ 500
     → (starts : List ℕ) → Laid s starts (m .memory .heads) → (n : ℕ) → n < processes s → (q : Process) → processOf m n ≡ q
     → Plays s (m .processes) starts (m .memory .heads) (m .memory .table) n q
 unfolding operation
 plays-of s took m agrees inner tall few starts laid n low q here =
-    let count : q .begun ≡ begins n took = ap (λ (x : Process). x .begun) (sym here) ∙ agrees .counts n low in
-    let does-it : (o : Operation) (z : Step) → q .status ≡ Busy o z → Doing (history s took) (operation n (begins n took)) o =
+    let count : q .begun ≡ begunBy n (history s took) = ap (λ (x : Process). x .begun) (sym here) ∙ agrees .counts n low in
+    let does-it : (o : Operation) (z : Step) → q .status ≡ Busy o z → Doing (history s took) (operation n (begunBy n (history s took))) o =
     λ o z busy. agrees .doing n low o z (ap (λ (x : Process). x .status) here ∙ busy)
     in
     record {
@@ -91,7 +92,7 @@ module _ {c : Call} {t : State} {i : ℕ} (k : PlayedSoFar c t i) where
   pub so-far-plays : CallAtStart c → Laid s (c .starts) (t .heads) → (n : ℕ) → n < processes s → PlaysAs c t n (getD (t .procs) n idle)
   unfolding processOf
   so-far-plays begun laid n low =
-      let took = take (g .taken) (take i (listOf c)) in
+      let took = numbered (take (g .taken) (take i (listOf c))) in
       let agrees = subst (PlayedAs s took) (k .machine) (played-agrees s (begun .inner) (c .room) (take i (listOf c))) in
       plays-of s took (machineAt c t) agrees (begun .inner) (begun .tall) (begun .few) (c .starts) laid n low
       (getD (t .procs) n idle) (getD-take (processes s) (t .procs) n idle low)
@@ -129,14 +130,15 @@ module _ {c : Call} {t : State} {i : ℕ} (k : PlayedSoFar c t i) where
         ∙ ap (λ (x : StepRecord). take i (listOf c) ++ (x ∷ [])) (sym is)
 
     -- what it does, told of the run so far
-    as-played : (n : Memory) (x : RecordResult) → Gives c t r n x → ResultOf s (c .room - 16 * length (g .answers)) (g .machine) r n x
+    as-played : (n : Memory) (x : RecordResult) → Gives c t i r n x → ResultOf s (c .room - 16 * length (g .answers)) (g .taken) (g .machine) r n x
     as-played n x h =
         let e : t .left ≡ c .room - 16 * length (g .answers) = omega (arith, k .spare, k .answered) in
-        subst (λ (m : Machine). ResultOf s (c .room - 16 * length (g .answers)) m r n x) (sym (k .machine))
-        (subst (λ (room : ℕ). ResultOf s room (machineAt c t) r n x) e h)
+        subst (λ (m : Machine). ResultOf s (c .room - 16 * length (g .answers)) (g .taken) m r n x) (sym (k .machine))
+        (subst (λ (room : ℕ). ResultOf s room (g .taken) (machineAt c t) r n x) e
+        (subst (λ (j : ℕ). ResultOf s (t .left) j (machineAt c t) r n x) (sym (k .count)) h))
 
     -- refused: the run is over
-    pub so-far-refused : (x : Refusal) → Gives c t r (memoryAt t) (Refused x) → EndsWith c t x i
+    pub so-far-refused : (x : Refusal) → Gives c t i r (memoryAt t) (Refused x) → EndsWith c t x i
     unfolding refusing
     so-far-refused x h =
         let e : playedTo c (i + 1) ≡ refusing g x =
@@ -152,7 +154,7 @@ module _ {c : Call} {t : State} {i : ℕ} (k : PlayedSoFar c t i) where
         ∙ ap (machineOf (n .table) (n .heads)) (sym (take-set-lt (processes s) (t .procs) (r .process) q low))
 
     -- moved
-    pub so-far-moves : (q : Process) (n : Memory) → r .process < processes s → Gives c t r n (Moved q) → PlayedSoFar c (afterMove t (r .process) q n) (i + 1)
+    pub so-far-moves : (q : Process) (n : Memory) → r .process < processes s → Gives c t i r n (Moved q) → PlayedSoFar c (afterMove t (r .process) q n) (i + 1)
     so-far-moves q n low h =
         let e = ap (play s (c .room)) next ∙ result-moved s (c .room) (take i (listOf c)) (k .going) r n q (as-played n (Moved q) h) in
         let a = ap (λ (y : Played). y .answers) e in
@@ -169,7 +171,7 @@ module _ {c : Call} {t : State} {i : ℕ} (k : PlayedSoFar c t i) where
 
     -- finished: one more answer, written and compared
     pub so-far-finishes : (o : Operation) (a : AnswerRecord) (out : List ℕ) (equal : ℕ) → r .process < processes s
-        → Gives c t r (memoryAt t) (Finished o) → a ≡ answerOf s (machineAt c t) (r .process) o → 16 ≤ t .left
+        → Gives c t i r (memoryAt t) (Finished o) → a ≡ answerOf s (machineAt c t) (r .process) o → 16 ≤ t .left
         → equal ≡ leadingOf (g .answers ++ (a ∷ [])) (c .log) → out ≡ written (c .out) (g .answers ++ (a ∷ []))
         → PlayedSoFar c (afterAnswer t (r .process) (rested (getD (t .procs) (r .process) idle)) out equal) (i + 1)
     unfolding processOf

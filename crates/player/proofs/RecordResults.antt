@@ -16,6 +16,7 @@ use Rattle.calls.specs.declared.Refusal.{Refusal}
 use Rattle.calls.specs.Answer.{answerOf}
 use Rattle.calls.specs.Refusals.{accepted, recordRefusal}
 use Rattle.calls.specs.Run.{takeRecord, recordAnswers}
+use Rattle.calls.proofs.Numbers.{nextAfter}
 
 -- a record is refused, or the process that it names moves on and is then as given, or that finishes its operation
 pub data RecordResult : Type 0 where
@@ -23,17 +24,18 @@ pub data RecordResult : Type 0 where
   Moved : Process → RecordResult
   Finished : Operation → RecordResult
 
--- record r on machine m, where there are `room` answer bytes left, has this result and leaves memory n
-abbrev pub ResultOf : Shape → ℕ → Machine → StepRecord → Memory → RecordResult → Type 0
-ResultOf s room m r n (Refused x) =
+-- record r, which follows i others, on machine m, where there are `room` answer bytes left, has this result and leaves
+-- memory n
+abbrev pub ResultOf : Shape → ℕ → ℕ → Machine → StepRecord → Memory → RecordResult → Type 0
+ResultOf s room i m r n (Refused x) =
     (recordRefusal s room (processOf m (r .process)) r ≡ x) × (accepted x ≡ false) × (n ≡ m .memory)
-ResultOf s room m r n (Moved q) =
+ResultOf s room i m r n (Moved q) =
     (accepted (recordRefusal s room (processOf m (r .process)) r) ≡ true)
     × (recordAnswers s m r ≡ [])
-    × (takeRecord s m r ≡ withProcess m (r .process) q n)
-ResultOf s room m r n (Finished o) =
+    × (takeRecord s m (nextAfter i r) ≡ withProcess m (r .process) q n)
+ResultOf s room i m r n (Finished o) =
     (accepted (recordRefusal s room (processOf m (r .process)) r) ≡ true)
     × (recordAnswers s m r ≡ answerOf s m (r .process) o ∷ [])
-    × (takeRecord s m r ≡ withProcess m (r .process) (rested (processOf m (r .process))) n)
+    × (takeRecord s m (nextAfter i r) ≡ withProcess m (r .process) (rested (processOf m (r .process))) n)
     × (n ≡ m .memory)
     × (processOf m (r .process) .status ≡ Busy o Q)

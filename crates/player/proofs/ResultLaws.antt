@@ -1,5 +1,5 @@
 -- What one record does, by the status of the process that it names. Used by proofs; no exported promise names it.
-use Prim.Native.Nat.{ℕ, _≤_, _<_}
+use Prim.Native.Nat.{ℕ, _+_, _≤_, _<_}
 use mathlib.Core.Path.{_≡_, refl, ap, _∙_}
 use mathlib.Core.Bool.{true, false, _&&_}
 use lib.Dec.{ltb}
@@ -22,14 +22,15 @@ use Rattle.calls.specs.declared.Refusal.the-variants.{None, IllFormed, StepWhil
 use Rattle.calls.specs.Answer.{answersFrom, answersOf}
 use Rattle.calls.specs.Refusals.{refusalNumber, accepted, beginRefusal, stepRefusal, recordRefusal}
 use Rattle.calls.specs.Run.{operationOf, takeRecord, recordAnswers}
+use Rattle.calls.proofs.Numbers.{nextAfter}
 use Rattle.player.proofs.RecordResults.{Refused, Moved, Finished, ResultOf}
 
 -- an ill-formed record is refused before its process is looked at
-pub ill-refused : (s : Shape) (room : ℕ) (m : Machine) (r : StepRecord) → illFormed (processes s) r ≡ true → ResultOf s room m r (m .memory) (Refused IllFormed)
+pub ill-refused : (s : Shape) (room i : ℕ) (m : Machine) (r : StepRecord) → illFormed (processes s) r ≡ true → ResultOf s room i m r (m .memory) (Refused IllFormed)
 unfolding recordRefusal accepted refusalNumber
-ill-refused s room m r e = (rw e, refl, refl)
+ill-refused s room i m r e = (rw e, refl, refl)
 
-module _ (s : Shape) (room : ℕ) (m : Machine) (r : StepRecord) (formed : illFormed (processes s) r ≡ false) where
+module _ (s : Shape) (room i : ℕ) (m : Machine) (r : StepRecord) (formed : illFormed (processes s) r ≡ false) where
   abbrev q : Process
   q = processOf m (r .process)
 
@@ -39,10 +40,10 @@ module _ (s : Shape) (room : ℕ) (m : Machine) (r : StepRecord) (formed : illFo
     unfolding recordRefusal
     begin-tests = rw (formed, begins)
 
-    pub begin-refused : (x : Refusal) → beginRefusal (s .most) q ≡ x → accepted x ≡ false → ResultOf s room m r (m .memory) (Refused x)
+    pub begin-refused : (x : Refusal) → beginRefusal (s .most) q ≡ x → accepted x ≡ false → ResultOf s room i m r (m .memory) (Refused x)
     begin-refused x is e = (begin-tests ∙ is, e, refl)
 
-    pub begin-moves : accepted (beginRefusal (s .most) q) ≡ true → ResultOf s room m r (m .memory) (Moved (entered q (operationOf r)))
+    pub begin-moves : accepted (beginRefusal (s .most) q) ≡ true → ResultOf s room i m r (m .memory) (Moved (entered q (operationOf r)))
     unfolding takeRecord recordAnswers begin
     begin-moves e = (ap accepted begin-tests ∙ e, rw begins, rw begins)
 
@@ -52,7 +53,7 @@ module _ (s : Shape) (room : ℕ) (m : Machine) (r : StepRecord) (formed : illFo
     unfolding recordRefusal
     step-tests = rw (formed, steps)
 
-    pub idle-refused : isIdle (q .status) ≡ true → ResultOf s room m r (m .memory) (Refused StepWhileIdle)
+    pub idle-refused : isIdle (q .status) ≡ true → ResultOf s room i m r (m .memory) (Refused StepWhileIdle)
     unfolding stepRefusal accepted refusalNumber
     idle-refused e = (step-tests ∙ rw e, refl, refl)
 
@@ -62,30 +63,30 @@ module _ (s : Shape) (room : ℕ) (m : Machine) (r : StepRecord) (formed : illFo
       unfolding stepRefusal isIdle atQ answerSize
       busy-tests = step-tests ∙ rw (ap isIdle busy, ap atQ busy)
 
-      step-taken : takeRecord s m r ≡ stepFrom s m (r .process) (Busy o n)
+      step-taken : takeRecord s m (nextAfter i r) ≡ stepFrom s (i + 1) m (r .process) (Busy o n)
       unfolding takeRecord stepOf
-      step-taken = rw steps (ap (stepFrom s m (r .process)) busy)
+      step-taken = rw steps (ap (stepFrom s (i + 1) m (r .process)) busy)
 
       step-answers : recordAnswers s m r ≡ answersFrom s m (r .process) (Busy o n)
       unfolding recordAnswers answersOf
       step-answers = rw steps (ap (answersFrom s m (r .process)) busy)
 
       -- any step but Q
-      pub step-goes : isQ n ≡ false → let z = step s (r .process) o (m .memory) n in ResultOf s room m r (z .memory) (Moved (stepped q z))
+      pub step-goes : isQ n ≡ false → let z = step s (i + 1) (r .process) o (m .memory) n in ResultOf s room i m r (z .memory) (Moved (stepped q z))
       unfolding accepted refusalNumber answersFrom stepFrom
       step-goes e = (rw (busy-tests, e), step-answers ∙ rw e, step-taken)
 
       module _ (last : isQ n ≡ true) where
-        pub full-refused : room < 16 → ResultOf s room m r (m .memory) (Refused AnswersFull)
+        pub full-refused : room < 16 → ResultOf s room i m r (m .memory) (Refused AnswersFull)
         unfolding accepted refusalNumber
         full-refused h = (busy-tests ∙ rw (last, lt-ltb _ _ h), refl, refl)
 
-        pub step-finishes : 16 ≤ room → ResultOf s room m r (m .memory) (Finished o)
+        pub step-finishes : 16 ≤ room → ResultOf s room i m r (m .memory) (Finished o)
         unfolding accepted refusalNumber answersFrom stepFrom step rested
         step-finishes h = (
           rw (busy-tests, last, le-ltb _ _ h),
           step-answers ∙ rw last,
-          step-taken ∙ ap (λ (z : Step). stepFrom s m (r .process) (Busy o z)) (is-q n last),
+          step-taken ∙ ap (λ (z : Step). stepFrom s (i + 1) m (r .process) (Busy o z)) (is-q n last),
           refl,
           busy ∙ ap (Busy o) (is-q n last),
         )

@@ -90,7 +90,7 @@ module _ {c : Call} {t : State} {i first j : ℕ} (w : StepAt c t i first j) whe
 
   pub step-idle : q .status ≡ Idle → EndsWith c t StepWhileIdle i
   unfolding isStep isIdle
-  step-idle e = loop-refused (w .inv) (w .more) (stepOf first) step-is StepWhileIdle (gives-idle c t (stepOf first) q step-plays well refl (ap isIdle e))
+  step-idle e = loop-refused (w .inv) (w .more) (stepOf first) step-is StepWhileIdle (gives-idle c t i (stepOf first) q step-plays well refl (ap isIdle e))
 
   -- a step that is ready looks at nodes of the tree
   placed : (y : Step) → Ready (c .starts) (t .heads) (t .table) (c .p + first) y → PartsBegin s (c .starts) y
@@ -132,7 +132,7 @@ module _ {c : Call} {t : State} {i first j : ℕ} (w : StepAt c t i first j) whe
 
     -- what the step does by the rules
     abbrev by-rules : Stepped
-    by-rules = step s first (operationIn (q .status)) (memoryAt t) (stepIn (q .status))
+    by-rules = step s (i + 1) first (operationIn (q .status)) (memoryAt t) (stepIn (q .status))
 
     -- what is known where the process is at step y
     abbrev At : Step → Type 0 → Type 0
@@ -148,16 +148,16 @@ module _ {c : Call} {t : State} {i first j : ℕ} (w : StepAt c t i first j) whe
         let e = left told ready (subst (PartsBegin s (c .starts)) (sym told) (placed y ready)) in
         let q' : Process = stepped q by-rules in
         let given =
-        gives-step c t (stepOf first) q step-plays well refl (operationIn (q .status)) (stepIn (q .status)) (step-busy refl refl) (ap isQ told ∙ goes)
+        gives-step c t i (stepOf first) q step-plays well refl (operationIn (q .status)) (stepIn (q .status)) (step-busy refl refl) (ap isQ told ∙ goes)
         in
         subst (λ (z : Process). LoopInvariant c (afterMove t j z (memoryOf table heads)) (i + 1)) (sym (e .0))
         (subst (λ (k : ℕ). LoopInvariant c (afterMove t k q' (memoryOf table heads)) (i + 1)) (sym (w .at))
         (loop-moves (w .inv) (w .more) (stepOf first) step-is q' (memoryOf table heads) (w .low) eh et
-        (subst (λ (n : Memory). Gives c t (stepOf first) n (Moved q')) (e .1) given)))
+        (subst (λ (n : Memory). Gives c t i (stepOf first) n (Moved q')) (e .1) given)))
 
     -- the same of a step that is no help
     pub step-moves : {y : Step} → x ≡ y → isQ y ≡ false → (table heads : List ℕ) (r : Process) → length heads ≡ length (t .heads) → length table ≡ length (t .table)
-        → At y (Moves q r × (by-rules ≡ go s first (operationIn (q .status)) (memoryAt t) (memoryOf table heads) (stepIn (r .status))))
+        → At y (Moves q r × (by-rules ≡ go s (i + 1) first (operationIn (q .status)) (memoryAt t) (memoryOf table heads) (stepIn (r .status))))
         → LoopInvariant c (afterMove t j r (memoryOf table heads)) (i + 1)
     unfolding goTelling go
     step-moves is goes table heads r eh et left =
@@ -169,7 +169,7 @@ module _ {c : Call} {t : State} {i first j : ℕ} (w : StepAt c t i first j) whe
     pub finish-full : t .left < 16 → EndsWith c t AnswersFull i
     unfolding isStep isQ
     finish-full h =
-        loop-refused (w .inv) (w .more) (stepOf first) step-is AnswersFull (gives-full c t (stepOf first) q step-plays well refl o Q finish-busy refl h)
+        loop-refused (w .inv) (w .more) (stepOf first) step-is AnswersFull (gives-full c t i (stepOf first) q step-plays well refl o Q finish-busy refl h)
 
     pub finish-moves : (enough : 16 ≤ t .left) (a : AnswerRecord) (out : List ℕ) (equal : ℕ) → length out ≡ length (t .out)
         → ((s' : Shape) (ps : List Process) → processes s' ≡ c .p → Plays s' ps (c .starts) (t .heads) (t .table) first q
@@ -183,7 +183,7 @@ module _ {c : Call} {t : State} {i first j : ℕ} (w : StepAt c t i first j) whe
         let room = rw (so-far .answered) at (loop-spare (w .inv) enough (w .inv .begun .bounded)) in
         subst (λ (k : ℕ). LoopInvariant c (afterAnswer t k (rested (getD (t .procs) k idle)) out equal) (i + 1)) (sym (w .at))
         (loop-finishes (w .inv) (w .more) (stepOf first) step-is o a out equal (w .low) eo
-        (gives-answer c t (stepOf first) q step-plays well refl o Q finish-busy refl enough)
+        (gives-answer c t i (stepOf first) q step-plays well refl o Q finish-busy refl enough)
         (told-a s (processesOf c t) (w .inv .width) step-plays) enough
         (told-e ∙ rw (so-far .answered, so-far .same) (count-after xs a (c .log)))
         (told-w ∙ rw (so-far .answered, so-far .bytes) (written-after (c .out) xs a room)))

@@ -1,5 +1,5 @@
 -- What a step record does, told of the process as it is given. Used by proofs; no exported promise names it.
-use Prim.Native.Nat.{_≤_, _<_}
+use Prim.Native.Nat.{ℕ, _+_, _≤_, _<_}
 use mathlib.Core.Path.{_≡_, ap, _∙_, subst}
 use mathlib.Core.Bool.{true, false}
 use Rattle.record.specs.declared.StepRecord.{StepRecord}
@@ -16,24 +16,24 @@ use Rattle.player.proofs.RecordResults.{Refused, Moved, Finished}
 use Rattle.player.proofs.ResultLaws.{idle-refused, full-refused, step-finishes, step-goes}
 use Rattle.player.proofs.LoopStates.{Call, State, shapeOf, memoryAt, machineAt, PlaysAs, Gives}
 
-module _ (c : Call) (t : State) (r : StepRecord) (q : Process) (plays : PlaysAs c t (r .process) q) (formed : illFormed (processes (shapeOf c)) r ≡ false)
+module _ (c : Call) (t : State) (i : ℕ) (r : StepRecord) (q : Process) (plays : PlaysAs c t (r .process) q) (formed : illFormed (processes (shapeOf c)) r ≡ false)
     (steps : isStep r ≡ true)
   where
-    pub gives-idle : isIdle (q .status) ≡ true → Gives c t r (memoryAt t) (Refused StepWhileIdle)
-    gives-idle e = idle-refused (shapeOf c) (t .left) (machineAt c t) r formed steps (ap (λ (x : Process). isIdle (x .status)) (plays .here) ∙ e)
+    pub gives-idle : isIdle (q .status) ≡ true → Gives c t i r (memoryAt t) (Refused StepWhileIdle)
+    gives-idle e = idle-refused (shapeOf c) (t .left) i (machineAt c t) r formed steps (ap (λ (x : Process). isIdle (x .status)) (plays .here) ∙ e)
 
     module _ (o : Operation) (n : Step) (busy : q .status ≡ Busy o n) where
       is-busy : processOf (machineAt c t) (r .process) .status ≡ Busy o n
       is-busy = ap (λ (x : Process). x .status) (plays .here) ∙ busy
 
-      pub gives-full : isQ n ≡ true → t .left < 16 → Gives c t r (memoryAt t) (Refused AnswersFull)
-      gives-full = full-refused (shapeOf c) (t .left) (machineAt c t) r formed steps o n is-busy
+      pub gives-full : isQ n ≡ true → t .left < 16 → Gives c t i r (memoryAt t) (Refused AnswersFull)
+      gives-full = full-refused (shapeOf c) (t .left) i (machineAt c t) r formed steps o n is-busy
 
-      pub gives-answer : isQ n ≡ true → 16 ≤ t .left → Gives c t r (memoryAt t) (Finished o)
-      gives-answer = step-finishes (shapeOf c) (t .left) (machineAt c t) r formed steps o n is-busy
+      pub gives-answer : isQ n ≡ true → 16 ≤ t .left → Gives c t i r (memoryAt t) (Finished o)
+      gives-answer = step-finishes (shapeOf c) (t .left) i (machineAt c t) r formed steps o n is-busy
 
-      pub gives-step : isQ n ≡ false → let z = step (shapeOf c) (r .process) o (memoryAt t) n in Gives c t r (z .memory) (Moved (stepped q z))
+      pub gives-step : isQ n ≡ false → let z = step (shapeOf c) (i + 1) (r .process) o (memoryAt t) n in Gives c t i r (z .memory) (Moved (stepped q z))
       gives-step e =
-          let z = step (shapeOf c) (r .process) o (memoryAt t) n in
-          subst (λ (y : Process). Gives c t r (z .memory) (Moved (stepped y z))) (plays .here)
-          (step-goes (shapeOf c) (t .left) (machineAt c t) r formed steps o n is-busy e)
+          let z = step (shapeOf c) (i + 1) (r .process) o (memoryAt t) n in
+          subst (λ (y : Process). Gives c t i r (z .memory) (Moved (stepped y z))) (plays .here)
+          (step-goes (shapeOf c) (t .left) i (machineAt c t) r formed steps o n is-busy e)

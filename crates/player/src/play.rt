@@ -3,6 +3,7 @@
 use crate::Outcome;
 use answer::answers::answer_of;
 use base::as_index;
+use base::as_word;
 use block_steps::blocks::adds_nothing;
 use block_steps::blocks::step_a;
 use block_steps::blocks::step_c3l;
@@ -93,7 +94,7 @@ pub fn play(
                 Status::Busy(_, step) => match step {
                     Step::A => {
                         let q = procs[k];
-                        procs[k] = step_a(heads, table, starts, p + first, q);
+                        procs[k] = step_a(heads, table, starts, p + first, as_word(i + 1), q);
                         continue;
                     }
                     Step::V1 { .. } => {
@@ -171,7 +172,7 @@ pub fn play(
                     }
                     Step::C4 { .. } => {
                         let q = procs[k];
-                        procs[k] = step_c4(table, starts, q);
+                        procs[k] = step_c4(table, starts, as_word(i + 1), q);
                         continue;
                     }
                     Step::Q => {

@@ -21,7 +21,7 @@ module _ {input records next : List ℕ} (read : ReadFrom input records next) wh
       let long : 65536 < length input = omega (arith, after-length) in
       rw (lt-ltb 65536 (length input) long)
 
-  pub printed-run : length next ≡ 0 → printRun input ≡ runText (run 4 24 records (replicate 1770 0) (replicate 1536 0))
+  pub printed-run : length next ≡ 0 → printRun input ≡ runText (run 4 24 records (replicate 2065 0) (replicate 1536 0))
   unfolding printRun
   printed-run none =
       let short : length input ≤ 65536 = omega (arith, after-length) in

@@ -28,7 +28,7 @@ runText r = printed (r .answers) (r .answered) (r .refusal) (r .taken)
 unfoldable pub printRun : List ℕ → List ℕ
 printRun input =
     if ltb 65536 (length input) then longLine
-    else runText (run 4 24 input (replicate 1770 0) (replicate 1536 0))
+    else runText (run 4 24 input (replicate 2065 0) (replicate 1536 0))
 
 -- what is read of an input: the bytes that the record buffer holds, and the byte after them, if there is one
 pub record ReadFrom (input records next : List ℕ) : Type 0 where

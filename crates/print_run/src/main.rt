@@ -21,7 +21,7 @@ fn print_input(records: &[u8], next: &[u8], out: &mut [u8; 4836]) -> usize
     if next.len() != 0 {
         return put_text(b"long\n", out, 0);
     }
-    let mut table = [0u32; 1770];
+    let mut table = [0u32; 2065];
     let mut answers = [0u8; 1536];
     let ran = run(4, 24, records, &mut table, &mut answers);
     let why = ran.refusal;

@@ -64,7 +64,7 @@ fn helps_after(helps: u32, helped: bool) -> u32
 // A busy process q after its step, with step n next, which tells whether it was a help.
 pub fn moved_telling(q: Process, n: Step, helped: bool) -> Process
     requires { ⌜ (q .steps < 65536) × (q .helps < 65536) × (isIdle (q .status) ≡ false) ⌝ }
-    ensures { λ r. ⌜ ((s : Shape) (k : ℕ) (m after : Memory) → r ≡ stepped q (goTelling s k (operationIn (q .status)) m after n helped)) ⌝ }
+    ensures { λ r. ⌜ ((s : Shape) (number k : ℕ) (m after : Memory) → r ≡ stepped q (goTelling s number k (operationIn (q .status)) m after n helped)) ⌝ }
 {
     Process {
         status: Status::Busy(operation_in(q), n),

@@ -38,7 +38,7 @@ strict {w} {x} {y} {z} p q ne = on (ℕ-discrete x w) (ℕ-discrete z y)
     on (no e) f = omega arith
 
 module _ (s : Shape) (m : Memory) (sound : Sound s m) (w : Visit) (iv : Inner s (w .node)) (first : 1 ≤ w .head) (last : w .head ≤ headOf m (w .node)) (l r : ℕ)
-    (lo : EndOk s m w onLeft l) (ro : EndOk s m w onRight r) (puts takes : ℕ) (told : Tallied s m w l r (countedBoth puts takes))
+    (lo : EndOk s m w onLeft l) (ro : EndOk s m w onRight r) (puts takes : ℕ) (told : Tallied s m w l r (countedBoth puts takes)) (number : ℕ)
   where
     abbrev old : Block
     old = block s m (w .node) (w .head - 1)
@@ -60,7 +60,7 @@ module _ (s : Shape) (m : Memory) (sound : Sound s m) (w : Visit) (iv : Inner s 
         let n = sound .node (childOf d (w .node)) (child-node s d (w .node) iv) in counts-rise n (endOf d old) e (ok .rises) (below-head n e (ok .below))
 
     -- the totals are the sums at the ends, in the new block and in the old
-    pub new-sums : (κ : Kind) → total κ (blockOf new) ≡ total κ (block s m (childOf onLeft (w .node)) l) + total κ (block s m (childOf onRight (w .node)) r)
+    pub new-sums : (κ : Kind) → total κ (blockOf number new) ≡ total κ (block s m (childOf onLeft (w .node)) l) + total κ (block s m (childOf onRight (w .node)) r)
     unfolding built blockOf total
     new-sums Puts = told .0
     new-sums Takes = told .1
@@ -68,36 +68,36 @@ module _ (s : Shape) (m : Memory) (sound : Sound s m) (w : Visit) (iv : Inner s 
     old-sums : (κ : Kind) → total κ old ≡ total κ (block s m (childOf onLeft (w .node)) (old .left)) + total κ (block s m (childOf onRight (w .node)) (old .right))
     old-sums κ = sums-at sound (w .node) iv (w .head - 1) before κ
 
-    pub totals-grow : (κ : Kind) → total κ old ≤ total κ (blockOf new)
+    pub totals-grow : (κ : Kind) → total κ old ≤ total κ (blockOf number new)
     totals-grow κ = omega (arith, new-sums κ, old-sums κ, total-side onLeft l lo κ, total-side onRight r ro κ)
 
-    count-grows : sameTotals puts takes old ≡ false → total Puts old ≤ total Puts (blockOf new) → total Takes old ≤ total Takes (blockOf new) → count old < count (blockOf new)
+    count-grows : sameTotals puts takes old ≡ false → total Puts old ≤ total Puts (blockOf number new) → total Takes old ≤ total Takes (blockOf number new) → count old < count (blockOf number new)
     unfolding built blockOf total
     count-grows e p q = strict p q (other-totals puts takes old e)
 
-    pub built-follows : sameTotals puts takes old ≡ false → Follows old (blockOf new)
+    pub built-follows : sameTotals puts takes old ≡ false → Follows old (blockOf number new)
     built-follows e = record { rises = totals-grow; more = count-grows e (totals-grow Puts) (totals-grow Takes) }
 
-    ends-rise : (d : Side) → endOf d old ≤ endOf d (blockOf new)
+    ends-rise : (d : Side) → endOf d old ≤ endOf d (blockOf number new)
     unfolding built blockOf
     ends-rise onLeft = lo .rises
     ends-rise onRight = ro .rises
 
-    ends-below : (d : Side) → endOf d (blockOf new) < headOf m (childOf d (w .node))
+    ends-below : (d : Side) → endOf d (blockOf number new) < headOf m (childOf d (w .node))
     unfolding built blockOf
     ends-below onLeft = lo .below
     ends-below onRight = ro .below
 
-    pub built-joins : Joins s m (w .node) old (blockOf new)
+    pub built-joins : Joins s m (w .node) old (blockOf number new)
     unfolding built blockOf root
     built-joins = record { rises = ends-rise; below = ends-below; sums = new-sums; sized = refl }
 
     -- equal totals: both ends are those of the block before
-    equal-ends : ((κ : Kind) → total κ (blockOf new) ≡ total κ old) → (old .left ≡ l) × (old .right ≡ r)
+    equal-ends : ((κ : Kind) → total κ (blockOf number new) ≡ total κ old) → (old .left ≡ l) × (old .right ≡ r)
     unfolding total
     equal-ends e =
-        let a : blockOf new .puts ≡ old .puts = e Puts in
-        let b : blockOf new .takes ≡ old .takes = e Takes in
+        let a : blockOf number new .puts ≡ old .puts = e Puts in
+        let b : blockOf number new .takes ≡ old .takes = e Takes in
         let c = new-sums Puts in
         let d = new-sums Takes in
         let f = old-sums Puts in
@@ -108,7 +108,7 @@ module _ (s : Shape) (m : Memory) (sound : Sound s m) (w : Visit) (iv : Inner s 
         let q = ro .rises in
         (omega arith, omega arith)
 
-    same-totals : sameTotals puts takes old ≡ true → (κ : Kind) → total κ (blockOf new) ≡ total κ old
+    same-totals : sameTotals puts takes old ≡ true → (κ : Kind) → total κ (blockOf number new) ≡ total κ old
     unfolding sameTotals built blockOf total
     same-totals e Puts = eqb-true puts (old .puts) (and-true (eqb puts (old .puts)) (eqb takes (old .takes)) e .0)
     same-totals e Takes = eqb-true takes (old .takes) (and-true (eqb puts (old .puts)) (eqb takes (old .takes)) e .1)

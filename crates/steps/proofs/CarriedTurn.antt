@@ -31,27 +31,27 @@ use Rattle.steps.proofs.Others.{Effect, Registers, hand-below, reached,
 use Rattle.steps.proofs.Effects.{plus-one, made-has, build-fresh}
 use Rattle.steps.proofs.OwnTurn.{resumed, started, read-left, read-right, counted, made-block, nothing-new}
 
-module _ (s : Shape) (m : Memory) (sized : Sized s m) (sound : Sound s m) (hold hold' : ℕ → Stage) (k : ℕ) (kp : k < processes s) (o : Operation)
+module _ (s : Shape) (m : Memory) (sized : Sized s m) (sound : Sound s m) (hold hold' : ℕ → Stage) (number k : ℕ) (kp : k < processes s) (o : Operation)
     (others : (r : ℕ) → r ≢ k → hold' r ≡ hold r) (regs : Registers s m hold) (b : ℕ) (bm : b ≤ s .most)
   where
     refresh-inner : (w : Visit) → Refreshing s m hold k b w → Inner s (w .node)
     refresh-inner w r = rw (r .node) (ancestor-inner s k kp (r .level) (r .low))
 
     -- ---- after C4
-    module _ (n : Memory) (eff : Effect s k o m (hold k) n (hold' k)) (w : Visit) (c : Built) (p : Building s m hold k b w (made c)) where
+    module _ (n : Memory) (eff : Effect s number k o m (hold k) n (hold' k)) (w : Visit) (c : Built) (p : Building s m hold k b w (made c)) where
       abbrev re : Refreshing s m hold k b w
       re = p .refreshing
 
       -- the block just written has an own end in hand
-      wrote-it : block s n (w .node) (w .head) ≡ blockOf c → b ≤ reach s n k (suc (re .level)) (w .head)
+      wrote-it : block s n (w .node) (w .head) ≡ blockOf number c → b ≤ reach s n k (suc (re .level)) (w .head)
       wrote-it put =
           let d : Side = sideAt s k (re .level) in
-          let e : ℕ = endOf d (blockOf c) in
+          let e : ℕ = endOf d (blockOf number c) in
           let y : e < headOf m (ancestor s k (re .level)) =
-          subst (λ (u : ℕ). e < headOf m u) (ap (λ (u : ℕ). childOf d u) (re .node) ∙ child-at s k (re .level)) (hand-below s m w d e (made c) (p .hand) (made-has c d)) in
+          subst (λ (u : ℕ). e < headOf m u) (ap (λ (u : ℕ). childOf d u) (re .node) ∙ child-at s k (re .level)) (hand-below s m w d e (made c) (p .hand) (made-has number c d)) in
           let z : b ≤ reach s n k (re .level) e =
           reached s m n sound hold hold' k kp o eff others regs k kp b (re .level) (omega (arith, re .low)) e
-          (below-head (sound .node (ancestor s k (re .level)) (ancestor-node s k kp (re .level) (omega (arith, re .low)))) e y) (p .mine e (made-has c d)) in
+          (below-head (sound .node (ancestor s k (re .level)) (ancestor-node s k kp (re .level) (omega (arith, re .low)))) e y) (p .mine e (made-has number c d)) in
           let f : endOf d (block s n (ancestor s k (suc (re .level))) (w .head)) ≡ e = ap (λ (u : ℕ). endOf d (block s n u (w .head))) (sym (re .node)) ∙ ap (endOf d) put in
           rw (reach-suc s n k (re .level) (w .head), f) z
 
@@ -77,7 +77,7 @@ module _ (s : Shape) (m : Memory) (sized : Sized s m) (sound : Sound s m) (hold 
             owed = owed-stable s m n sound hold hold' k kp o eff others regs k kp b (re .level) (re .low) (re .covered) (re .limit) (re .owed);
           }
 
-      after-written : block s n (w .node) (w .head) ≡ blockOf c → AfterAdvance s n hold' k b w (afterRefresh (w .refresh) true) (w .node) (w .head)
+      after-written : block s n (w .node) (w .head) ≡ blockOf number c → AfterAdvance s n hold' k b w (afterRefresh (w .refresh) true) (w .node) (w .head)
       unfolding afterRefresh
       after-written put = passing (wrote-it put)
 
@@ -94,7 +94,7 @@ module _ (s : Shape) (m : Memory) (sized : Sized s m) (sound : Sound s m) (hold 
     place-within : (w : Visit) (c : Built) → (p : Building s m hold k b w (made c)) → Inner s (w .node) → absent (block s m (w .node) (w .head)) ≡ true → w .head ≤ lastPlace s (w .node)
     place-within w c p iv free =
         let q = sound .node (w .node) (inner-node s (w .node) iv) in
-        let f = build-fresh s k o m sized sound kp b bm hold w c p iv free in
+        let f = build-fresh s number k o m sized sound kp b bm hold w c p iv free in
         omega (
           arith,
           f .within,
@@ -104,21 +104,21 @@ module _ (s : Shape) (m : Memory) (sized : Sized s m) (sound : Sound s m) (hold 
         )
 
     -- ---- after A
-    added : (n : Memory) → block s n (leafOf s k) (headOf m (leafOf s k)) ≡ plusOperation o (block s m (leafOf s k) (headOf m (leafOf s k) - 1)) → LeafOpen s m k b
+    added : (n : Memory) → block s n (leafOf s k) (headOf m (leafOf s k)) ≡ plusOperation number o (block s m (leafOf s k) (headOf m (leafOf s k) - 1)) → LeafOpen s m k b
         → Advancing s n hold' k b (record { node = leafOf s k; refresh = First; head = headOf m (leafOf s k) }) Up (leafOf s k) (headOf m (leafOf s k))
     added n put lo =
         record {
           node = leaf-node s k kp;
-          present = rw put (omega (arith, plus-one o (block s m (leafOf s k) (headOf m (leafOf s k) - 1))));
+          present = rw put (omega (arith, plus-one number o (block s m (leafOf s k) (headOf m (leafOf s k) - 1))));
           then = record { level = 0; same = refl; node = refl; low = omega arith; got = rw (reach-zero s n k (headOf m (leafOf s k))) (omega (arith, lo .head)) };
         }
 
     -- ---- every turn
-    pub carried-turn : {x : Stage} {n : Memory} {y : Stage} → Turn s k o m x n y → hold k ≡ x → hold' k ≡ y → Effect s k o m (hold k) n (hold' k) → OwnLeaf s m k b x → Carried s m hold k b x
+    pub carried-turn : {x : Stage} {n : Memory} {y : Stage} → Turn s number k o m x n y → hold k ≡ x → hold' k ≡ y → Effect s number k o m (hold k) n (hold' k) → OwnLeaf s m k b x → Carried s m hold k b x
         → Carried s n hold' k b y
     carried-turn (rests x) e f eff own p = carried-stable s m m sound hold hold' k kp o eff others regs k kp b x p
     carried-turn adds e f eff own p =
-        added _ (write-here s m (leafOf s k) (headOf m (leafOf s k)) (plusOperation o (block s m (leafOf s k) (headOf m (leafOf s k) - 1))) sized (leaf-node s k kp)
+        added _ (write-here s m (leafOf s k) (headOf m (leafOf s k)) (plusOperation number o (block s m (leafOf s k) (headOf m (leafOf s k) - 1))) sized (leaf-node s k kp)
         (omega (arith, leaf-places s k kp, own .head))) own
     carried-turn (supers w a v h z) e f eff own p = carried-stable s m _ sound hold hold' k kp o eff others regs k kp b (advancing w a v h) p
     carried-turn (raises w a v h) e f eff own p =
@@ -145,8 +145,8 @@ module _ (s : Shape) (m : Memory) (sized : Sized s m) (sound : Sound s m) (hold 
     carried-turn (finds w l r puts takes g) e f eff own p = nothing-new s m sound hold hold' k kp o eff others regs b w l r puts takes p g
     carried-turn (writes w c g) e f eff own p =
         let iv : Inner s (w .node) = refresh-inner w (p .refreshing) in
-        let put = write-here s m (w .node) (w .head) (blockOf c) sized (inner-node s (w .node) iv) (place-within w c p iv g) in
-        record { node = inner-node s (w .node) iv; present = rw put (omega (arith, p .hand .0 .more)); then = after-written _ eff w c p put }
+        let put = write-here s m (w .node) (w .head) (blockOf number c) sized (inner-node s (w .node) iv) (place-within w c p iv g) in
+        record { node = inner-node s (w .node) iv; present = rw put (omega (arith, p .hand number .0 .more)); then = after-written _ eff w c p put }
     carried-turn (meets w c g) e f eff own p =
         record {
           node = inner-node s (w .node) (refresh-inner w (p .refreshing));

@@ -207,31 +207,31 @@ module _ (s : Shape) where
   unfolding restAfter
   after-leaf k kp h = ap upCost (depth-leaf s k kp)
 
-pub rest-step : (s : Shape) → 1 ≤ s .height → (k : ℕ) → k < processes s → (o : Operation) (m : Memory) (n : Step) → StepNodes s n
-    → restOf s (step s k o m n .next) < rest s n
+pub rest-step : (s : Shape) → 1 ≤ s .height → (number k : ℕ) → k < processes s → (o : Operation) (m : Memory) (n : Step) → StepNodes s n
+    → restOf s (step s number k o m n .next) < rest s n
 unfolding step goTelling go rest restAfter
-rest-step s tall k kp o m A n =
+rest-step s tall number k kp o m A n =
     let h : ℕ = headOf m (leafOf s k) in
     omega (arith, rest-advance s (record { node = leafOf s k; refresh = First; head = h }) Up (leafOf s k) h, after-leaf s k kp h)
-rest-step s tall k kp o m (V1 a w v h) n = omega arith
-rest-step s tall k kp o m (V2 a w v h x) n = omega arith
-rest-step s tall k kp o m (V3 a w v h) n = omega (arith, rest-resume s a w n)
-rest-step s tall k kp o m (R1 q v) n = omega arith
-rest-step s tall k kp o m (R2 w) n = omega arith
-rest-step s tall k kp o m (R3 w c) n = omega (arith, rest-help s m w Right n (leftOf (w .node)) c)
-rest-step s tall k kp o m (R4 w) n = omega arith
-rest-step s tall k kp o m (R5 w c) n = omega (arith, rest-help s m w Ends n (rightOf (w .node)) c)
-rest-step s tall k kp o m (C1 w) n = omega arith
-rest-step s tall k kp o m (C2 w l) n = omega arith
-rest-step s tall k kp o m (C3L w l r) n = omega arith
-rest-step s tall k kp o m (C3R w l r puts takes) n = omega arith
-rest-step s tall k kp o m (C3N w l r puts takes) n =
+rest-step s tall number k kp o m (V1 a w v h) n = omega arith
+rest-step s tall number k kp o m (V2 a w v h x) n = omega arith
+rest-step s tall number k kp o m (V3 a w v h) n = omega (arith, rest-resume s a w n)
+rest-step s tall number k kp o m (R1 q v) n = omega arith
+rest-step s tall number k kp o m (R2 w) n = omega arith
+rest-step s tall number k kp o m (R3 w c) n = omega (arith, rest-help s m w Right n (leftOf (w .node)) c)
+rest-step s tall number k kp o m (R4 w) n = omega arith
+rest-step s tall number k kp o m (R5 w c) n = omega (arith, rest-help s m w Ends n (rightOf (w .node)) c)
+rest-step s tall number k kp o m (C1 w) n = omega arith
+rest-step s tall number k kp o m (C2 w l) n = omega arith
+rest-step s tall number k kp o m (C3L w l r) n = omega arith
+rest-step s tall number k kp o m (C3R w l r puts takes) n = omega arith
+rest-step s tall number k kp o m (C3N w l r puts takes) n =
     both (λ (x : Step). rest s x < 2 + tail s (w .node) (w .refresh)) (sameTotals puts takes (block s m (w .node) (w .head - 1)))
     (omega (arith, rest-above s (w .node) (inner-node s (w .node) n), up-tail s (w .node) (w .refresh))) (omega arith)
-rest-step s tall k kp o m (C4 w b) n =
+rest-step s tall number k kp o m (C4 w b) n =
     let x : Bool = absent (block s m (w .node) (w .head)) in
     omega (arith, advance-own s w (afterRefresh (w .refresh) x) (w .head) (inner-node s (w .node) n), after-refresh s w (w .refresh) x)
-rest-step s tall k kp o m Q n = omega arith
+rest-step s tall number k kp o m Q n = omega arith
 
 -- ---- the bound at the first step
 pub rest-first-cost : (s : Shape) → 1 ≤ s .height → rest s A ≡ addCost + advanceBelow + (levelCost * (s .height - 1) + (rootCost + answerCost))

@@ -38,20 +38,20 @@ unfolding withSuper
 same-super b x = record { puts = refl; takes = refl; left = refl; right = refl; size = refl }
 
 -- what an operation adds to a leaf
-plus-rises : (o : Operation) (b : Block) (κ : Kind) → total κ b ≤ total κ (plusOperation o b)
+plus-rises : (number : ℕ) (o : Operation) (b : Block) (κ : Kind) → total κ b ≤ total κ (plusOperation number o b)
 unfolding plusOperation total
-plus-rises (Put x) b Puts = omega arith
-plus-rises (Put x) b Takes = omega arith
-plus-rises Take b Puts = omega arith
-plus-rises Take b Takes = omega arith
+plus-rises number (Put x) b Puts = omega arith
+plus-rises number (Put x) b Takes = omega arith
+plus-rises number Take b Puts = omega arith
+plus-rises number Take b Takes = omega arith
 
-pub plus-one : (o : Operation) (b : Block) → count (plusOperation o b) ≡ count b + 1
+pub plus-one : (number : ℕ) (o : Operation) (b : Block) → count (plusOperation number o b) ≡ count b + 1
 unfolding plusOperation
-plus-one (Put x) b = omega arith
-plus-one Take b = omega arith
+plus-one number (Put x) b = omega arith
+plus-one number Take b = omega arith
 
-plus-follows : (o : Operation) (b : Block) → Follows b (plusOperation o b)
-plus-follows o b = record { rises = plus-rises o b; more = omega (arith, plus-one o b) }
+plus-follows : (number : ℕ) (o : Operation) (b : Block) → Follows b (plusOperation number o b)
+plus-follows number o b = record { rises = plus-rises number o b; more = omega (arith, plus-one number o b) }
 
 -- ends of the block that was made are those it was made of
 pub made-ends : (v : ℕ) (old : Block) (l r puts takes : ℕ) (x : Tally) (d : Side) (e : ℕ) → HasEnd d (made (built v old l r puts takes)) e → HasEnd d (two l r x) e
@@ -59,14 +59,14 @@ unfolding built
 made-ends v old l r puts takes x onLeft e p = p
 made-ends v old l r puts takes x onRight e p = p
 
-pub made-has : (n : Built) (d : Side) → HasEnd d (made n) (endOf d (blockOf n))
+pub made-has : (number : ℕ) (n : Built) (d : Side) → HasEnd d (made n) (endOf d (blockOf number n))
 unfolding blockOf
-made-has n onLeft = refl
-made-has n onRight = refl
+made-has number n onLeft = refl
+made-has number n onRight = refl
 
-module _ (s : Shape) (k : ℕ) (o : Operation) (m : Memory) where
+module _ (s : Shape) (number k : ℕ) (o : Operation) (m : Memory) where
   -- a turn that changes no memory
-  pub still : {x y : Stage} → ((d : Side) (u h e : ℕ) → Holds d y u h e → Holds d x u h e ⊎ (e ≡ headOf m (childOf d u) - 1)) → Effect s k o m x m y
+  pub still : {x y : Stage} → ((d : Side) (u h e : ℕ) → Holds d y u h e → Holds d x u h e ⊎ (e ≡ headOf m (childOf d u) - 1)) → Effect s number k o m x m y
   still gains =
       record {
         grows = record { raised = λ u nu. inl refl; stays = λ u i nu p. same-refl (block s m u i); absents = λ u i nu z. refl; fresh = λ u i nu f. inl f };
@@ -76,7 +76,7 @@ module _ (s : Shape) (k : ℕ) (o : Operation) (m : Memory) where
       }
 
   -- a head that is raised past a present block
-  raising : (w : Visit) (a : After) (v h : ℕ) {y : Stage} → Present s m v h → ((d : Side) (u h e : ℕ) → Holds d y u h e → ⊥) → Effect s k o m (advancing w a v h) (raise m v h) y
+  raising : (w : Visit) (a : After) (v h : ℕ) {y : Stage} → Present s m v h → ((d : Side) (u h e : ℕ) → Holds d y u h e → ⊥) → Effect s number k o m (advancing w a v h) (raise m v h) y
   unfolding raise block
   raising w a v h here empty =
       record {
@@ -108,7 +108,7 @@ module _ (s : Shape) (k : ℕ) (o : Operation) (m : Memory) where
         write-cases s m v h (withSuper (block s m v h) x) sized nv (λ (c : Block). count c ≡ 0 → c ≡ block s m u i) u i
         (λ e f z. absurd (omega (arith, same-super (block s m v h) x))) (λ z. refl)
 
-    setting : (w : Visit) (a : After) (v h x : ℕ) → Node s v → Present s m v h → Effect s k o m (advancing w a v h) (setSuper s m v h x) (advancing w a v h)
+    setting : (w : Visit) (a : After) (v h x : ℕ) → Node s v → Present s m v h → Effect s number k o m (advancing w a v h) (setSuper s m v h x) (advancing w a v h)
     unfolding setSuper write headOf
     setting w a v h x nv here =
         record {
@@ -127,7 +127,7 @@ module _ (s : Shape) (k : ℕ) (o : Operation) (m : Memory) where
     -- a new block c at place h of node v
     module _ (x y : Stage) (v h : ℕ) (c : Block) (nv : Node s v) (i : ℕ) (hi : h ≡ suc i) (none-here : count (block s m v h) ≡ 0) (new : Fresh s m v i c)
         (held : Inner s v → (d : Side) → Holds d x v h (endOf d c))
-        (added : (r : ℕ) → v ≡ leafOf s r → (r ≡ k) × (x ≡ adding) × (suc i ≡ headOf m (leafOf s k)) × (c ≡ plusOperation o (block s m (leafOf s k) i)))
+        (added : (r : ℕ) → v ≡ leafOf s r → (r ≡ k) × (x ≡ adding) × (suc i ≡ headOf m (leafOf s k)) × (c ≡ plusOperation number o (block s m (leafOf s k) i)))
         (empty : (d : Side) (u h e : ℕ) → Holds d y u h e → ⊥)
       where
         abbrev n : Memory
@@ -154,14 +154,14 @@ module _ (s : Shape) (k : ℕ) (o : Operation) (m : Memory) where
             write-cases s m v h c sized nv (λ (z : Block). 1 ≤ count z → Present s m u (suc j) ⊎ ((d : Side) → Holds d x u (suc j) (endOf d z))) u (suc j)
             (λ e f l. inr (rw (e, f) (held (rw e at iu)))) (λ l. inl l)
 
-        fresh-leaves : (r j : ℕ) → Present s n (leafOf s r) (suc j) → LeafWrote s k o m x n r j
+        fresh-leaves : (r j : ℕ) → Present s n (leafOf s r) (suc j) → LeafWrote s number k o m x n r j
         fresh-leaves r j =
             write-cases s m v h c sized nv
-            (λ (z : Block). 1 ≤ count z → Present s m (leafOf s r) (suc j) ⊎ ((r ≡ k) × (x ≡ adding) × (suc j ≡ headOf m (leafOf s k)) × (z ≡ plusOperation o (block s m (leafOf s k) j))))
+            (λ (z : Block). 1 ≤ count z → Present s m (leafOf s r) (suc j) ⊎ ((r ≡ k) × (x ≡ adding) × (suc j ≡ headOf m (leafOf s k)) × (z ≡ plusOperation number o (block s m (leafOf s k) j))))
             (leafOf s r) (suc j)
             (λ e f l. let z : j ≡ i = omega arith in inr (rw z (added r (sym e)))) (λ l. inl l)
 
-        writing : Effect s k o m x n y
+        writing : Effect s number k o m x n y
         unfolding write headOf
         writing =
             record {
@@ -179,7 +179,7 @@ module _ (s : Shape) (k : ℕ) (o : Operation) (m : Memory) where
     abbrev last : Block
     last = block s m leaf (headOf m leaf - 1)
 
-    add-fresh : LeafOpen s m k b → Fresh s m leaf (headOf m leaf - 1) (plusOperation o last)
+    add-fresh : LeafOpen s m k b → Fresh s m leaf (headOf m leaf - 1) (plusOperation number o last)
     add-fresh lo =
         let q = sound .node leaf (leaf-node s k kp) in
         record {
@@ -187,15 +187,15 @@ module _ (s : Shape) (k : ℕ) (o : Operation) (m : Memory) where
           within =
               omega (
                 arith,
-                plus-one o last,
+                plus-one number o last,
                 leaf-count sound k kp (headOf m leaf - 1) (below-head q (headOf m leaf - 1) (omega (arith, q .head))),
                 leaf-places s k kp,
                 lo .head,
                 lo .some,
               );
-          follows = plus-follows o last;
+          follows = plus-follows number o last;
           joins = λ iv. absurd (leaf-not-inner s k iv);
-          adds = λ j jp e. record { one = plus-one o last };
+          adds = λ j jp e. record { one = plus-one number o last };
         }
 
     -- C4, where the place is absent
@@ -208,8 +208,8 @@ module _ (s : Shape) (k : ℕ) (o : Operation) (m : Memory) where
               absurd (omega (arith, absent-count (block s m (w .node) (w .head)) free, sound .node (w .node) (inner-node s (w .node) iv) .filled (w .head) (p .refreshing .first) l))
           on (no l) = omega (arith, p .refreshing .last)
 
-      build-within : ((κ : Kind) → total κ (blockOf n) ≡ total κ (block s m (childOf onLeft (w .node)) (blockOf n .left)) + total κ (block s m (childOf onRight (w .node)) (blockOf n .right)))
-          → count (blockOf n) ≤ lastPlace s (w .node)
+      build-within : ((κ : Kind) → total κ (blockOf number n) ≡ total κ (block s m (childOf onLeft (w .node)) (blockOf number n .left)) + total κ (block s m (childOf onRight (w .node)) (blockOf number n .right)))
+          → count (blockOf number n) ≤ lastPlace s (w .node)
       unfolding total
       build-within sums =
           let x = sums Puts in
@@ -217,17 +217,17 @@ module _ (s : Shape) (k : ℕ) (o : Operation) (m : Memory) where
           omega (
             arith,
             node-places s (w .node) (iv .first) (iv .last),
-            sound .node (childOf onLeft (w .node)) (child-node s onLeft (w .node) iv) .within (blockOf n .left),
-            sound .node (childOf onRight (w .node)) (child-node s onRight (w .node) iv) .within (blockOf n .right),
+            sound .node (childOf onLeft (w .node)) (child-node s onLeft (w .node) iv) .within (blockOf number n .left),
+            sound .node (childOf onRight (w .node)) (child-node s onRight (w .node) iv) .within (blockOf number n .right),
           )
 
-      pub build-fresh : Fresh s m (w .node) (w .head - 1) (blockOf n)
+      pub build-fresh : Fresh s m (w .node) (w .head - 1) (blockOf number n)
       build-fresh =
           record {
             place = omega (arith, head-here, p .refreshing .first);
-            within = build-within (p .hand .1 .sums);
-            follows = p .hand .0;
-            joins = λ j. p .hand .1;
+            within = build-within (p .hand number .1 .sums);
+            follows = p .hand number .0;
+            joins = λ j. p .hand number .1;
             adds = λ j jp e. absurd (leaf-not-inner s j (rw e at iv));
           }
 
@@ -247,10 +247,10 @@ module _ (s : Shape) (k : ℕ) (o : Operation) (m : Memory) where
       gains-right w l r f onLeft u h e q = inl q
       gains-right w l r f onRight u h e q = inr (rw (← q .0) (sym (q .2) ∙ f))
 
-      pub effect : {x : Stage} {n : Memory} {y : Stage} → Turn s k o m x n y → OwnLeaf s m k b x → Carried s m hold k b x → Effect s k o m x n y
+      pub effect : {x : Stage} {n : Memory} {y : Stage} → Turn s number k o m x n y → OwnLeaf s m k b x → Carried s m hold k b x → Effect s number k o m x n y
       effect (rests x) own p = still (λ d u h e q. inl q)
       effect adds own p =
-          writing sized adding _ leaf (headOf m leaf) (plusOperation o last) (leaf-node s k kp) (headOf m leaf - 1) (omega (arith, own .some, own .head))
+          writing sized adding _ leaf (headOf m leaf) (plusOperation number o last) (leaf-node s k kp) (headOf m leaf - 1) (omega (arith, own .some, own .head))
           (own .ends (headOf m leaf) (omega (arith, own .some, own .head))) (add-fresh own) (λ iv. absurd (leaf-not-inner s k iv))
           (λ r e. (leaf-eq s r k (sym e), refl, omega (arith, own .some, own .head), refl)) (λ d u h e q. q)
       effect (supers w a v h z) own p = setting sized w a v h z (p .node) (p .present)
@@ -263,8 +263,8 @@ module _ (s : Shape) (k : ℕ) (o : Operation) (m : Memory) where
       effect (makes w l r puts takes f) own p = still (λ d u h e q. inl (q .0, q .1, made-ends (w .node) (block s m (w .node) (w .head - 1)) l r puts takes (countedBoth puts takes) d e (q .2)))
       effect (finds w l r puts takes f) own p = still (λ d u h e q. absurd (above-empty (w .node) d u h e q))
       effect (writes w c f) own p =
-          writing sized (building w (made c)) _ (w .node) (w .head) (blockOf c) (inner-node s (w .node) (inner-of w (made c) p)) (w .head - 1) (omega (arith, p .refreshing .first))
-          (absent-count (block s m (w .node) (w .head)) f) (build-fresh hold w c p (inner-of w (made c) p) f) (λ iv d. (refl, refl, made-has c d))
+          writing sized (building w (made c)) _ (w .node) (w .head) (blockOf number c) (inner-node s (w .node) (inner-of w (made c) p)) (w .head - 1) (omega (arith, p .refreshing .first))
+          (absent-count (block s m (w .node) (w .head)) f) (build-fresh hold w c p (inner-of w (made c) p) f) (λ iv d. (refl, refl, made-has number c d))
           (λ r e. absurd (leaf-not-inner s r (rw e at (inner-of w (made c) p)))) (λ d u h e q. q)
       effect (meets w c f) own p = still (λ d u h e q. absurd q)
       effect finishes own p = still (λ d u h e q. absurd q)

@@ -61,7 +61,7 @@ registers s m inv =
     }
 
 -- the nodes in the registers are the tree's
-refresh-inner : (s : Shape) (m : Memory) (hold : ℕ → Stage) (k : ℕ) → k < processes s → (b : ℕ) (w : Visit) → Refreshing s m hold k b w → Inner s (w .node)
+pub refresh-inner : (s : Shape) (m : Memory) (hold : ℕ → Stage) (k : ℕ) → k < processes s → (b : ℕ) (w : Visit) → Refreshing s m hold k b w → Inner s (w .node)
 refresh-inner s m hold k kp b w r = rw (r .node) (ancestor-inner s k kp (r .level) (r .low))
 
 module _ (s : Shape) (m : Memory) (hold : ℕ → Stage) (k : ℕ) (kp : k < processes s) (b : ℕ) where
@@ -82,7 +82,7 @@ module _ (s : Shape) (m : Memory) (hold : ℕ → Stage) (k : ℕ) (kp : k < pro
   pub step-nodes : (n : Step) → Carried s m hold k b (stage n) → StepNodes s n
   step-nodes n p = stage-nodes (stage n) p
 
-  pub turn-sized : {o : Operation} {x : Stage} {n : Memory} {y : Stage} → Turn s k o m x n y → Carried s m hold k b x → Sized s m → Sized s n
+  pub turn-sized : {number : ℕ} {o : Operation} {x : Stage} {n : Memory} {y : Stage} → Turn s number k o m x n y → Carried s m hold k b x → Sized s m → Sized s n
   unfolding Rattle.tree.specs.Memory.setSuper
   turn-sized (rests x) p sz = sz
   turn-sized adds p sz = write-sized s m _ _ _ sz (leaf-node s k kp)

@@ -43,8 +43,8 @@ module _ (s : Shape) (m : Machine) (counted : length (m .processes) ≡ processe
   process-other j ne = getD-set-other (m .processes) k j p idle ne
 
 -- ---- a turn of process k, after which it is p: what is known of every process stays known
-module _ (s : Shape) (m : Machine) (inv : Invariant s m) (k : ℕ) (kp : k < processes s) (p : Process) (n : Memory) (o : Operation)
-    (eff : Effect s k o (m .memory) (holding m k) n (stageOf (p .status)))
+module _ (s : Shape) {number : ℕ} (m : Machine) (inv : Invariant s m) (k : ℕ) (kp : k < processes s) (p : Process) (n : Memory) (o : Operation)
+    (eff : Effect s number k o (m .memory) (holding m k) n (stageOf (p .status)))
   where
     abbrev after : Machine
     after = withProcess m k p n
@@ -55,8 +55,8 @@ module _ (s : Shape) (m : Machine) (inv : Invariant s m) (k : ℕ) (kp : k < pro
     others : (r : ℕ) → r ≢ k → holding after r ≡ holding m r
     others r ne = ap (λ (q : Process). stageOf (q .status)) (process-other s m (inv .counted) k kp p n r ne)
 
-    eff' : Effect s k o (m .memory) (holding m k) n (holding after k)
-    eff' = subst (λ (y : Stage). Effect s k o (m .memory) (holding m k) n y) (sym here) eff
+    eff' : Effect s number k o (m .memory) (holding m k) n (holding after k)
+    eff' = subst (λ (y : Stage). Effect s number k o (m .memory) (holding m k) n y) (sym here) eff
 
     other-sound : (j : ℕ) → j < processes s → j ≢ k → ProcessSound s n (holding after) j (processOf m j)
     other-sound j jp ne =
@@ -104,7 +104,7 @@ module _ (s : Shape) (m : Machine) (inv : Invariant s m) (k : ℕ) (kp : k < pro
     pub begin-keeps : Invariant s (begin m k o)
     unfolding begin
     begin-keeps =
-        keeps s m inv k kp _ (m .memory) o (still s k o (m .memory) (λ d u h e q. absurd q)) (inv .sized)
+        keeps s m inv k kp _ (m .memory) o (still s 0 k o (m .memory) (λ d u h e q. absurd q)) (inv .sized)
         (record {
           within = omega arith;
           leaf = leaf-open (subst (λ (x : Status). OwnLeaf s (m .memory) k (processOf m k .begun) (stageOf x)) rests (inv .process k kp .leaf));
@@ -114,11 +114,11 @@ module _ (s : Shape) (m : Machine) (inv : Invariant s m) (k : ℕ) (kp : k < pro
         })
 
 -- ---- a step
-module _ (s : Shape) (tall : 1 ≤ s .height) (m : Machine) (inv : Invariant s m) (k : ℕ) (kp : k < processes s) (o : Operation) (n : Step)
+module _ (s : Shape) (tall : 1 ≤ s .height) (number : ℕ) (m : Machine) (inv : Invariant s m) (k : ℕ) (kp : k < processes s) (o : Operation) (n : Step)
     (busy : processOf m k .status ≡ Busy o n)
   where
     abbrev r : Stepped
-    r = step s k o (m .memory) n
+    r = step s number k o (m .memory) n
 
     abbrev p : Process
     p = processOf m k
@@ -129,30 +129,30 @@ module _ (s : Shape) (tall : 1 ≤ s .height) (m : Machine) (inv : Invariant s m
     at : holding m k ≡ stage n
     at = ap stageOf busy
 
-    own : OwnLeaf s (m .memory) k (p .begun) (stage n)
+    pub own : OwnLeaf s (m .memory) k (p .begun) (stage n)
     own = subst (OwnLeaf s (m .memory) k (p .begun)) at (inv .process k kp .leaf)
 
-    carried : Carried s (m .memory) (holding m) k (p .begun) (stage n)
+    pub carried : Carried s (m .memory) (holding m) k (p .begun) (stage n)
     carried = subst (Carried s (m .memory) (holding m) k (p .begun)) at (inv .process k kp .carried)
 
-    eff : Effect s k o (m .memory) (stage n) (r .memory) (stageOf (r .next))
-    eff = effect s k o (m .memory) (inv .sized) (inv .sound) kp (p .begun) (inv .process k kp .within) (holding m) (turn s k o (m .memory) n) own carried
+    eff : Effect s number k o (m .memory) (stage n) (r .memory) (stageOf (r .next))
+    eff = effect s number k o (m .memory) (inv .sized) (inv .sound) kp (p .begun) (inv .process k kp .within) (holding m) (turn s number k o (m .memory) n) own carried
 
-    pub step-effect : Effect s k o (m .memory) (holding m k) (r .memory) (stageOf (r .next))
-    step-effect = subst (λ (x : Stage). Effect s k o (m .memory) x (r .memory) (stageOf (r .next))) (sym at) eff
+    pub step-effect : Effect s number k o (m .memory) (holding m k) (r .memory) (stageOf (r .next))
+    step-effect = subst (λ (x : Stage). Effect s number k o (m .memory) x (r .memory) (stageOf (r .next))) (sym at) eff
 
     -- what it may still take is less
     pub rest-lower : restOf s (r .next) < rest s n
-    rest-lower = rest-step s tall k kp o (m .memory) n (step-nodes s (m .memory) (holding m) k kp (p .begun) n carried)
+    rest-lower = rest-step s tall number k kp o (m .memory) n (step-nodes s (m .memory) (holding m) k kp (p .begun) n carried)
 
     own-sound : ProcessSound s (r .memory) (holding (withProcess m k next (r .memory))) k next
     own-sound =
         record {
           within = inv .process k kp .within;
-          leaf = own-turn s k kp o (m .memory) (inv .sized) (inv .sound) (holding m) (p .begun) (turn s k o (m .memory) n) eff own carried;
+          leaf = own-turn s number k kp o (m .memory) (inv .sized) (inv .sound) (holding m) (p .begun) (turn s number k o (m .memory) n) eff own carried;
           carried =
-              carried-turn s (m .memory) (inv .sized) (inv .sound) (holding m) (holding (withProcess m k next (r .memory))) k kp o
-              (others s m inv k kp next (r .memory) o step-effect) (registers s m inv) (p .begun) (inv .process k kp .within) (turn s k o (m .memory) n) at
+              carried-turn s (m .memory) (inv .sized) (inv .sound) (holding m) (holding (withProcess m k next (r .memory))) number k kp o
+              (others s m inv k kp next (r .memory) o step-effect) (registers s m inv) (p .begun) (inv .process k kp .within) (turn s number k o (m .memory) n) at
               (here s m inv k kp next (r .memory) o step-effect) (eff' s m inv k kp next (r .memory) o step-effect) own carried;
           bounded = omega (arith, subst (λ (x : Status). p .steps + restOf s x ≤ rest s A) busy (inv .process k kp .bounded), rest-lower);
           helped = both (λ (n : ℕ). n ≤ p .steps + 1) (r .helped) (omega (arith, inv .process k kp .helped)) (omega (arith, inv .process k kp .helped));
@@ -162,29 +162,29 @@ module _ (s : Shape) (tall : 1 ≤ s .height) (m : Machine) (inv : Invariant s m
     pub steps-left : p .steps < rest s A
     steps-left = omega (arith, own-sound .bounded)
 
-    from-keeps : Invariant s (stepFrom s m k (Busy o n))
+    from-keeps : Invariant s (stepFrom s number m k (Busy o n))
     unfolding stepFrom
     from-keeps =
         keeps s m inv k kp next (r .memory) o step-effect
-        (turn-sized s (m .memory) (holding m) k kp (p .begun) (turn s k o (m .memory) n) carried (inv .sized)) own-sound
+        (turn-sized s (m .memory) (holding m) k kp (p .begun) (turn s number k o (m .memory) n) carried (inv .sized)) own-sound
 
-    pub step-keeps : Invariant s (stepOf s m k)
+    pub step-keeps : Invariant s (stepOf s number m k)
     unfolding stepOf
-    step-keeps = subst (λ (x : Status). Invariant s (stepFrom s m k x)) (sym busy) from-keeps
+    step-keeps = subst (λ (x : Status). Invariant s (stepFrom s number m k x)) (sym busy) from-keeps
 
     -- what a step leaves: the memory, the process and the others
-    stepped-machine : stepOf s m k ≡ withProcess m k next (r .memory)
+    stepped-machine : stepOf s number m k ≡ withProcess m k next (r .memory)
     unfolding stepOf stepFrom
-    stepped-machine = ap (stepFrom s m k) busy
+    stepped-machine = ap (stepFrom s number m k) busy
 
-    pub stepped-memory : stepOf s m k .memory ≡ r .memory
+    pub stepped-memory : stepOf s number m k .memory ≡ r .memory
     unfolding withProcess
     stepped-memory = ap (λ (x : Machine). x .memory) stepped-machine
 
-    pub stepped-here : processOf (stepOf s m k) k ≡ next
+    pub stepped-here : processOf (stepOf s number m k) k ≡ next
     stepped-here = ap (λ (x : Machine). processOf x k) stepped-machine ∙ process-here s m (inv .counted) k kp next (r .memory)
 
-    pub stepped-other : (j : ℕ) → j ≢ k → processOf (stepOf s m k) j ≡ processOf m j
+    pub stepped-other : (j : ℕ) → j ≢ k → processOf (stepOf s number m k) j ≡ processOf m j
     stepped-other j ne = ap (λ (x : Machine). processOf x j) stepped-machine ∙ process-other s m (inv .counted) k kp next (r .memory) j ne
 
 -- ---- the start

@@ -40,14 +40,14 @@ leaf-within s m k b x own i f = on (decLe i b)
     on (no l) = absurd (omega (arith, past x own (omega arith)))
 
 -- ---- a turn of process a that adds nothing to the leaf of process k
-module _ {s : Shape} {m n : Memory} {a : ℕ} {o : Operation} {x y : Stage} (eff : Effect s a o m x n y) (k : ℕ) (kp : k < processes s) (b : ℕ)
+module _ {s : Shape} {m n : Memory} {number a : ℕ} {o : Operation} {x y : Stage} (eff : Effect s number a o m x n y) (k : ℕ) (kp : k < processes s) (b : ℕ)
     (quiet : k ≡ a → x ≡ adding → ⊥)
   where
     ends-stay : (w : ℕ) → LeafEnds s m k w → LeafEnds s n k w
     ends-stay w ends zero l = absurd (omega arith)
     ends-stay w ends (suc i) l = on (decLe 1 (count (block s n (leafOf s k) (suc i))))
       where
-        old : LeafWrote s a o m x n k i → ⊥
+        old : LeafWrote s number a o m x n k i → ⊥
         old (inl f) = omega (arith, ends (suc i) l)
         old (inr f) = quiet (f .0) (f .1)
 
@@ -107,9 +107,9 @@ not-adding e = let z : _≡_ {A = ℕ} 0 1 = cc in omega arith
 not-adding′ : {w : Visit} {y : Hand} → building w y ≡ adding → ⊥
 not-adding′ e = let z : _≡_ {A = ℕ} 0 1 = cc in omega arith
 
-module _ (s : Shape) (k : ℕ) (kp : k < processes s) (o : Operation) (m : Memory) (sized : Sized s m) (sound : Sound s m) (hold : ℕ → Stage) (b : ℕ) where
+module _ (s : Shape) (number k : ℕ) (kp : k < processes s) (o : Operation) (m : Memory) (sized : Sized s m) (sound : Sound s m) (hold : ℕ → Stage) (b : ℕ) where
   -- A
-  added : {y : Stage} {n : Memory} → Effect s k o m adding n y → LeafOpen s m k b → headOf n (leafOf s k) ≡ headOf m (leafOf s k)
+  added : {y : Stage} {n : Memory} → Effect s number k o m adding n y → LeafOpen s m k b → headOf n (leafOf s k) ≡ headOf m (leafOf s k)
       → LeafMoving s n k b (leafOf s k) (headOf m (leafOf s k))
   added {y} {n} eff d same = record { ends = ends; head = inr (refl, d .head, same ∙ d .head) }
     where
@@ -117,7 +117,7 @@ module _ (s : Shape) (k : ℕ) (kp : k < processes s) (o : Operation) (m : Memor
       ends zero l = absurd (omega arith)
       ends (suc i) l = on (decLe 1 (count (block s n (leafOf s k) (suc i))))
         where
-          old : LeafWrote s k o m adding n k i → ⊥
+          old : LeafWrote s number k o m adding n k i → ⊥
           old (inl f) = omega (arith, d .ends (suc i) (omega arith))
           old (inr f) = omega (arith, f .2, d .head)
 
@@ -126,7 +126,7 @@ module _ (s : Shape) (k : ℕ) (kp : k < processes s) (o : Operation) (m : Memor
           on (no f) = omega arith
 
   -- V3
-  raised : {y : Stage} (w : Visit) (a : After) (v h : ℕ) → Effect s k o m (advancing w a v h) (raise m v h) y → Present s m v h → Node s v → LeafMoving s m k b v h
+  raised : {y : Stage} (w : Visit) (a : After) (v h : ℕ) → Effect s number k o m (advancing w a v h) (raise m v h) y → Present s m v h → Node s v → LeafMoving s m k b v h
       → LeafDone s (raise m v h) k b
   raised w a v h eff here nv d = on (moving-stays eff k kp b (λ e. not-adding) v h d)
     where
@@ -140,7 +140,7 @@ module _ (s : Shape) (k : ℕ) (kp : k < processes s) (o : Operation) (m : Memor
           at (inl e) = e
           at (inr e) = absurd (omega (arith, subst (λ (u : ℕ). h < headOf (raise m v h) u) (e .0) past, e .1, e .2))
 
-  pub own-turn : {x : Stage} {n : Memory} {y : Stage} → Turn s k o m x n y → Effect s k o m x n y → OwnLeaf s m k b x → Carried s m hold k b x → OwnLeaf s n k b y
+  pub own-turn : {x : Stage} {n : Memory} {y : Stage} → Turn s number k o m x n y → Effect s number k o m x n y → OwnLeaf s m k b x → Carried s m hold k b x → OwnLeaf s n k b y
   unfolding write headOf
   own-turn (rests x) eff d p = d
   own-turn adds eff d p = added eff d refl

@@ -11,6 +11,7 @@ pub mod OwnTurn
 pub mod CarriedTurn
 pub mod Invariant
 pub mod Keeps
+pub mod WrittenNumbers
 pub mod Inside
 pub mod Overall
 pub mod Limits

@@ -25,19 +25,19 @@ use Rattle.steps.proofs.Stages.{Tally, uncounted, countedLeft, countedB
 use Rattle.steps.proofs.Progress.{Covered, Owed, Refreshing, Starting, AfterAdvance, EndOk, Tallied, HandOk, Building, Rooted, Carried}
 
 -- a block in the leaf of process r after a turn of process a, in stage x: it was there, or a has just added it
-abbrev pub LeafWrote : Shape → ℕ → Operation → Memory → Stage → Memory → ℕ → ℕ → Type 0
-LeafWrote s a o m x n r i =
+abbrev pub LeafWrote : Shape → ℕ → ℕ → Operation → Memory → Stage → Memory → ℕ → ℕ → Type 0
+LeafWrote s number a o m x n r i =
     Present s m (leafOf s r) (suc i)
-    ⊎ ((r ≡ a) × (x ≡ adding) × (suc i ≡ headOf m (leafOf s a)) × (block s n (leafOf s r) (suc i) ≡ plusOperation o (block s m (leafOf s a) i)))
+    ⊎ ((r ≡ a) × (x ≡ adding) × (suc i ≡ headOf m (leafOf s a)) × (block s n (leafOf s r) (suc i) ≡ plusOperation number o (block s m (leafOf s a) i)))
 
 -- a block in inner node u after it: it was there, or a had its ends in hand
 abbrev pub InnerWrote : Shape → Memory → Stage → Memory → ℕ → ℕ → Type 0
 InnerWrote s m x n u i = Present s m u (suc i) ⊎ ((d : Side) → Holds d x u (suc i) (endOf d (block s n u (suc i))))
 
--- what a turn of process a does to memory m, from stage x to memory n and stage y
-pub record Effect (s : Shape) (a : ℕ) (o : Operation) (m : Memory) (x : Stage) (n : Memory) (y : Stage) : Type 0 where
+-- what a turn of process a, by the record with this number, does to memory m, from stage x to memory n and stage y
+pub record Effect (s : Shape) (number a : ℕ) (o : Operation) (m : Memory) (x : Stage) (n : Memory) (y : Stage) : Type 0 where
   pub grows : Grows s m n
-  pub leaves : (r i : ℕ) → Present s n (leafOf s r) (suc i) → LeafWrote s a o m x n r i
+  pub leaves : (r i : ℕ) → Present s n (leafOf s r) (suc i) → LeafWrote s number a o m x n r i
   pub inners : (u i : ℕ) → Inner s u → Present s n u (suc i) → InnerWrote s m x n u i
   -- an end that a now holds it held before, or it has just read the head
   pub gains : (d : Side) (u h e : ℕ) → Holds d y u h e → Holds d x u h e ⊎ (e ≡ headOf m (childOf d u) - 1)
@@ -52,15 +52,15 @@ unfolding blockOf
 hand-below s m w onLeft e none p q = absurd q
 hand-below s m w onLeft e (one l) p q = rw (← q) (p .below)
 hand-below s m w onLeft e (two l r x) p q = rw (← q) (p .0 .below)
-hand-below s m w onLeft e (made n) p q = rw (← q) (p .1 .below onLeft)
+hand-below s m w onLeft e (made n) p q = rw (← q) (p 0 .1 .below onLeft)
 hand-below s m w onRight e none p q = absurd q
 hand-below s m w onRight e (one l) p q = absurd q
 hand-below s m w onRight e (two l r x) p q = rw (← q) (p .1 .below)
-hand-below s m w onRight e (made n) p q = rw (← q) (p .1 .below onRight)
+hand-below s m w onRight e (made n) p q = rw (← q) (p 0 .1 .below onRight)
 
 -- ---- a turn of process a: from memory m and stages hold to memory n and stages hold'
-module _ (s : Shape) (m n : Memory) (sound : Sound s m) (hold hold' : ℕ → Stage) (a : ℕ) (ap' : a < processes s) (o : Operation)
-    (eff : Effect s a o m (hold a) n (hold' a)) (others : (r : ℕ) → r ≢ a → hold' r ≡ hold r) (regs : Registers s m hold) (k : ℕ) (kp : k < processes s) (b : ℕ)
+module _ (s : Shape) (m n : Memory) (sound : Sound s m) (hold hold' : ℕ → Stage) {number : ℕ} (a : ℕ) (ap' : a < processes s) (o : Operation)
+    (eff : Effect s number a o m (hold a) n (hold' a)) (others : (r : ℕ) → r ≢ a → hold' r ≡ hold r) (regs : Registers s m hold) (k : ℕ) (kp : k < processes s) (b : ℕ)
   where
     abbrev g : Grows s m n
     g = eff .grows
@@ -196,9 +196,9 @@ module _ (s : Shape) (m n : Memory) (sound : Sound s m) (hold hold' : ℕ → St
       hand-stable none p = tt
       hand-stable (one l) p = end-stable onLeft l p
       hand-stable (two l r x) p = (end-stable onLeft l (p .0), end-stable onRight r (p .1), tally-stable l r (p .0 .below) (p .1 .below) x (p .2))
-      hand-stable (made c) p = (
-        follows-same _ (blockOf c) _ (blockOf c) before (same-refl (blockOf c)) (p .0),
-        joins-grows s m n sound g (w .node) iv _ (blockOf c) _ (blockOf c) before (same-refl (blockOf c)) (p .1),
+      hand-stable (made c) p = λ number. (
+        follows-same _ (blockOf number c) _ (blockOf number c) before (same-refl (blockOf number c)) (p number .0),
+        joins-grows s m n sound g (w .node) iv _ (blockOf number c) _ (blockOf number c) before (same-refl (blockOf number c)) (p number .1),
       )
 
     -- the refresh goes on with other ends in hand

@@ -73,25 +73,25 @@ module _ (s : Shape) (m : Machine) (inv : Invariant s m) (k : ℕ) (kp : k < pro
     begin-busy = omega (arith, begin-overall inside)
 
 -- ---- a step
-module _ (s : Shape) (tall : 1 ≤ s .height) (m : Machine) (inv : Invariant s m) (k : ℕ) (kp : k < processes s) (o : Operation) (n : Step)
+module _ (s : Shape) (tall : 1 ≤ s .height) (number : ℕ) (m : Machine) (inv : Invariant s m) (k : ℕ) (kp : k < processes s) (o : Operation) (n : Step)
     (is : processOf m k .status ≡ Busy o n)
   where
     abbrev next : Status
-    next = step s k o (m .memory) n .next
+    next = step s number k o (m .memory) n .next
 
-    step-overall : (f : Status → ℕ) → overall s f (stepOf s m k) + f (Busy o n) ≡ overall s f m + f next
+    step-overall : (f : Status → ℕ) → overall s f (stepOf s number m k) + f (Busy o n) ≡ overall s f m + f next
     step-overall f =
-        omega (arith, ap (λ (p : Process). f (p .status)) (stepped-here s tall m inv k kp o n is), ap f is, one-changed s m (stepOf s m k) k kp (stepped-other s tall m inv k kp o n is) f)
+        omega (arith, ap (λ (p : Process). f (p .status)) (stepped-here s tall number m inv k kp o n is), ap f is, one-changed s m (stepOf s number m k) k kp (stepped-other s tall number m inv k kp o n is) f)
 
     -- takes one at least
-    pub step-remaining : remaining s (stepOf s m k) < remaining s m
-    step-remaining = omega (arith, step-overall (restOf s), rest-lower s tall m inv k kp o n is)
+    pub step-remaining : remaining s (stepOf s number m k) < remaining s m
+    step-remaining = omega (arith, step-overall (restOf s), rest-lower s tall number m inv k kp o n is)
 
     -- Q alone leaves the operation
-    pub step-busy : busy s (stepOf s m k) + (if isQ n then 1 else 0) ≡ busy s m
+    pub step-busy : busy s (stepOf s number m k) + (if isQ n then 1 else 0) ≡ busy s m
     unfolding isIdle
     step-busy = on (isQ n) refl
       where
-        on : (b : Bool) → isQ n ≡ b → busy s (stepOf s m k) + (if b then 1 else 0) ≡ busy s m
-        on true q = omega (arith, step-overall inside, ap inside (q-next s k o (m .memory) n q))
-        on false q = omega (arith, step-overall inside, ap {B = ℕ} (λ (b : Bool). if b then 0 else 1) (still-busy s k o (m .memory) n q))
+        on : (b : Bool) → isQ n ≡ b → busy s (stepOf s number m k) + (if b then 1 else 0) ≡ busy s m
+        on true q = omega (arith, step-overall inside, ap inside (q-next s number k o (m .memory) n q))
+        on false q = omega (arith, step-overall inside, ap {B = ℕ} (λ (b : Bool). if b then 0 else 1) (still-busy s number k o (m .memory) n q))

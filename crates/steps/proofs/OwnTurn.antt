@@ -83,7 +83,7 @@ module _ (s : Shape) (n : Memory) (sound : Sound s n) (hold : ℕ → Stage) (k 
   resumed w Up v h l p = go-up w v h p l
 
 -- ---- turns that change no memory
-module _ (s : Shape) (m : Memory) (sound : Sound s m) (hold hold' : ℕ → Stage) (k : ℕ) (kp : k < processes s) (o : Operation) (eff : Effect s k o m (hold k) m (hold' k))
+module _ (s : Shape) (m : Memory) (sound : Sound s m) (hold hold' : ℕ → Stage) {number : ℕ} (k : ℕ) (kp : k < processes s) (o : Operation) (eff : Effect s number k o m (hold k) m (hold' k))
     (others : (r : ℕ) → r ≢ k → hold' r ≡ hold r) (regs : Registers s m hold) (b : ℕ)
   where
     -- R1 of a first refresh: no block and no register is past the head
@@ -185,10 +185,10 @@ module _ (s : Shape) (m : Memory) (sound : Sound s m) (hold hold' : ℕ → Stag
 
       pub made-block : sameTotals puts takes old ≡ false → Building s m hold' k b w (made (built (w .node) old l r puts takes))
       made-block e =
-          keep w (made (built (w .node) old l r puts takes)) re (
-            built-follows s m sound w (inner-of w re) (re .first) (re .last) l r (p .hand .0) (p .hand .1) puts takes (p .hand .2) e,
-            built-joins s m sound w (inner-of w re) (re .first) (re .last) l r (p .hand .0) (p .hand .1) puts takes (p .hand .2),
-          )
+          keep w (made (built (w .node) old l r puts takes)) re (λ number. (
+            built-follows s m sound w (inner-of w re) (re .first) (re .last) l r (p .hand .0) (p .hand .1) puts takes (p .hand .2) number e,
+            built-joins s m sound w (inner-of w re) (re .first) (re .last) l r (p .hand .0) (p .hand .1) puts takes (p .hand .2) number,
+          ))
           (λ x q. p .mine x (made-ends (w .node) old l r puts takes (countedBoth puts takes) (sideAt s k (re .level)) x q))
 
       -- equal totals: the block before has these ends, so it reaches the operation
@@ -205,7 +205,7 @@ module _ (s : Shape) (m : Memory) (sound : Sound s m) (hold hold' : ℕ → Stag
           (omega (arith, re .first, re .last))
         where
           ends : (old .left ≡ l) × (old .right ≡ r)
-          ends = same-ends s m sound w (inner-of w re) (re .first) (re .last) l r (p .hand .0) (p .hand .1) puts takes (p .hand .2) e
+          ends = same-ends s m sound w (inner-of w re) (re .first) (re .last) l r (p .hand .0) (p .hand .1) puts takes (p .hand .2) 0 e
 
           on : (d : Side) → sideAt s k (re .level) ≡ d → b ≤ reach s m k (re .level) (endOf d (block s m (ancestor s k (suc (re .level))) (w .head - 1)))
           on onLeft de = rw (← re .node) (p .mine (old .left) (rw de (sym (ends .0))))

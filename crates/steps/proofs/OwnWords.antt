@@ -68,20 +68,20 @@ module _ (s : Shape) (m n : Memory) where
       }
 
   -- the step goes on alike
-  pub same-next : (x : Step) (is : List ℕ) → OwnWords s x is → wordsAt m is ≡ wordsAt n is → (k : ℕ) (o : Operation) → step s k o m x .next ≡ step s k o n x .next
+  pub same-next : (x : Step) (is : List ℕ) → OwnWords s x is → wordsAt m is ≡ wordsAt n is → (number k : ℕ) (o : Operation) → step s number k o m x .next ≡ step s number k o n x .next
   unfolding step go sameTotals built totalsPositions
-  same-next _ _ (ofLeft w l r) same k o = let a = totals-alike (leftOf (w .node)) l [] same in rw (a .puts, a .takes)
-  same-next _ _ (ofRight w l r puts takes) same k o = let a = totals-alike (rightOf (w .node)) r [] same in rw (a .puts, a .takes)
-  same-next _ _ (ofNode w l r puts takes) same k o =
+  same-next _ _ (ofLeft w l r) same number k o = let a = totals-alike (leftOf (w .node)) l [] same in rw (a .puts, a .takes)
+  same-next _ _ (ofRight w l r puts takes) same number k o = let a = totals-alike (rightOf (w .node)) r [] same in rw (a .puts, a .takes)
+  same-next _ _ (ofNode w l r puts takes) same number k o =
       let a = before-alike (w .node) (w .head - 1) same in rw (size-alike a puts takes, a .totals .puts, a .totals .takes)
 
 -- C3L and C3R take two words, C3N two and in the root three
-abbrev pub number : {s : Shape} {x : Step} {is : List ℕ} → OwnWords s x is → ℕ
-number (ofLeft w l r) = 2
-number (ofRight w l r puts takes) = 2
-number (ofNode w l r puts takes) = if eqb (w .node) root then 3 else 2
+abbrev pub wordCount : {s : Shape} {x : Step} {is : List ℕ} → OwnWords s x is → ℕ
+wordCount (ofLeft w l r) = 2
+wordCount (ofRight w l r puts takes) = 2
+wordCount (ofNode w l r puts takes) = if eqb (w .node) root then 3 else 2
 
-pub taken-number : {s : Shape} {x : Step} {is : List ℕ} (o : OwnWords s x is) → length is ≡ number o
+pub taken-number : {s : Shape} {x : Step} {is : List ℕ} (o : OwnWords s x is) → length is ≡ wordCount o
 unfolding totalsPositions sizePositions
 taken-number (ofLeft w l r) = refl
 taken-number (ofRight w l r puts takes) = refl

@@ -131,7 +131,9 @@ abbrev pub HandOk : Shape → Memory → Visit → Hand → Type 0
 HandOk s m w none = Unit {0}
 HandOk s m w (one l) = EndOk s m w onLeft l
 HandOk s m w (two l r x) = EndOk s m w onLeft l × EndOk s m w onRight r × Tallied s m w l r x
-HandOk s m w (made n) = Follows (block s m (w .node) (w .head - 1)) (blockOf n) × Joins s m (w .node) (block s m (w .node) (w .head - 1)) (blockOf n)
+-- whatever number it gets
+HandOk s m w (made n) =
+    (number : ℕ) → Follows (block s m (w .node) (w .head - 1)) (blockOf number n) × Joins s m (w .node) (block s m (w .node) (w .head - 1)) (blockOf number n)
 
 pub record Building (s : Shape) (m : Memory) (hold : ℕ → Stage) (k b : ℕ) (w : Visit) (x : Hand) : Type 0 where
   pub refreshing : Refreshing s m hold k b w

@@ -102,7 +102,7 @@ module _ (s : Shape) (m : Memory) (starts : List ℕ) (q : SoundTree s starts (m
     decides l r lo ro puts takes told =
         let x = rw (node-reads q (2 * w .node) l (left w iv)) at (node-small q (2 * w .node) l (left w iv)) in
         let y = rw (node-reads q (2 * w .node + 1) r (right w iv)) at (node-small q (2 * w .node + 1) r (right w iv)) in
-        let rise = totals-grow s m sound w iv first last l r lo ro puts takes told in
+        let rise = totals-grow s m sound w iv first last l r lo ro puts takes told 0 in
         let sized = size-most s m sound (w .node) iv (w .head - 1) (below-head (sound .node (w .node) node) (w .head - 1) (omega arith)) in
         record {
           head = first;
@@ -116,15 +116,15 @@ module _ (s : Shape) (m : Memory) (starts : List ℕ) (q : SoundTree s starts (m
     made-place : (n : Built) → HandOk s m w (made n) → w .head ≤ lastPlace s (w .node)
     unfolding total
     made-place n h =
-        let x = h .1 .sums Puts in
-        let y = h .1 .sums Takes in
+        let x = h 0 .1 .sums Puts in
+        let y = h 0 .1 .sums Takes in
         omega (
           arith,
           place-count (sound .node (w .node) node) (w .head - 1) (below-head (sound .node (w .node) node) (w .head - 1) (omega arith)),
-          h .0 .more,
+          h 0 .0 .more,
           node-places s (w .node) (iv .first) (iv .last),
-          sound .node (childOf onLeft (w .node)) (child-node s onLeft (w .node) iv) .within (blockOf n .left),
-          sound .node (childOf onRight (w .node)) (child-node s onRight (w .node) iv) .within (blockOf n .right),
+          sound .node (childOf onLeft (w .node)) (child-node s onLeft (w .node) iv) .within (blockOf 0 n .left),
+          sound .node (childOf onRight (w .node)) (child-node s onRight (w .node) iv) .within (blockOf 0 n .right),
         )
 
   -- a step of process k, in its operation b

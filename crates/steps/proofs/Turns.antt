@@ -28,58 +28,58 @@ abbrev pub afterHelp : Side → After
 afterHelp onLeft = Right
 afterHelp onRight = Ends
 
--- a turn of process k, inside operation o, on memory m: the stage before it, the memory after it, the stage after it
-pub data Turn (s : Shape) (k : ℕ) (o : Operation) (m : Memory) : Stage → Memory → Stage → Type 0 where
+-- a turn of process k by the record with this number, inside operation o, on memory m: the stage before it, the memory after it, the stage after it
+pub data Turn (s : Shape) (number k : ℕ) (o : Operation) (m : Memory) : Stage → Memory → Stage → Type 0 where
   -- V1, R2, R4; R3 and R5 that find no block
-  rests : (x : Stage) → Turn s k o m x m x
+  rests : (x : Stage) → Turn s number k o m x m x
   -- A
-  adds : Turn s k o m adding
-      (write s m (leafOf s k) (headOf m (leafOf s k)) (plusOperation o (block s m (leafOf s k) (headOf m (leafOf s k) - 1))))
+  adds : Turn s number k o m adding
+      (write s m (leafOf s k) (headOf m (leafOf s k)) (plusOperation number o (block s m (leafOf s k) (headOf m (leafOf s k) - 1))))
       (advancing (record { node = leafOf s k; refresh = First; head = headOf m (leafOf s k) }) Up (leafOf s k) (headOf m (leafOf s k)))
   -- V2
-  supers : (w : Visit) (a : After) (v h x : ℕ) → Turn s k o m (advancing w a v h) (setSuper s m v h x) (advancing w a v h)
+  supers : (w : Visit) (a : After) (v h x : ℕ) → Turn s number k o m (advancing w a v h) (setSuper s m v h x) (advancing w a v h)
   -- V3
-  raises : (w : Visit) (a : After) (v h : ℕ) → Turn s k o m (advancing w a v h) (raise m v h) (afterStage a w)
+  raises : (w : Visit) (a : After) (v h : ℕ) → Turn s number k o m (advancing w a v h) (raise m v h) (afterStage a w)
   -- R1
-  starts : (v : ℕ) (q : Refresh) → Turn s k o m (starting v q) m (building (record { node = v; refresh = q; head = headOf m v }) none)
+  starts : (v : ℕ) (q : Refresh) → Turn s number k o m (starting v q) m (building (record { node = v; refresh = q; head = headOf m v }) none)
   -- R3 and R5 that find a block
   assists : (w : Visit) (d : Side) (c : ℕ) → absent (block s m (childOf d (w .node)) c) ≡ false
-      → Turn s k o m (building w none) m (advancing w (afterHelp d) (childOf d (w .node)) c)
+      → Turn s number k o m (building w none) m (advancing w (afterHelp d) (childOf d (w .node)) c)
   -- C1, C2: the end is the place before the child's head
-  endsLeft : (w : Visit) (l : ℕ) → l ≡ headOf m (leftOf (w .node)) - 1 → Turn s k o m (building w none) m (building w (one l))
-  endsRight : (w : Visit) (l r : ℕ) → r ≡ headOf m (rightOf (w .node)) - 1 → Turn s k o m (building w (one l)) m (building w (two l r uncounted))
+  endsLeft : (w : Visit) (l : ℕ) → l ≡ headOf m (leftOf (w .node)) - 1 → Turn s number k o m (building w none) m (building w (one l))
+  endsRight : (w : Visit) (l r : ℕ) → r ≡ headOf m (rightOf (w .node)) - 1 → Turn s number k o m (building w (one l)) m (building w (two l r uncounted))
   -- C3L, C3R: what is counted was right, and so is what then is
   counts : (w : Visit) (l r : ℕ) (x y : Tally) → (Tallied s m w l r x → Tallied s m w l r y)
-      → Turn s k o m (building w (two l r x)) m (building w (two l r y))
+      → Turn s number k o m (building w (two l r x)) m (building w (two l r y))
   -- C3N: other totals than those of the block before, or equal ones
   makes : (w : Visit) (l r puts takes : ℕ) → sameTotals puts takes (block s m (w .node) (w .head - 1)) ≡ false
-      → Turn s k o m (building w (two l r (countedBoth puts takes))) m (building w (made (built (w .node) (block s m (w .node) (w .head - 1)) l r puts takes)))
+      → Turn s number k o m (building w (two l r (countedBoth puts takes))) m (building w (made (built (w .node) (block s m (w .node) (w .head - 1)) l r puts takes)))
   finds : (w : Visit) (l r puts takes : ℕ) → sameTotals puts takes (block s m (w .node) (w .head - 1)) ≡ true
-      → Turn s k o m (building w (two l r (countedBoth puts takes))) m (aboveStage (w .node))
+      → Turn s number k o m (building w (two l r (countedBoth puts takes))) m (aboveStage (w .node))
   -- C4: the place is absent, or taken
   writes : (w : Visit) (n : Built) → absent (block s m (w .node) (w .head)) ≡ true
-      → Turn s k o m (building w (made n)) (write s m (w .node) (w .head) (blockOf n)) (advancing w (afterRefresh (w .refresh) true) (w .node) (w .head))
+      → Turn s number k o m (building w (made n)) (write s m (w .node) (w .head) (blockOf number n)) (advancing w (afterRefresh (w .refresh) true) (w .node) (w .head))
   meets : (w : Visit) (n : Built) → absent (block s m (w .node) (w .head)) ≡ false
-      → Turn s k o m (building w (made n)) m (advancing w (afterRefresh (w .refresh) false) (w .node) (w .head))
+      → Turn s number k o m (building w (made n)) m (advancing w (afterRefresh (w .refresh) false) (w .node) (w .head))
   -- Q
-  finishes : Turn s k o m answering m resting
+  finishes : Turn s number k o m answering m resting
 
-module _ (s : Shape) (k : ℕ) (o : Operation) (m : Memory) where
+module _ (s : Shape) (number k : ℕ) (o : Operation) (m : Memory) where
   help-turn : (w : Visit) (d : Side) (c : ℕ) → stage (resume (afterHelp d) w) ≡ building w none
-      → Turn s k o m (building w none) m (stage (help s m w (afterHelp d) (childOf d (w .node)) c))
+      → Turn s number k o m (building w none) m (stage (help s m w (afterHelp d) (childOf d (w .node)) c))
   unfolding help
   help-turn w d c e =
-      cases (λ (n : Step). Turn s k o m (building w none) m (stage n)) (absent (block s m (childOf d (w .node)) c))
+      cases (λ (n : Step). Turn s number k o m (building w none) m (stage n)) (absent (block s m (childOf d (w .node)) c))
       (λ f. rw e (rests (building w none)))
       (λ f. rw (stage-advance w (afterHelp d) (childOf d (w .node)) c) (assists w d c f))
 
   write-turn : (w : Visit) (n : Built) (b : Bool) → absent (block s m (w .node) (w .head)) ≡ b
-      → Turn s k o m (building w (made n)) (writeIfAbsent s m (w .node) (w .head) (blockOf n)) (advancing w (afterRefresh (w .refresh) b) (w .node) (w .head))
+      → Turn s number k o m (building w (made n)) (writeIfAbsent s m (w .node) (w .head) (blockOf number n)) (advancing w (afterRefresh (w .refresh) b) (w .node) (w .head))
   unfolding writeIfAbsent write
   write-turn w n true e = rw e (writes w n e)
   write-turn w n false e = rw e (meets w n e)
 
-  pub turn : (n : Step) → Turn s k o m (stage n) (step s k o m n .memory) (stageOf (step s k o m n .next))
+  pub turn : (n : Step) → Turn s number k o m (stage n) (step s number k o m n .memory) (stageOf (step s number k o m n .next))
   unfolding step goTelling go resume
   turn A = rw (stage-advance _ Up (leafOf s k) (headOf m (leafOf s k))) adds
   turn (V1 a w v h) = rests (advancing w a v h)
@@ -98,7 +98,7 @@ module _ (s : Shape) (k : ℕ) (o : Operation) (m : Memory) where
       let y = block s m (rightOf (w .node)) r in
       counts w l r (countedLeft puts takes) (countedBoth (puts + y .puts) (takes + y .takes)) (λ p. (omega (arith, p .0), omega (arith, p .1)))
   turn (C3N w l r puts takes) =
-      cases (λ (n : Step). Turn s k o m (building w (two l r (countedBoth puts takes))) m (stage n)) (sameTotals puts takes (block s m (w .node) (w .head - 1)))
+      cases (λ (n : Step). Turn s number k o m (building w (two l r (countedBoth puts takes))) m (stage n)) (sameTotals puts takes (block s m (w .node) (w .head - 1)))
       (λ e. finds w l r puts takes e) (λ e. makes w l r puts takes e)
   turn (C4 w n) =
       rw (stage-advance w (afterRefresh (w .refresh) (absent (block s m (w .node) (w .head)))) (w .node) (w .head))

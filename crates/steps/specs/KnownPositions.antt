@@ -1,5 +1,5 @@
--- The words that C3L, C3R and C3N take, at p = 4 and L = 1, worked out by hand: the root's part has words 0 to 29,
--- those of nodes 2 and 3 begin at 30 and 48, those of leaves 6 and 7 at 90 and 102.
+-- The words that C3L, C3R and C3N take, at p = 4 and L = 1, worked out by hand: the root's part has words 0 to 34,
+-- those of nodes 2 and 3 begin at 35 and 56, those of leaves 6 and 7 at 105 and 119.
 use mathlib.Core.Path.{_≡_, refl}
 use mathlib.Core.List.{[], _∷_}
 use Rattle.tree.specs.Shape.{shapeFor}
@@ -16,15 +16,15 @@ use Rattle.steps.specs.All.{stepRules}
 abbrev inRoot : Visit
 inRoot = record { node = 1; refresh = First; head = 4 }
 
-pub leftInRoot : OwnWords (shapeFor 4 1) (C3L inRoot 2 1) (42 ∷ 43 ∷ [])
+pub leftInRoot : OwnWords (shapeFor 4 1) (C3L inRoot 2 1) (49 ∷ 50 ∷ [])
 unfolding trees stepRules
 leftInRoot = ofLeft inRoot 2 1
 
-pub rightInRoot : OwnWords (shapeFor 4 1) (C3R inRoot 2 1 2 0) (54 ∷ 55 ∷ [])
+pub rightInRoot : OwnWords (shapeFor 4 1) (C3R inRoot 2 1 2 0) (63 ∷ 64 ∷ [])
 unfolding trees stepRules
 rightInRoot = ofRight inRoot 2 1 2 0
 
-pub nodeInRoot : OwnWords (shapeFor 4 1) (C3N inRoot 2 1 2 1) (18 ∷ 19 ∷ 23 ∷ [])
+pub nodeInRoot : OwnWords (shapeFor 4 1) (C3N inRoot 2 1 2 1) (21 ∷ 22 ∷ 26 ∷ [])
 unfolding trees stepRules
 nodeInRoot = ofNode inRoot 2 1 2 1
 
@@ -33,15 +33,15 @@ nodeInRoot = ofNode inRoot 2 1 2 1
 abbrev belowRoot : Visit
 belowRoot = record { node = 3; refresh = Second; head = 2 }
 
-pub leftBelow : OwnWords (shapeFor 4 1) (C3L belowRoot 1 0) (96 ∷ 97 ∷ [])
+pub leftBelow : OwnWords (shapeFor 4 1) (C3L belowRoot 1 0) (112 ∷ 113 ∷ [])
 unfolding trees stepRules
 leftBelow = ofLeft belowRoot 1 0
 
-pub rightBelow : OwnWords (shapeFor 4 1) (C3R belowRoot 1 0 1 0) (102 ∷ 103 ∷ [])
+pub rightBelow : OwnWords (shapeFor 4 1) (C3R belowRoot 1 0 1 0) (119 ∷ 120 ∷ [])
 unfolding trees stepRules
 rightBelow = ofRight belowRoot 1 0 1 0
 
-pub nodeBelow : OwnWords (shapeFor 4 1) (C3N belowRoot 1 0 1 0) (54 ∷ 55 ∷ [])
+pub nodeBelow : OwnWords (shapeFor 4 1) (C3N belowRoot 1 0 1 0) (63 ∷ 64 ∷ [])
 unfolding trees stepRules
 nodeBelow = ofNode belowRoot 1 0 1 0
 

@@ -72,19 +72,19 @@ abbrev pub stepped : Process → Stepped → Process
 stepped p r =
     record { status = r .next; begun = p .begun; steps = p .steps + 1; helps = if r .helped then p .helps + 1 else p .helps }
 
--- one step of process k, whose status is given; an idle process has none
-unfoldable pub stepFrom : Shape → Machine → ℕ → Status → Machine
-stepFrom s m k Idle = m
-stepFrom s m k (Busy o n) =
-    let r = step s k o (m .memory) n in withProcess m k (stepped (processOf m k) r) (r .memory)
+-- the record with this number is a step of process k, whose status is given; an idle process has none
+unfoldable pub stepFrom : Shape → ℕ → Machine → ℕ → Status → Machine
+stepFrom s number m k Idle = m
+stepFrom s number m k (Busy o n) =
+    let r = step s number k o (m .memory) n in withProcess m k (stepped (processOf m k) r) (r .memory)
 
-unfoldable pub stepOf : Shape → Machine → ℕ → Machine
-stepOf s m k = stepFrom s m k (processOf m k .status)
+unfoldable pub stepOf : Shape → ℕ → Machine → ℕ → Machine
+stepOf s number m k = stepFrom s number m k (processOf m k .status)
 
 -- what that step tells: whether it is a help
-unfoldable pub helpFrom : Shape → Machine → ℕ → Status → Bool
-helpFrom s m k Idle = false
-helpFrom s m k (Busy o n) = step s k o (m .memory) n .helped
+unfoldable pub helpFrom : Shape → ℕ → Machine → ℕ → Status → Bool
+helpFrom s number m k Idle = false
+helpFrom s number m k (Busy o n) = step s number k o (m .memory) n .helped
 
-unfoldable pub helpBy : Shape → Machine → ℕ → Bool
-helpBy s m k = helpFrom s m k (processOf m k .status)
+unfoldable pub helpBy : Shape → ℕ → Machine → ℕ → Bool
+helpBy s number m k = helpFrom s number m k (processOf m k .status)

@@ -61,10 +61,12 @@ help s m w a child c = if absent (block s m child c) then resume a w else advanc
 
 -- ---- the blocks that are written
 
--- A: the totals of block b plus this operation, super 0; a put's value in end left
-unfoldable pub plusOperation : Operation → Block → Block
-plusOperation (Put x) b = record { puts = b .puts + 1; takes = b .takes; superblock = 0; left = x; right = 0; size = 0 }
-plusOperation Take b = record { puts = b .puts; takes = b .takes + 1; superblock = 0; left = 0; right = 0; size = 0 }
+-- A: the totals of block b plus this operation, super 0; a put's value in end left; the number of the record
+unfoldable pub plusOperation : ℕ → Operation → Block → Block
+plusOperation number (Put x) b =
+    record { puts = b .puts + 1; takes = b .takes; superblock = 0; left = x; right = 0; size = 0; number = number }
+plusOperation number Take b =
+    record { puts = b .puts; takes = b .takes + 1; superblock = 0; left = 0; right = 0; size = 0; number = number }
 
 -- C3N: whether the totals, sums of the two children's blocks, equal those of v's block before, which is old
 unfoldable pub sameTotals : ℕ → ℕ → Block → Bool
@@ -75,10 +77,18 @@ unfoldable pub built : ℕ → Block → ℕ → ℕ → ℕ → ℕ → Built
 built v old l r puts takes =
     record { left = l; right = r; puts = puts; takes = takes; size = if eqb v root then rootSize old puts takes else 0 }
 
--- C4: the block, with super 0
-unfoldable pub blockOf : Built → Block
-blockOf n =
-    record { puts = n .puts; takes = n .takes; superblock = 0; left = n .left; right = n .right; size = n .size }
+-- C4: the block, with super 0 and the number of the record
+unfoldable pub blockOf : ℕ → Built → Block
+blockOf number n =
+    record {
+      puts = n .puts;
+      takes = n .takes;
+      superblock = 0;
+      left = n .left;
+      right = n .right;
+      size = n .size;
+      number = number;
+    }
 
 -- ---- the rules
 
@@ -89,8 +99,8 @@ pub record Stepped : Type 0 where
   pub next : Status
   pub helped : Bool
 
--- a step of process k, inside operation o, on memory m: a line a named step
-module _ (s : Shape) (k : ℕ) (o : Operation) (m : Memory) where
+-- the record with this number is a step of process k, inside operation o, on memory m: a line a named step
+module _ (s : Shape) (number k : ℕ) (o : Operation) (m : Memory) where
   -- on to step n; V3 alone may be a help
   unfoldable pub goTelling : Memory → Step → Bool → Stepped
   goTelling after n helped = record { memory = after; next = Busy o n; helped = helped }
@@ -104,7 +114,7 @@ module _ (s : Shape) (k : ℕ) (o : Operation) (m : Memory) where
   step A =
       let v = leafOf s k in
       let h = headOf m v in
-      go (write s m v h (plusOperation o (block s m v (h - 1)))) (advance (record { node = v; refresh = First; head = h }) Up v h)
+      go (write s m v h (plusOperation number o (block s m v (h - 1)))) (advance (record { node = v; refresh = First; head = h }) Up v h)
   step (V1 a w v h) = go m (V2 a w v h (headOf m (parentOf v)))
   step (V2 a w v h x) = go (setSuper s m v h x) (V3 a w v h)
   step (V3 a w v h) = goTelling (raise m v h) (resume a w) (ofChild a && headIs m v h)
@@ -125,5 +135,5 @@ module _ (s : Shape) (k : ℕ) (o : Operation) (m : Memory) where
   step (C4 w n) =
       let v = w .node in
       let h = w .head in
-      go (writeIfAbsent s m v h (blockOf n)) (advance w (afterRefresh (w .refresh) (absent (block s m v h))) v h)
+      go (writeIfAbsent s m v h (blockOf number n)) (advance w (afterRefresh (w .refresh) (absent (block s m v h))) v h)
   step Q = record { memory = m; next = Idle; helped = false }

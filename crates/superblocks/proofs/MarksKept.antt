@@ -74,27 +74,27 @@ module _ (s : Shape) (m : Machine) (inv : Invariant s m) (k : ℕ) (kp : k < pro
     unfolding begin withProcess
     begin-supers =
         marks-keep s (m .memory) (m .memory) (statuses m) (statuses (begin m k o)) (machine-facts s m inv) (machine-facts s (begin m k o) (begin-keeps s m inv k kp o rests few)) k kp o
-        (subst (λ (y : Status). Effect s k o (m .memory) (holding m k) (m .memory) (stageOf y)) (sym begun-status) (still s k o (m .memory) (λ d u h e q. absurd q)))
+        (subst (λ (y : Status). Effect s 0 k o (m .memory) (holding m k) (m .memory) (stageOf y)) (sym begun-status) (still s 0 k o (m .memory) (λ d u h e q. absurd q)))
         (λ r ne. ap (λ (p : Process). p .status) (begun-other s m inv k kp o rests few r ne))
         (subst (λ (y : Status). Traces s (m .memory) (statuses m k) (m .memory) y) (sym begun-status) (quiet s (m .memory) (statuses m k) o A (λ v i z. elim [ ], λ v i l. elim [ ])))
         old
         (λ d u i z here low q. subst (Seen (m .memory) d u i z) (sym begun-status) (λ e l. tt))
 
 -- ---- a step
-module _ (s : Shape) (tall : 1 ≤ s .height) (m : Machine) (inv : Invariant s m) (k : ℕ) (kp : k < processes s) (o : Operation) (n : Step)
+module _ (s : Shape) (tall : 1 ≤ s .height) (number : ℕ) (m : Machine) (inv : Invariant s m) (k : ℕ) (kp : k < processes s) (o : Operation) (n : Step)
     (busy : processOf m k .status ≡ Busy o n) (old : SuperInvariant s m)
   where
     abbrev r : Stepped
-    r = step s k o (m .memory) n
+    r = step s number k o (m .memory) n
 
     abbrev at' : ℕ → Status
-    at' = statuses (stepOf s m k)
+    at' = statuses (stepOf s number m k)
 
     abbrev b : ℕ
     b = processOf m k .begun
 
     next : at' k ≡ r .next
-    next = ap (λ (p : Process). p .status) (stepped-here s tall m inv k kp o n busy)
+    next = ap (λ (p : Process). p .status) (stepped-here s tall number m inv k kp o n busy)
 
     own : OwnLeaf s (m .memory) k b (stage n)
     own = subst (λ (x : Status). OwnLeaf s (m .memory) k b (stageOf x)) busy (inv .process k kp .leaf)
@@ -117,15 +117,15 @@ module _ (s : Shape) (tall : 1 ≤ s .height) (m : Machine) (inv : Invariant s m
     stepped : MarksHold s (r .memory) at'
     stepped =
         marks-keep s (m .memory) (r .memory) (statuses m) at' (machine-facts s m inv)
-        (subst (λ (x : Memory). MachineFacts s x at') (stepped-memory s tall m inv k kp o n busy) (machine-facts s (stepOf s m k) (step-keeps s tall m inv k kp o n busy))) k kp o
-        (subst (λ (y : Status). Effect s k o (m .memory) (holding m k) (r .memory) (stageOf y)) (sym next) (step-effect s tall m inv k kp o n busy))
-        (λ j ne. ap (λ (p : Process). p .status) (stepped-other s tall m inv k kp o n busy j ne))
+        (subst (λ (x : Memory). MachineFacts s x at') (stepped-memory s tall number m inv k kp o n busy) (machine-facts s (stepOf s number m k) (step-keeps s tall number m inv k kp o n busy))) k kp o
+        (subst (λ (y : Status). Effect s number k o (m .memory) (holding m k) (r .memory) (stageOf y)) (sym next) (step-effect s tall number m inv k kp o n busy))
+        (λ j ne. ap (λ (p : Process). p .status) (stepped-other s tall number m inv k kp o n busy j ne))
         (subst (λ (x : Status). Traces s (m .memory) x (r .memory) (at' k)) (sym busy)
-        (subst (Traces s (m .memory) (Busy o n) (r .memory)) (sym next) (traces s (m .memory) (inv .sized) (inv .sound) (holding m) k kp o b n own carried asked raised)))
+        (subst (Traces s (m .memory) (Busy o n) (r .memory)) (sym next) (traces s (m .memory) (inv .sized) (inv .sound) (holding m) number k kp o b n own carried asked raised)))
         old
         (λ d u i z here low q.
         subst (Seen (r .memory) d u i z) (sym next)
-        (seen-turn s (m .memory) (inv .sound) o u i z (inv .sized) (holding m) k b n d here low carried (subst (Seen (m .memory) d u i z) busy q)))
+        (seen-turn s (m .memory) (inv .sound) o u i z (inv .sized) (holding m) number k b n d here low carried (subst (Seen (m .memory) d u i z) busy q)))
 
-    pub step-supers : SuperInvariant s (stepOf s m k)
-    step-supers = subst (λ (x : Memory). MarksHold s x at') (sym (stepped-memory s tall m inv k kp o n busy)) stepped
+    pub step-supers : SuperInvariant s (stepOf s number m k)
+    step-supers = subst (λ (x : Memory). MarksHold s x at') (sym (stepped-memory s tall number m inv k kp o n busy)) stepped

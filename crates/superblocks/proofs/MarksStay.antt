@@ -46,8 +46,8 @@ seen-held m i z Idle d u h e q p l = absurd q
 seen-held m i z (Busy o n) d u h e q p l = held-seen m i z (stage n) (ownSight n d) d u h e q p l
 
 -- ---- a step of process k: from memory m and statuses at to memory n and statuses at'
-module _ (s : Shape) (m n : Memory) (at at' : ℕ → Status) (facts : MachineFacts s m at) (facts' : MachineFacts s n at') (k : ℕ) (kp : k < processes s) (o : Operation)
-    (eff : Effect s k o m (stageOf (at k)) n (stageOf (at' k))) (others : (r : ℕ) → r ≢ k → at' r ≡ at r) (tr : Traces s m (at k) n (at' k)) (old : MarksHold s m at)
+module _ (s : Shape) (m n : Memory) (at at' : ℕ → Status) (facts : MachineFacts s m at) (facts' : MachineFacts s n at') {number : ℕ} (k : ℕ) (kp : k < processes s) (o : Operation)
+    (eff : Effect s number k o m (stageOf (at k)) n (stageOf (at' k))) (others : (r : ℕ) → r ≢ k → at' r ≡ at r) (tr : Traces s m (at k) n (at' k)) (old : MarksHold s m at)
   where
     abbrev sound : Sound s m
     sound = facts .sound

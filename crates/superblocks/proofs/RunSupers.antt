@@ -20,8 +20,9 @@ use Rattle.superblocks.proofs.Marks.{SuperInvariant, statuses}
 use Rattle.superblocks.proofs.MarksKept.{start-supers, begin-supers, step-supers}
 use Rattle.superblocks.proofs.NearSuper.{superblock-near}
 use Rattle.calls.specs.Refusals.{accepted, callRefusal}
+use Rattle.calls.specs.Numbered.{Numbered, numbered}
 use Rattle.calls.specs.Run.{operationOf, takeRecord, play, run}
-use Rattle.calls.specs.History.{machineAfter}
+use Rattle.calls.specs.History.{courseStart, courseAfter, machineAfter}
 use Rattle.superblocks.specs.Supers.{SupersNear, RunSupers}
 use Rattle.calls.proofs.Legal.{Accepted, Legal, none, more, not-step}
 use Rattle.calls.proofs.Histories.{machine-snoc}
@@ -30,21 +31,22 @@ use Rattle.calls.proofs.Runs.{busy-status, runs}
 use Rattle.calls.proofs.Theorem.{tall-for, run-is, table-is}
 
 -- ---- one record more
-record-supers : (s : Shape) → 1 ≤ s .height → (m : Machine) → Invariant s m → (r : StepRecord) → Accepted s m r → SuperInvariant s m → SuperInvariant s (takeRecord s m r)
+record-supers : (s : Shape) → 1 ≤ s .height → (m : Machine) → Invariant s m → (n : Numbered) → Accepted s m (n .item) → SuperInvariant s m → SuperInvariant s (takeRecord s m n)
 unfolding takeRecord
-record-supers s tall m inv r acc old =
+record-supers s tall m inv n acc old =
+    let r = n .item in
     cases (SuperInvariant s) (isStep r)
     (λ z.
     let busy = busy-status (processOf m (r .process) .status) (acc .busy z) in
-    step-supers s tall m inv (r .process) (acc .process-low) (busy .0) (busy .1) (busy .2) old)
+    step-supers s tall (n .number) m inv (r .process) (acc .process-low) (busy .0) (busy .1) (busy .2) old)
     (λ z. begin-supers s m inv (r .process) (acc .process-low) (operationOf r) (acc .idle (not-step r z)) (acc .within (not-step r z)) old)
 
 -- ---- every legal list
-runs-supers : (s : Shape) → 1 ≤ s .height → {rs : List StepRecord} → Legal s rs → SuperInvariant s (machineAfter s rs)
-unfolding machineAfter
+runs-supers : (s : Shape) → 1 ≤ s .height → {ns : List Numbered} → Legal s ns → SuperInvariant s (machineAfter s ns)
+unfolding machineAfter courseAfter courseStart
 runs-supers s tall none = start-supers s
-runs-supers s tall (more {rs} {r} l a) =
-    subst (SuperInvariant s) (sym (machine-snoc s rs r)) (record-supers s tall (machineAfter s rs) (runs s tall l .invariant) r a (runs-supers s tall l))
+runs-supers s tall (more {ns} n l a) =
+    subst (SuperInvariant s) (sym (machine-snoc s ns n)) (record-supers s tall (machineAfter s ns) (runs s tall l .invariant) n a (runs-supers s tall l))
 
 -- ---- the words of the table
 supers-near : (s : Shape) (m : Machine) → Invariant s m → SuperInvariant s m → SupersNear s (m .memory .table)
@@ -60,9 +62,10 @@ supers-near s m inv sup =
 -- ---- a run of any records, to its end or up to its first refusal
 pub played-supers : (s : Shape) → 1 ≤ s .height → (room : ℕ) (rs : List StepRecord) → SupersNear s (play s room rs .machine .memory .table)
 played-supers s tall room rs =
-    let l : Legal s (take (play s room rs .taken) rs) = played-legal s room rs in
+    let took = numbered (take (play s room rs .taken) rs) in
+    let l : Legal s took = played-legal s room rs in
     subst (λ (m : Machine). SupersNear s (m .memory .table)) (sym (played-machine s room rs))
-    (supers-near s (machineAfter s (take (play s room rs .taken) rs)) (runs s tall l .invariant) (runs-supers s tall l))
+    (supers-near s (machineAfter s took) (runs s tall l .invariant) (runs-supers s tall l))
 
 -- ---- what a call of Run that is not turned down leaves in the table
 pub supers-run : (p l : ℕ) (records table answers : List ℕ) → accepted (callRefusal p l (length table) (length records)) ≡ true → RunSupers p l (run p l records table answers)

@@ -82,7 +82,7 @@ module _ (s : Shape) (m : Memory) (sound : Sound s m) (o : Operation) (u i z : �
   seen-resume sized d Again w v h nv here q = λ e l. tt
   seen-resume sized d Up w v h nv here q = seen-above d (raise m v h) (w .node)
 
-  module _ (sized : Sized s m) (hold : ℕ → Stage) (k b : ℕ) where
+  module _ (sized : Sized s m) (hold : ℕ → Stage) (number k b : ℕ) where
     -- R2, R4: the head that is read is not before the block
     head-read : (d : Side) (v : ℕ) → i ≤ headOf m (childOf d u) → v ≡ u → Covers m d u i (looking (headOf m (childOf d v)))
     head-read d v l e = rw e (l, le-refl _)
@@ -97,7 +97,7 @@ module _ (s : Shape) (m : Memory) (sound : Sound s m) (o : Operation) (u i z : �
 
     -- every step
     pub seen-turn : (n : Step) (d : Side) → Present s m (childOf d u) i → i ≤ headOf m (childOf d u) → Carried s m hold k b (stage n) → Seen m d u i z (Busy o n)
-        → Seen (step s k o m n .memory) d u i z (step s k o m n .next)
+        → Seen (step s number k o m n .memory) d u i z (step s number k o m n .next)
     unfolding step goTelling go resume setSuper write headOf built
     seen-turn A d here low carried q = seen-advance d _ _ Up (leafOf s k) (headOf m (leafOf s k)) (λ e l. tt)
     seen-turn (V1 a w v h) d here low carried q = q
@@ -130,5 +130,5 @@ module _ (s : Shape) (m : Memory) (sound : Sound s m) (o : Operation) (u i z : �
         seen-built onRight q = q
     seen-turn (C4 w n) d here low carried q =
         seen-advance d _ w _ (w .node) (w .head)
-        (λ e l. next-refresh (λ (a : After). Covers (step s k o m (C4 w n) .memory) d u i (helpSight a d (w .node) (w .head))) tt tt (w .refresh) (absent (block s m (w .node) (w .head))))
+        (λ e l. next-refresh (λ (a : After). Covers (step s number k o m (C4 w n) .memory) d u i (helpSight a d (w .node) (w .head))) tt tt (w .refresh) (absent (block s m (w .node) (w .head))))
     seen-turn Q d here low carried q = tt

@@ -151,20 +151,20 @@ module _ (s : Shape) (m : Memory) (sized : Sized s m) (v h x : ℕ) (nv : Node s
       on (inr p) = omega (arith, p .1, some (p .0))
 
 -- ---- every step
-plus-super : (o : Operation) (b : Block) → plusOperation o b .superblock ≡ 0
+plus-super : (number : ℕ) (o : Operation) (b : Block) → plusOperation number o b .superblock ≡ 0
 unfolding plusOperation
-plus-super (Put x) b = refl
-plus-super Take b = refl
+plus-super number (Put x) b = refl
+plus-super number Take b = refl
 
-module _ (s : Shape) (m : Memory) (sized : Sized s m) (sound : Sound s m) (hold : ℕ → Stage) (k : ℕ) (kp : k < processes s) (o : Operation) (b : ℕ) where
+module _ (s : Shape) (m : Memory) (sized : Sized s m) (sound : Sound s m) (hold : ℕ → Stage) (number k : ℕ) (kp : k < processes s) (o : Operation) (b : ℕ) where
   pub traces : (n : Step) → OwnLeaf s m k b (stage n) → Carried s m hold k b (stage n) → ((v i z : ℕ) → Asks v i z (Busy o n) → 1 < v → super s m v i ≡ 0 → 1 ≤ z)
-      → ((v i : ℕ) → 1 < v → Raises v i (Busy o n) → 1 ≤ super s m v i) → Traces s m (Busy o n) (step s k o m n .memory) (step s k o m n .next)
+      → ((v i : ℕ) → 1 < v → Raises v i (Busy o n) → 1 ≤ super s m v i) → Traces s m (Busy o n) (step s number k o m n .memory) (step s number k o m n .next)
   unfolding step goTelling go write writeIfAbsent setSuper raise headOf blockOf
   traces A own carried some set =
       let h = headOf m (leafOf s k) in
       let none = own .ends h (omega (arith, own .some, own .head)) in
       quiet-after s m _ _ o _ (advance-quiet o _ Up (leafOf s k) h)
-      (λ v i. inl (fresh-super s m sized sound (leafOf s k) h _ (leaf-node s k kp) none (plus-super o _) v i)) (λ v. inl refl)
+      (λ v i. inl (fresh-super s m sized sound (leafOf s k) h _ (leaf-node s k kp) none (plus-super number o _) v i)) (λ v. inl refl)
   traces (V1 a w u h) own carried some set =
       record {
         supers = λ v i. inl refl;
@@ -198,5 +198,5 @@ module _ (s : Shape) (m : Memory) (sized : Sized s m) (sound : Sound s m) (hold 
   traces (C4 w n) own carried some set =
       let inner = step-nodes s m hold k kp b (C4 w n) carried in
       quiet-after s m _ _ o _ (advance-quiet o w (afterRefresh (w .refresh) (absent (block s m (w .node) (w .head)))) (w .node) (w .head))
-      (write-super s m sized sound (w .node) (w .head) (blockOf n) (inner-node s (w .node) inner) refl (Busy o (C4 w n))) (λ v. inl refl)
+      (write-super s m sized sound (w .node) (w .head) (blockOf number n) (inner-node s (w .node) inner) refl (Busy o (C4 w n))) (λ v. inl refl)
   traces Q own carried some set = record { supers = λ v i. inl refl; heads = λ v. inl refl; comesToV2 = λ v i z. elim [ ]; comesToV3 = λ v i l. elim [ ] }

@@ -9,7 +9,7 @@ use lib.Seq.{set-getD, getD-set-other}
 use borrow.Author.Tests.{eq-eqb, ne-eqb}
 use Rattle.tree.specs.declared.Block.{Block}
 use Rattle.tree.specs.Layout.{blockWords}
-use Rattle.tree.specs.Blocks.{wordIn, blockIn, wordsOf, withBlock, putsWord, takesWord, superWord, leftWord, rightWord, sizeWord}
+use Rattle.tree.specs.Blocks.{wordIn, blockIn, wordsOf, withBlock, putsWord, takesWord, superWord, leftWord, rightWord, sizeWord, numberWord}
 use Rattle.tree.specs.Memory.{withSuper}
 
 -- word j of block i of a part
@@ -20,8 +20,8 @@ module _ (l : List ℕ) (i : ℕ) where
   -- a list after stores at the words of block i
   abbrev stored : Block → List ℕ
   stored b =
-      set (set (set (set (set (set l (word i putsWord) (b .puts)) (word i takesWord) (b .takes)) (word i superWord) (b .superblock))
-      (word i leftWord) (b .left)) (word i rightWord) (b .right)) (word i sizeWord) (b .size)
+      set (set (set (set (set (set (set l (word i putsWord) (b .puts)) (word i takesWord) (b .takes)) (word i superWord) (b .superblock))
+      (word i leftWord) (b .left)) (word i rightWord) (b .right)) (word i sizeWord) (b .size)) (word i numberWord) (b .number)
 
   pub block-stored : (b : Block) → stored b ≡ withBlock l i b
   unfolding withBlock wordsOf
@@ -32,7 +32,8 @@ module _ (l : List ℕ) (i : ℕ) where
       let l : word i leftWord ≡ suc (suc (suc (blockWords * i))) = omega arith in
       let r : word i rightWord ≡ suc (suc (suc (suc (blockWords * i)))) = omega arith in
       let z : word i sizeWord ≡ suc (suc (suc (suc (suc (blockWords * i))))) = omega arith in
-      rw (p, t, u, l, r, z)
+      let n : word i numberWord ≡ suc (suc (suc (suc (suc (suc (blockWords * i)))))) = omega arith in
+      rw (p, t, u, l, r, z, n)
 
 module _ (l : List ℕ) (i x : ℕ) where
   -- a store of what stands there changes nothing, also after a store elsewhere
@@ -49,6 +50,7 @@ module _ (l : List ℕ) (i x : ℕ) where
         left = wordIn l i leftWord;
         right = wordIn l i rightWord;
         size = wordIn l i sizeWord;
+        number = wordIn l i numberWord;
       }
 
   one-store : set l (word i superWord) x ≡ withBlock l i withWord
@@ -61,6 +63,7 @@ module _ (l : List ℕ) (i x : ℕ) where
         kept (word i leftWord) (omega arith),
         kept (word i rightWord) (omega arith),
         kept (word i sizeWord) (omega arith),
+        kept (word i numberWord) (omega arith),
       )
 
   pub super-stored : getD l (word i superWord) 0 ≡ 0 → set l (word i superWord) x ≡ withBlock l i (withSuper (blockIn l i) x)

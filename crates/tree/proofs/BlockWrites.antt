@@ -24,6 +24,7 @@ block-by-words part i b h =
       left = h 3 (lit< tt) z;
       right = h 4 (lit< tt) z;
       size = h 5 (lit< tt) z;
+      number = h 6 (lit< tt) z;
     }
 
 -- the words of a block are those that it was read from
@@ -35,7 +36,8 @@ words-of-block part i (suc (suc zero)) h = refl
 words-of-block part i (suc (suc (suc zero))) h = refl
 words-of-block part i (suc (suc (suc (suc zero)))) h = refl
 words-of-block part i (suc (suc (suc (suc (suc zero))))) h = refl
-words-of-block part i (suc (suc (suc (suc (suc (suc j)))))) h = absurd (omega arith)
+words-of-block part i (suc (suc (suc (suc (suc (suc zero)))))) h = refl
+words-of-block part i (suc (suc (suc (suc (suc (suc (suc j))))))) h = absurd (omega arith)
 
 module _ (part : List ℕ) (i : ℕ) (b : Block) where
   word-same : (j : ℕ) → blockWords * suc i ≤ length part → j < blockWords → wordIn (withBlock part i b) i j ≡ getD (wordsOf b) j 0

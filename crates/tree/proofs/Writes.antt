@@ -23,7 +23,7 @@ use Rattle.tree.specs.Contracts.Invariant.{Node, Sized, zeros}
 -- a part in which a place's words read as zero has the zero block there
 pub block-zeros : (part : List ℕ) (i : ℕ) → ((j : ℕ) → wordIn part i j ≡ 0) → blockIn part i ≡ zeros
 unfolding blockIn zeros
-block-zeros part i h = λ z. record { puts = h 0 z; takes = h 1 z; superblock = h 2 z; left = h 3 z; right = h 4 z; size = h 5 z }
+block-zeros part i h = λ z. record { puts = h 0 z; takes = h 1 z; superblock = h 2 z; left = h 3 z; right = h 4 z; size = h 5 z; number = h 6 z }
 
 -- a place past the end reads as zeros, whatever the table
 past-end : (s : Shape) (t : List ℕ) (v i : ℕ) → 0 < v → lastPlace s v < i → blockAt s t v i ≡ zeros

@@ -33,6 +33,9 @@ rightWord = 4
 abbrev pub sizeWord : ℕ
 sizeWord = 5
 
+abbrev pub numberWord : ℕ
+numberWord = 6
+
 -- the block at place i of a part
 unfoldable pub blockIn : List ℕ → ℕ → Block
 blockIn part i =
@@ -43,11 +46,12 @@ blockIn part i =
       left = wordIn part i leftWord;
       right = wordIn part i rightWord;
       size = wordIn part i sizeWord;
+      number = wordIn part i numberWord;
     }
 
 -- the words of a block, and the part with block b at place i
 unfoldable pub wordsOf : Block → List ℕ
-wordsOf b = b .puts ∷ b .takes ∷ b .superblock ∷ b .left ∷ b .right ∷ b .size ∷ []
+wordsOf b = b .puts ∷ b .takes ∷ b .superblock ∷ b .left ∷ b .right ∷ b .size ∷ b .number ∷ []
 
 unfoldable pub withBlock : List ℕ → ℕ → Block → List ℕ
 withBlock part i b = sets part (blockWords * i) (wordsOf b)

@@ -4,9 +4,9 @@ use mathlib.Core.List.{List, _++_}
 use lib.ListN.{take, drop}
 use Rattle.tree.specs.Shape.{Shape, processes, lastPlace}
 
--- the words of a block: puts, takes, super, end left, end right, size
+-- the words of a block: puts, takes, super, end left, end right, size, number
 abbrev pub blockWords : ℕ
-blockWords = 6
+blockWords = 7
 
 -- the words of node v's part, places 0 to the last (there is no node 0)
 unfoldable pub partWords : Shape → ℕ → ℕ
@@ -18,7 +18,7 @@ unfoldable pub partStart : Shape → ℕ → ℕ
 partStart s zero = 0
 partStart s (suc v) = partStart s v + partWords s v
 
--- words needed: 6 × ((H + 1) × p × L + 2p − 1)
+-- words needed: 7 × ((H + 1) × p × L + 2p − 1)
 unfoldable pub wordsNeeded : Shape → ℕ
 wordsNeeded s = blockWords * ((s .height + 1) * processes s * s .most + (2 * processes s - 1))
 

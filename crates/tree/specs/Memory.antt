@@ -44,6 +44,7 @@ withSuper b x =
       left = b .left;
       right = b .right;
       size = b .size;
+      number = b .number;
     }
 
 unfoldable pub setSuper : Shape → Memory → ℕ → ℕ → ℕ → Memory

@@ -3,6 +3,7 @@ use crate::BLOCK_WORDS;
 use crate::Block;
 use crate::Kind;
 use crate::LEFT_WORD;
+use crate::NUMBER_WORD;
 use crate::PUTS_WORD;
 use crate::RIGHT_WORD;
 use crate::SIZE_WORD;
@@ -16,7 +17,7 @@ ghost use Rattle.tree.specs.Blocks.{blockIn, withBlock, absent as absent
 ghost use Rattle.tree.specs.Memory.{withSuper};
 ghost use Rattle.tree.specs.Order.{total as totalOf};
 
-// The block at place i, whose six words the part has.
+// The block at place i, whose words the part has.
 pub fn block_in(part: &[u32], i: usize) -> Block
     requires { ⌜ blockWords * i + blockWords ≤ length (now part) ⌝ }
     ensures { λ r. ⌜ r ≡ blockIn (now (part .entry)) i ⌝ }
@@ -29,6 +30,7 @@ pub fn block_in(part: &[u32], i: usize) -> Block
         left: part[at + LEFT_WORD],
         right: part[at + RIGHT_WORD],
         size: part[at + SIZE_WORD],
+        number: part[at + NUMBER_WORD],
     }
 }
 
@@ -59,7 +61,7 @@ pub fn total(kind: Kind, b: Block) -> u32
     }
 }
 
-// Block b at place i, whose six words the part has. No other word changes.
+// Block b at place i, whose words the part has. No other word changes.
 pub fn write_block(part: &mut [u32], i: usize, b: Block)
     requires { ⌜ blockWords * i + blockWords ≤ length (now part) ⌝ }
     ensures { λ _. ⌜ now (part .exit) ≡ withBlock (now (part .entry)) i b ⌝ }
@@ -71,6 +73,7 @@ pub fn write_block(part: &mut [u32], i: usize, b: Block)
     part[at + LEFT_WORD] = b.left;
     part[at + RIGHT_WORD] = b.right;
     part[at + SIZE_WORD] = b.size;
+    part[at + NUMBER_WORD] = b.number;
 }
 
 // The superblock of the block at place i set to x, if it is 0. Only that word is touched.

@@ -9,7 +9,7 @@ pub mod layout;
 pub mod table;
 
 // The words of a block in the work table, and the place of each among them.
-pub const BLOCK_WORDS: usize = 6;
+pub const BLOCK_WORDS: usize = 7;
 
 pub const PUTS_WORD: usize = 0;
 
@@ -23,8 +23,10 @@ pub const RIGHT_WORD: usize = 4;
 
 pub const SIZE_WORD: usize = 5;
 
-// A block of a node: six words of the work table. `superblock` is the paper's super. `left` and `right` are the ends in
-// the children; in a leaf, `left` holds the put's value.
+pub const NUMBER_WORD: usize = 6;
+
+// A block of a node, as words of the work table. `superblock` is the paper's super. `left` and `right` are the ends in
+// the children; in a leaf, `left` holds the put's value. `number` is that of the record that wrote it.
 pub struct Block {
     pub puts: u32,
     pub takes: u32,
@@ -32,6 +34,7 @@ pub struct Block {
     pub left: u32,
     pub right: u32,
     pub size: u32,
+    pub number: u32,
 }
 
 // A block's puts and takes.

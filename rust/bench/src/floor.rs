@@ -1,7 +1,7 @@
 //! Run in unchecked Rust, the floor that the others are compared with. The registers of all steps
 //! lie flat in one cache line a process, each step changes only its own, and no index is checked.
 
-use crate::layout::{first_blocks, BLOCK_WORDS, LEFT, PUTS, RIGHT, SIZE, SUPER, TAKES};
+use crate::layout::{first_blocks, BLOCK_WORDS, LEFT, NUMBER, PUTS, RIGHT, SIZE, SUPER, TAKES};
 use crate::ran::Ran;
 
 /// What a process does next. `IDLE` is 0 so that one comparison finds it.
@@ -242,9 +242,9 @@ impl Process {
         }
     }
 
-    /// One step that is not Q.
+    /// One step that is not Q, by the record with this number.
     #[inline(always)]
-    unsafe fn step(&mut self, memory: Memory, leaf: u32) {
+    unsafe fn step(&mut self, memory: Memory, leaf: u32, number: u32) {
         match self.next {
             A => {
                 let head = *memory.head(leaf);
@@ -253,6 +253,7 @@ impl Process {
                 *block = *before + (self.kind == 1) as u32;
                 *block.add(TAKES) = *before.add(TAKES) + (self.kind == 2) as u32;
                 *block.add(LEFT) = self.value;
+                *block.add(NUMBER) = number;
                 self.node = leaf;
                 self.advance(leaf, head, Q);
             }
@@ -332,6 +333,7 @@ impl Process {
                     *block.add(LEFT) = self.read;
                     *block.add(RIGHT) = self.right;
                     *block.add(SIZE) = self.size;
+                    *block.add(NUMBER) = number;
                 } else if self.second == 0 {
                     self.second = 1;
                     after = R1;
@@ -399,7 +401,7 @@ unsafe fn play(
                 break;
             } else {
                 q.steps += 1;
-                q.step(memory, p + record as u32);
+                q.step(memory, p + record as u32, i as u32 + 1);
             }
         } else {
             let (k, kind) = (record as u8, (record >> 8) as u8);

@@ -6,7 +6,8 @@ pub const SUPER: usize = 2;
 pub const LEFT: usize = 3;
 pub const RIGHT: usize = 4;
 pub const SIZE: usize = 5;
-pub const BLOCK_WORDS: usize = 6;
+pub const NUMBER: usize = 6;
+pub const BLOCK_WORDS: usize = 7;
 
 /// By node number, how many blocks stand before the node's; the entry past the last node's, and
 /// all after it, are the blocks of the whole table. The refusal's number if p or l is improper.

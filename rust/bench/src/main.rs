@@ -6,6 +6,7 @@ mod layout;
 mod ran;
 mod safe;
 
+use layout::BLOCK_WORDS;
 use ran::Ran;
 use reference::schedules::{schedule, Pace, Plan};
 use std::hint::black_box;
@@ -57,7 +58,7 @@ impl Buffers {
     /// Filled, so that what a player leaves unwritten is seen.
     fn new() -> Buffers {
         Buffers {
-            table: vec![0xa5a5_a5a5; 6 * (4 * P * L + 2 * P - 1) as usize + 1],
+            table: vec![0xa5a5_a5a5; BLOCK_WORDS * (4 * P * L + 2 * P - 1) as usize + 1],
             answers: vec![0xa5; (16 * P * L) as usize + 1],
         }
     }

@@ -1,6 +1,6 @@
 //! Run in safe Rust: processes in place, an enum of steps with their registers.
 
-use crate::layout::{first_blocks, BLOCK_WORDS, LEFT, PUTS, RIGHT, SIZE, SUPER, TAKES};
+use crate::layout::{first_blocks, BLOCK_WORDS, LEFT, NUMBER, PUTS, RIGHT, SIZE, SUPER, TAKES};
 use crate::ran::Ran;
 
 type Block = [u32; BLOCK_WORDS];
@@ -125,12 +125,12 @@ impl Memory<'_> {
         index < self.first[node as usize + 1] && present(&self.blocks[index])
     }
 
-    /// Any step but Q; `step` becomes the one that follows it. Whether it moved a child's head
-    /// inside a refresh.
+    /// Any step but Q, by the record with this number; `step` becomes the one that follows it.
+    /// Whether it moved a child's head inside a refresh.
     #[inline]
-    fn step(&mut self, leaf: u32, operation: Operation, step: &mut Step) -> bool {
+    fn step(&mut self, leaf: u32, operation: Operation, step: &mut Step, number: u32) -> bool {
         match *step {
-            Step::A => *step = self.append(leaf, operation),
+            Step::A => *step = self.append(leaf, operation, number),
             Step::V1(refresh, advance) => {
                 *step = Step::V2(refresh, advance, self.head(advance.node / 2));
             }
@@ -184,6 +184,7 @@ impl Memory<'_> {
                 let success = !present(block);
                 if success {
                     *block = new;
+                    block[NUMBER] = number;
                 }
                 let after = if success || refresh.tries == 1 {
                     After::Up
@@ -198,13 +199,13 @@ impl Memory<'_> {
     }
 
     #[inline]
-    fn append(&mut self, leaf: u32, operation: Operation) -> Step {
+    fn append(&mut self, leaf: u32, operation: Operation, number: u32) -> Step {
         let head = self.head(leaf);
         let before = self.block(leaf, head - 1);
         let (puts, takes) = (before[PUTS], before[TAKES]);
         *self.block_mut(leaf, head) = match operation {
-            Operation::Put(value) => [puts + 1, takes, 0, value, 0, 0],
-            Operation::Take => [puts, takes + 1, 0, 0, 0, 0],
+            Operation::Put(value) => [puts + 1, takes, 0, value, 0, 0, number],
+            Operation::Take => [puts, takes + 1, 0, 0, 0, 0, number],
         };
         let refresh = Refresh {
             node: leaf,
@@ -236,7 +237,8 @@ impl Memory<'_> {
         } else {
             0
         };
-        Step::C4(refresh, [puts, takes, 0, left, right, size])
+        // C4 writes its own record's number.
+        Step::C4(refresh, [puts, takes, 0, left, right, size, 0])
     }
 
     /// The first place of the node from `low + 1` to `high` whose word reaches `wanted`. The word
@@ -454,7 +456,7 @@ pub fn run(p: u32, l: u32, records: &[u8], table: &mut [u32], answers: &mut [u8]
                 ran.answers += 1;
             }
             (Act::Step, Activity::Busy { operation, step }) => {
-                let helped = memory.step(leaf, *operation, step);
+                let helped = memory.step(leaf, *operation, step, ran.taken as u32 + 1);
                 process.steps += 1;
                 process.helps += u8::from(helped);
             }

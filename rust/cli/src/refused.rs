@@ -5,7 +5,7 @@ use crate::json::Json;
 use crate::list::List;
 use crate::notation::Record;
 use crate::words::{count, hex, step};
-use otq::{Answer, Refusal, Step};
+use otq::{Answer, Refusal, Run, Step};
 
 /// What to do about a refusal.
 pub fn advice(refusal: Refusal) -> &'static str {
@@ -68,6 +68,12 @@ pub struct Refused<'a> {
 }
 
 impl Refused<'_> {
+    /// The refusal of a run of the list, if there is one.
+    pub fn of_run<'a>(list: &'a List, run: &Run) -> Option<Refused<'a>> {
+        let refusal = run.refusal?;
+        Some(Refused::of_list(list, refusal, run.taken as usize))
+    }
+
     /// A refusal of a list of which so many records were taken.
     pub fn of_list(list: &List, refusal: Refusal, taken: usize) -> Refused<'_> {
         Refused::new(list, Call::Play, refusal, taken)

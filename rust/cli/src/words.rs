@@ -1,7 +1,7 @@
 //! Records as lines of text.
 
 use crate::notation::{Line, Record};
-use otq::{Answer, Kind, Order, Outcome};
+use otq::{Answer, Kind, Order, Outcome, ROOT};
 
 /// A step record in the notation.
 pub fn step(record: Record) -> String {
@@ -65,6 +65,15 @@ pub fn hex(bytes: &[u8]) -> String {
     bytes.join(" ")
 }
 
+/// A node of the tree of p processes: the root, an inner node by its number, a leaf by its process.
+pub fn node_name(p: u32, node: u32) -> String {
+    match node {
+        ROOT => "the root".to_string(),
+        inner if inner < p => format!("node {inner}"),
+        leaf => format!("leaf {}", leaf - p),
+    }
+}
+
 /// A number of things, such as `1 put` and `2 puts`.
 pub fn count(number: usize, thing: &str) -> String {
     match number {
@@ -73,7 +82,7 @@ pub fn count(number: usize, thing: &str) -> String {
     }
 }
 
-/// The same with commas between thousands, such as `1,770 words`.
+/// The same with commas between thousands, such as `2,065 words`.
 pub fn amount(number: u64, thing: &str) -> String {
     let counted = count(number as usize, thing);
     let digits = number.to_string().len();
@@ -89,7 +98,14 @@ pub fn amount(number: u64, thing: &str) -> String {
 
 #[cfg(test)]
 mod tests {
-    use super::amount;
+    use super::{amount, node_name};
+
+    #[test]
+    fn nodes() {
+        let names = [1, 2, 3, 4, 7].map(|node| node_name(4, node));
+        assert_eq!(names, ["the root", "node 2", "node 3", "leaf 0", "leaf 3"]);
+        assert_eq!(node_name(2, 3), "leaf 1");
+    }
 
     #[test]
     fn amounts() {

@@ -6,7 +6,7 @@ use crate::support::{
 };
 use std::fs;
 
-const LINE: &str = "room for 12 operations: 1,770 words, 192 answer bytes, at most 984 records\n";
+const LINE: &str = "room for 12 operations: 2,065 words, 192 answer bytes, at most 984 records\n";
 
 #[test]
 fn text_and_records() {
@@ -29,14 +29,14 @@ fn told(name: &str, text: &str) -> String {
 
 #[test]
 fn few_begins() {
-    let none = "room for 0 operations: 1,770 words, 0 answer bytes, at most 0 records\n";
+    let none = "room for 0 operations: 2,065 words, 0 answer bytes, at most 0 records\n";
     assert_eq!(told("none", ""), none);
     let empty = file("forecast.empty", b"");
     let words = with_numbers("forecast", &[&empty]);
-    assert_eq!(written(&words), none.replace("1,770", "90"));
+    assert_eq!(written(&words), none.replace("2,065", "105"));
     assert_eq!(
         told("one", "processes 2\noperations 1\ntake by 1\n"),
-        "room for 1 operation: 42 words, 16 answer bytes, at most 42 records\n"
+        "room for 1 operation: 49 words, 16 answer bytes, at most 42 records\n"
     );
 }
 
@@ -46,15 +46,15 @@ fn the_most_begins() {
     for (p, told_of_p) in [
         (
             2,
-            "1,000 operations: 12,018 words, 16,000 answer bytes, at most 42,000 records",
+            "1,000 operations: 14,021 words, 16,000 answer bytes, at most 42,000 records",
         ),
         (
             4,
-            "2,000 operations: 36,042 words, 32,000 answer bytes, at most 164,000 records",
+            "2,000 operations: 42,049 words, 32,000 answer bytes, at most 164,000 records",
         ),
         (
             8,
-            "4,000 operations: 96,090 words, 64,000 answer bytes, at most 488,000 records",
+            "4,000 operations: 112,105 words, 64,000 answer bytes, at most 488,000 records",
         ),
     ] {
         let begins: String = (0..p)
@@ -70,7 +70,7 @@ fn the_most_begins() {
 #[test]
 fn buffers_of_the_heading() {
     let text = "processes 2\noperations 1\nanswers 0\ntable 0\nput 1 by 0\n";
-    assert!(told("buffers", text).starts_with("room for 1 operation: 42 words, 16 "));
+    assert!(told("buffers", text).starts_with("room for 1 operation: 49 words, 16 "));
 }
 
 /// Lists that are refused: a name, the text, and how what is told begins.
@@ -162,7 +162,7 @@ fn torn_records() {
     );
     let torn = file("forecast-torn.bin", &[0, 2, 0, 0, 0, 0, 0, 0, 1]);
     let whole = otq(&with_numbers("forecast", &[&torn, "--whole"]));
-    let line = "room for 1 operation: 90 words, 16 answer bytes, at most 42 records\n";
+    let line = "room for 1 operation: 105 words, 16 answer bytes, at most 42 records\n";
     assert_eq!((whole.status, whole.out.as_str()), (0, line));
     assert!(whole
         .err
@@ -214,7 +214,7 @@ fn whole_lists() {
 
 #[test]
 fn json() {
-    let line = r#"{"refusal": null, "operations": 12, "table_words": 1770, "answer_bytes": 192, "records": 984}"#;
+    let line = r#"{"refusal": null, "operations": 12, "table_words": 2065, "answer_bytes": 192, "records": 984}"#;
     assert_eq!(
         written(&["forecast", "--json", BEGINS]),
         format!("{line}\n")
@@ -281,7 +281,7 @@ fn ran(text: &str) -> (u64, u64, u64) {
     )
 }
 
-/// Examples without a refusal in which all operations end: M1 to M6, M10-16, M11-42, the supplier's.
+/// Examples without a refusal in which all operations end: M1 to M6, M10-16, M11-49, the supplier's.
 const EXACT: u64 = 9;
 
 /// Each example stays within the forecast of its begins; the answer bytes are exact if all end.

@@ -10,6 +10,7 @@ fn commands(file: &str) -> Vec<Vec<&str>> {
         vec!["run", file],
         with_numbers("run", &[file]),
         with_numbers("order", &[file]),
+        with_numbers("table", &[file]),
         with_numbers("trace", &[file]),
         with_numbers("check", &[file, LOG]),
         with_numbers("check", &[STEPS, file]),

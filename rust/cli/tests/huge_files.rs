@@ -39,6 +39,7 @@ fn a_huge_list_of_records() {
         (with_numbers("run", &[&huge]), 7),
         (with_numbers("order", &[&huge]), 7),
         (with_numbers("trace", &[&huge]), 7),
+        (with_numbers("table", &[&huge, "--json"]), 7),
         (with_numbers("check", &[&huge, LOG]), 7),
         (with_numbers("forecast", &[&huge]), 12),
     ] {

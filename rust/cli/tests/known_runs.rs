@@ -10,7 +10,7 @@ use std::path::PathBuf;
 
 /// The files without their ending, in the order of the rows.
 const NAMES: [&str; 13] = [
-    "M1", "M2", "M3", "M4", "M5", "M6", "M7", "M8", "M9", "M10", "M10-16", "M11", "M11-42",
+    "M1", "M2", "M3", "M4", "M5", "M6", "M7", "M8", "M9", "M10", "M10-16", "M11", "M11-49",
 ];
 
 fn folder() -> PathBuf {

@@ -14,6 +14,7 @@ fn commands_that_call_the_library() {
         vec!["order", TEXT],
         vec!["check", TEXT, LOG],
         vec!["forecast", BEGINS],
+        vec!["table", TEXT],
         vec!["trace", TEXT],
         vec!["make", "-p", "2", "-L", "1", "--pace", "one", "--seed", "1"],
     ] {

@@ -21,6 +21,8 @@ fn commands() -> Vec<(Vec<&'static str>, i32)> {
         (vec!["forecast", BEGINS], 0),
         (vec!["forecast", TEXT, "--json"], 3),
         (vec!["show", "--as", "log", LOG], 0),
+        (vec!["table", TEXT], 0),
+        (vec!["table", "examples/known/M7.txt", "--json"], 3),
         (vec!["trace", TEXT], 0),
         (make.to_vec(), 0),
         (vec!["encode", TEXT], 0),

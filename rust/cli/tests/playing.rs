@@ -69,10 +69,10 @@ const REFUSED: [[&str; 4]; 10] = [
     ],
     [
         "table",
-        "processes 2\noperations 1\ntable 41\n",
+        "processes 2\noperations 1\ntable 48\n",
         "end 3 0\n",
         "otq: refused with 3: the work table is too short\n  \
-         41 table words are lent, and 42 are needed, FILE:3\n  `otq explain 3`",
+         48 table words are lent, and 49 are needed, FILE:3\n  `otq explain 3`",
     ],
     [
         "ill-formed",

@@ -15,6 +15,7 @@ mod playing;
 mod round_trips;
 mod showing;
 mod support;
+mod tabling;
 mod tracing;
 mod transcripts;
 mod usage;

@@ -40,22 +40,22 @@ fn assert_traced(list: &str, told: &[&str]) {
 fn help_in_words() {
     assert_traced("examples/known/M6.txt", &[
         "     1  process 0  begin  operation 1 of the process, a put of 9",
-        "     2  process 0  A      reads the head of leaf 0: 1, and block 0 of leaf 0 (0 puts, 0 takes); writes block 1 there: 1 put, 0 takes, value 9",
+        "     2  process 0  A      reads the head of leaf 0: 1, and block 0 of leaf 0: 0 puts, 0 takes; writes block 1 of leaf 0: 1 put, 0 takes, value 9, number 2",
         "     8  process 1  R1     refreshes the root, reads the head of the root: 1",
-        "    10  process 1  R3     looks at block 1 of leaf 0: present, so it helps to advance it",
-        "    12  process 1  V2     sets super of block 1 of leaf 0 to 1",
-        "    13  process 1  V3     raises the head of leaf 0 from 1 to 2: a help, moved the head of node 2 for process 0's block",
+        "    10  process 1  R3     looks at block 1 of leaf 0 (by record 2, process 0): present, so it helps to advance it",
+        "    12  process 1  V2     sets super of block 1 of leaf 0 (by record 2, process 0) to 1",
+        "    13  process 1  V3     raises the head of leaf 0 from 1 to 2: a help, moved the head of node 2 for process 0's block of record 2",
         "    15  process 1  R5     looks at block 2 of leaf 1: absent",
         "    16  process 1  C1     reads the head of leaf 0: 2, so the end left is 1",
-        "    18  process 1  C3L    reads block 1 of leaf 0, the left child: 1 put, 0 takes",
-        "    19  process 1  C3R    reads block 1 of leaf 1, the right child: 1 put, 0 takes; together 2 puts, 0 takes",
+        "    18  process 1  C3L    reads block 1 of leaf 0 (by record 2, process 0), the left child: 1 put, 0 takes",
+        "    19  process 1  C3R    reads block 1 of leaf 1 (by record 4, process 1), the right child: 1 put, 0 takes; together 2 puts, 0 takes",
         "    20  process 1  C3N    reads block 0 of the root: 0 puts, 0 takes, size 0; there is more, so it builds a block: 2 puts, 0 takes, ends 1 and 1, size 2",
-        "    21  process 1  C4     writes block 1 of the root: 2 puts, 0 takes, ends 1 and 1, size 2",
+        "    21  process 1  C4     writes block 1 of the root: 2 puts, 0 takes, ends 1 and 1, size 2, number 21",
         "    22  process 1  V3     raises the head of the root from 1 to 2",
         "    23  process 1  Q      operation 1 is done, in root block 1, after 20 steps and 1 help",
-        "    25  process 0  V2     finds super of block 1 of leaf 0 at 1 already, and leaves it",
+        "    25  process 0  V2     finds super of block 1 of leaf 0 (by record 2, process 0) at 1 already, and leaves it",
         "    26  process 0  V3     finds the head of leaf 0 at 2 and not 1, and leaves it",
-        "    36  process 0  C3N    reads block 1 of the root: 2 puts, 0 takes, size 2; there is no more, so the refresh has succeeded",
+        "    36  process 0  C3N    reads block 1 of the root (by record 21, process 1): 2 puts, 0 takes, size 2; there is no more, so the refresh has succeeded",
         "    37  process 0  Q      operation 1 is done, in root block 1, after 15 steps and 0 helps",
     ]);
 }
@@ -67,10 +67,10 @@ fn a_help_at_an_inner_node() {
     let text = "processes 4\nput 9 by 0\nstep 0 x14\nput 8 by 1\nstep 1 x15\nstep 0\n\
                 put 7 by 2\nstep 2 x34\n";
     assert_traced(&file("traced-inner.txt", text.as_bytes()), &[
-        "    31  process 1  C4     writes block 1 of node 2: 2 puts, 0 takes, ends 1 and 1",
-        "    32  process 0  C4     finds block 1 of node 2 present, so the refresh has failed",
+        "    31  process 1  C4     writes block 1 of node 2: 2 puts, 0 takes, ends 1 and 1, number 31",
+        "    32  process 0  C4     finds block 1 of node 2 (by record 31, process 1) present, so the refresh has failed",
         "    51  process 2  V3     raises the head of node 3 from 1 to 2",
-        "    57  process 2  V3     raises the head of node 2 from 1 to 2: a help, moved the head of node 2 for process 1's block",
+        "    57  process 2  V3     raises the head of node 2 from 1 to 2: a help, moved the head of node 2 for process 1's block of record 31",
         "    67  process 2  Q      operation 1 is done, in root block 1, after 34 steps and 1 help",
     ]);
 }
@@ -79,10 +79,10 @@ fn a_help_at_an_inner_node() {
 #[test]
 fn a_help_that_does_not_count() {
     assert_traced(TEXT, &[
-        "    31  process 1  R3     looks at block 2 of leaf 0: present, so it helps to advance it",
+        "    31  process 1  R3     looks at block 2 of leaf 0 (by record 27, process 0): present, so it helps to advance it",
         "    34  process 1  V3     finds the head of leaf 0 at 3 and not 2, and leaves it: moved already, so it does not count as a help",
         "    56  process 1  Q      operation 1 is done, in root block 2, after 32 steps and 0 helps",
-        "    84  process 0  V3     raises the head of leaf 1 from 3 to 4: a help, moved the head of node 3 for process 1's block",
+        "    84  process 0  V3     raises the head of leaf 1 from 3 to 4: a help, moved the head of node 3 for process 1's block of record 76",
         "    92  process 0  Q      operation 2 gets 30, in root block 2, after 20 steps and 1 help",
     ]);
 }
@@ -137,7 +137,7 @@ fn helps_are_those_of_the_answers() {
 #[test]
 fn ends_that_differ() {
     assert_traced("examples/known/M4.txt", &[
-        "    13  process 0  C3L    reads block 1 of leaf 0, the left child: 0 puts, 1 take",
+        "    13  process 0  C3L    reads block 1 of leaf 0 (by record 2, process 0), the left child: 0 puts, 1 take",
         "    14  process 0  C3R    reads block 0 of leaf 1, the right child: 0 puts, 0 takes; together 0 puts, 1 take",
     ]);
 }

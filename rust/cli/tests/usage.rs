@@ -4,8 +4,9 @@ use crate::support::{assert_fails, otq, otq_on, with_numbers, written, LOG, NUMB
 use std::ffi::OsStr;
 use std::os::unix::ffi::OsStrExt;
 
-const COMMANDS: [&str; 10] = [
-    "run", "order", "check", "forecast", "show", "trace", "make", "encode", "decode", "explain",
+const COMMANDS: [&str; 11] = [
+    "run", "order", "check", "forecast", "show", "table", "trace", "make", "encode", "decode",
+    "explain",
 ];
 
 #[test]
@@ -117,6 +118,7 @@ fn p_and_l() {
         &["run", STEPS][..],
         &["order", "-p", "2", STEPS],
         &["trace", "-L", "3", STEPS],
+        &["table", STEPS],
         &["forecast", STEPS],
     ] {
         assert_fails(words, 2, &message);
@@ -141,7 +143,7 @@ fn p_and_l() {
     assert_eq!(otq_on(&["run", "-"], list).out, "end 0 18\n");
     assert_eq!(
         otq_on(&["forecast", "-p", "2", "-"], b"put 7 by 1\n").out,
-        "room for 1 operation: 594 words, 16 answer bytes, at most 42 records\n"
+        "room for 1 operation: 693 words, 16 answer bytes, at most 42 records\n"
     );
 }
 

@@ -11,7 +11,7 @@ use reference::machine::Machine;
 use reference::memory::Memory;
 use reference::process::Step;
 use reference::random::Random;
-use reference::records::{Act, StepRecord};
+use reference::records::{numbered, Act, StepRecord};
 use reference::run::play_record;
 use reference::schedules::{schedule, Ending, Pace, Plan};
 use reference::tree::Shape;
@@ -22,12 +22,12 @@ use std::mem::replace;
 /// steps, with what it meets.
 fn each_c3(plan: &Plan, list: &[u8], mut does: impl FnMut(usize, &Machine, AtC3)) {
     let mut machine = Machine::start(Shape::new(plan.p, plan.l).unwrap());
-    for (index, bytes) in list.chunks_exact(8).enumerate() {
+    for (index, (number, bytes)) in numbered(list).enumerate() {
         let record = StepRecord::read(bytes, plan.p).unwrap();
         if let Some(at) = AtC3::find(&machine, record.process) {
             does(index, &machine, at);
         }
-        play_record(&mut machine, record);
+        play_record(&mut machine, number, record);
     }
 }
 
@@ -108,10 +108,11 @@ impl LastC3<'_> {
     fn expected(&self, met: Memory) -> Vec<u32> {
         let (mut played, process) = (self.machine.clone(), self.at.process);
         let own = replace(&mut played.memory, met);
-        played.step(process);
+        let number = self.index as u32 + 1;
+        played.step(process, number);
         played.memory = own;
-        for _ in 0..self.later {
-            played.step(process);
+        for later in 1..=self.later as u32 {
+            played.step(process, number + later);
         }
         played.memory.tree.words()
     }

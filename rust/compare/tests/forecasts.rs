@@ -20,9 +20,9 @@ fn all_begins(p: u32, l: u32) -> Vec<u8> {
 #[test]
 fn sums_by_hand() {
     for (p, l, words, bytes, records) in [
-        (2, 1, 42, 32, 84),
-        (4, 3, 258, 192, 984),
-        (8, 500, 96_090, 64_000, 488_000),
+        (2, 1, 49, 32, 84),
+        (4, 3, 301, 192, 984),
+        (8, 500, 112_105, 64_000, 488_000),
     ] {
         let expected = ForecastResult {
             refusal: 0,

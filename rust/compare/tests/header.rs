@@ -1,7 +1,7 @@
 //! The header for C and C++: the worked example compiled with it and run, and its numbers and sizes
 //! against the Rust functions.
 
-use otq::{most_answer_bytes, most_order_bytes, Refusal};
+use otq::{most_answer_bytes, most_order_bytes, Block, Refusal};
 use std::fs;
 use std::path::{Path, PathBuf};
 use std::process::Command;
@@ -21,6 +21,18 @@ const REFUSALS: [(&str, Refusal); 12] = [
     ("OTQ_OUTPUT_SHORT", Refusal::OutputShort),
     ("OTQ_LOG_TORN", Refusal::LogTorn),
     ("OTQ_STEP_AMONG_BEGINS", Refusal::StepAmongBegins),
+];
+
+/// The words of a block.
+const BLOCK: [(&str, usize); 8] = [
+    ("OTQ_BLOCK_WORDS", Block::WORDS),
+    ("OTQ_BLOCK_PUTS", 0),
+    ("OTQ_BLOCK_TAKES", 1),
+    ("OTQ_BLOCK_SUPER", 2),
+    ("OTQ_BLOCK_END_LEFT", 3),
+    ("OTQ_BLOCK_END_RIGHT", 4),
+    ("OTQ_BLOCK_SIZE", 5),
+    ("OTQ_BLOCK_NUMBER", 6),
 ];
 
 /// A file of these tests.
@@ -111,7 +123,7 @@ int main(void)
 {
     int p = 2, l = 1;
     uint32_t number;
-    printf(\"%d %d %d\\n\", OTQ_TABLE_WORDS(p, l) == 42, OTQ_MOST_ANSWER_BYTES(p, l) == 32,
+    printf(\"%d %d %d\\n\", OTQ_TABLE_WORDS(p, l) == 49, OTQ_MOST_ANSWER_BYTES(p, l) == 32,
            OTQ_MOST_OUTPUT_BYTES(p, l) == 16);
     for (number = 0; number <= 13; number++) {
         puts(otq_refusal_text(number));
@@ -159,10 +171,38 @@ int main(void)
 
 #[test]
 fn forecasts() {
-    let foreseen = "0 42 32 84\n0 1770 32 164\n0 96090 0 0\n";
+    let foreseen = "0 49 32 84\n0 2065 32 164\n0 112105 0 0\n";
     let refused = [1, 2, 4, 5, 12, 8].map(|number| format!("{number} 0 0 0\n"));
     let expected = format!("{foreseen}{}", refused.concat());
     assert_writes("forecaster.c", FORECASTER, &expected);
+}
+
+/// A put of 7 by process 0, p = 2 and L = 1: the words of the root's block 1, by name, and of the leaf's.
+const READER: &str = "#include \"otq.h\"
+#include <inttypes.h>
+#include <stdio.h>
+static void tell(const uint32_t *block)
+{
+    printf(\"%\" PRIu32 \" %\" PRIu32 \" %\" PRIu32 \" %\" PRIu32 \" %\" PRIu32 \" %\" PRIu32 \" %\" PRIu32 \"\\n\",
+           block[OTQ_BLOCK_PUTS], block[OTQ_BLOCK_TAKES], block[OTQ_BLOCK_SUPER], block[OTQ_BLOCK_END_LEFT],
+           block[OTQ_BLOCK_END_RIGHT], block[OTQ_BLOCK_SIZE], block[OTQ_BLOCK_NUMBER]);
+}
+int main(void)
+{
+    static const uint8_t records[18 * OTQ_STEP_BYTES] = {0, 1, 0, 0, 7};
+    static uint32_t table[OTQ_TABLE_WORDS(2, 1)];
+    uint8_t answers[OTQ_ANSWER_BYTES];
+    otq_run(2, 1, records, sizeof records, table, OTQ_TABLE_WORDS(2, 1), answers, sizeof answers);
+    tell(table + OTQ_BLOCK_WORDS);
+    /* The root has places 0 to 2. */
+    tell(table + 3 * OTQ_BLOCK_WORDS + OTQ_BLOCK_WORDS);
+    return 0;
+}
+";
+
+#[test]
+fn words_of_a_block() {
+    assert_writes("reader.c", READER, "1 0 0 1 0 1 16\n1 0 1 7 0 0 2\n");
 }
 
 #[test]
@@ -183,7 +223,8 @@ fn numbers_and_sizes() {
         ("offsetof(OtqForecast, records)", 24),
     ];
     let mut expected = Vec::from(refusals);
-    expected.extend(others.map(|(name, number)| (name.to_string(), number)));
+    let others = others.iter().chain(&BLOCK);
+    expected.extend(others.map(|&(name, number)| (name.to_string(), number)));
     for p in [2, 4, 8] {
         for l in [1, 2, 24, 499, 500] {
             let answers = most_answer_bytes(p, l).expect("a proper p and L");

@@ -19,8 +19,8 @@ const LISTS: [&[u8]; 6] = [
 fn every_pair() {
     for p in NUMBERS {
         for l in NUMBERS {
-            // 42 words are enough for the smallest tree alone.
-            let needed = table_words(p, l).unwrap_or(42);
+            // 49 words are enough for the smallest tree alone.
+            let needed = table_words(p, l).unwrap_or(49);
             for records in LISTS {
                 Input { p, l, records }.forecast();
             }

@@ -1,6 +1,7 @@
 //! The compiled library, its header and the printing program against the reference, one file for each
 //! topic.
 
+mod block_numbers;
 mod c3_words;
 mod forecasts;
 mod guarded;

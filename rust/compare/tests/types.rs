@@ -1,8 +1,10 @@
-//! The typed records of `rust/otq` against those of the reference.
+//! The typed records and blocks of `rust/otq` against those of the reference.
 
-use otq::{Act, Answer, Order, Outcome, Step};
+use crate::support::needed;
+use otq::{Act, Answer, Block, Order, Outcome, Step, Table};
 use reference::random::Random;
 use reference::records;
+use reference::tree::{Shape, Tree};
 
 /// Bytes that are mostly small, so that many are records.
 fn bytes<const N: usize>(random: &mut Random) -> [u8; N] {
@@ -88,4 +90,44 @@ fn orders() {
         assert_eq!(expected.bytes(), bytes);
         assert_eq!(<[u8; 8]>::from(order), bytes);
     }
+}
+
+/// Every block of a table with random words, and which of them are present.
+#[test]
+fn blocks() {
+    let mut random = Random::new(4);
+    let mut present = [0; 2];
+    for (p, l) in [(2, 1), (2, 500), (4, 3), (8, 1), (8, 24)] {
+        let shape = Shape::new(p, l).unwrap();
+        let word = |_| match random.chance(1, 2) {
+            true => random.next() as u32,
+            false => 0,
+        };
+        let words: Vec<u32> = (0..needed(p, l) + 3).map(word).collect();
+        let (tree, table) = (
+            Tree::from_words(shape, &words),
+            Table::new(p, l, &words).unwrap(),
+        );
+        assert_eq!(table.nodes(), 1..=shape.last_node());
+        for node in table.nodes() {
+            assert_eq!(table.last_place(node), Some(shape.last_place(node)));
+            let mut of_node = Vec::new();
+            for place in 0..=shape.last_place(node) {
+                let expected = tree.block(node, place);
+                let found = Block::from(expected.words());
+                assert_eq!(table.block(node, place), Some(found));
+                assert_eq!(found.number, expected.number);
+                assert_eq!(found.is_present(), expected.present());
+                present[usize::from(found.is_present())] += 1;
+                of_node.extend((place > 0 && found.is_present()).then_some((place, found)));
+            }
+            assert_eq!(table.present(node).collect::<Vec<_>>(), of_node);
+            assert_eq!(table.block(node, shape.last_place(node) + 1), None);
+        }
+        for process in 0..p {
+            assert_eq!(table.leaf_of(shape.leaf(process)), Some(process as u8));
+        }
+        assert_eq!(table.leaf_of(p - 1), None);
+    }
+    assert!(present.iter().all(|&blocks| blocks > 100), "{present:?}");
 }

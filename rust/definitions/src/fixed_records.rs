@@ -206,7 +206,7 @@ fn output_last() -> Vec<Row> {
         whole.with(|call| call.p = 3).row("1 before 10"),
         whole.with(|call| call.l = 0).row("2 before 10"),
         whole
-            .with(|call| call.table.truncate(41))
+            .with(|call| call.table.truncate(48))
             .row("3 before 10"),
         whole
             .with(|call| call.records.truncate(143))

@@ -3,8 +3,9 @@
 //!
 //! Every function takes p, the number of processes (2, 4 or 8), and l, the most operations of one
 //! process (1 to 500). What is turned down is told by a [`Refusal`]. [`play`], [`list`] and [`check`]
-//! have buffers of their own; [`run`], [`list_order`] and [`check_log`] are lent theirs. [`forecast`]
-//! tells from begin records alone what a run will need.
+//! have buffers of their own; [`run`], [`list_order`] and [`check_log`] are lent theirs. [`Table`]
+//! reads the blocks in the work table that a call left. [`forecast`] tells from begin records alone
+//! what a run will need.
 //!
 //! A put of 7 by process 0, then a take by process 1, 17 steps each:
 //!
@@ -30,11 +31,13 @@
 
 #[cfg_attr(not(archive), path = "absent.rs")]
 mod archive;
+mod blocks;
 mod records;
 mod refusal;
 mod returned;
 mod sizes;
 
+pub use blocks::{Block, Table, ROOT};
 pub use records::{bytes_of, records_of, Act, Answer, Kind, NoRecord, Order, Outcome, Step};
 pub use refusal::Refusal;
 pub use sizes::{most_answer_bytes, most_order_bytes, table_words};
@@ -86,7 +89,7 @@ pub struct Played {
     pub run: Run,
     /// The answer records that were written, and nothing else.
     pub answers: Vec<u8>,
-    /// The work table; empty if p or l is turned down.
+    /// The work table, which [`Table`] reads; empty if p or l is turned down.
     pub table: Vec<u32>,
 }
 
@@ -96,7 +99,10 @@ pub struct Played {
 /// that is turned down. Table words past [`table_words`] and bytes past the answers keep their
 /// content. In the table that a call leaves unless turned down with 1 to 4, a block's superblock,
 /// the present block of its parent's that has it as a subblock, stands at the block's super or one
-/// place later.
+/// place later. The number n of a present block, 1 to `taken`, is that of the record that wrote it: the
+/// first n - 1 records leave its place absent, the first n leave it present. In each node the numbers
+/// rise strictly with the place, and a block's is above those of all its subblocks. [`Table`] reads the
+/// blocks.
 ///
 /// ```
 /// let step_of_an_idle_process = [0; 8];
@@ -201,7 +207,7 @@ pub fn check_log(p: u32, l: u32, records: &[u8], log: &[u8], table: &mut [u32]) 
 /// use otq::{Act, Forecast, Refusal, Step};
 /// let (put, take) = (Step { process: 0, act: Act::Put(7) }, Step { process: 1, act: Act::Take });
 /// let foreseen = otq::forecast(2, 1, &otq::bytes_of([put, take])).unwrap();
-/// assert_eq!(foreseen, Forecast { words: 42, answer_bytes: 32, records: 84 });
+/// assert_eq!(foreseen, Forecast { words: 49, answer_bytes: 32, records: 84 });
 ///
 /// let steps = |process| [Step { process, act: Act::Step }; 17];
 /// let list = [&[put][..], &steps(0), &[take], &steps(1)].concat();

@@ -1,13 +1,12 @@
 //! How long a caller's buffers have to be.
 
+use crate::blocks::Block;
 use crate::records::{Answer, Order};
-
-const BLOCK_WORDS: usize = 6;
 
 /// Words that the work table must have; `None` if p or l is turned down.
 ///
 /// ```
-/// assert_eq!(otq::table_words(4, 24), Some(1770));
+/// assert_eq!(otq::table_words(4, 24), Some(2065));
 /// assert_eq!(otq::table_words(3, 24), None);
 /// assert_eq!(otq::table_words(4, u32::MAX), None);
 /// ```
@@ -15,7 +14,7 @@ pub fn table_words(p: u32, l: u32) -> Option<usize> {
     let operations = operations(p, l)?;
     let levels = p.ilog2() as usize + 1;
     let nodes = 2 * p as usize - 1;
-    Some(BLOCK_WORDS * (levels * operations + nodes))
+    Some(Block::WORDS * (levels * operations + nodes))
 }
 
 /// Bytes of the answers of all operations, the most that [`run`](crate::run) writes; `None` if p

@@ -10,6 +10,9 @@ use crate::tree::{
     left_child, right_child, Shape, Tree, BLOCK_WORDS, PUTS_WORD, ROOT, SIZE_WORD, TAKES_WORD,
 };
 
+/// The number of no record; the three steps write no block, so that they have no use for one.
+const NO_RECORD: u32 = 0;
+
 /// A process that is at C3L, C3R or C3N.
 #[derive(Clone, PartialEq, Eq, Debug)]
 pub struct AtC3 {
@@ -82,7 +85,7 @@ impl AtC3 {
             memory: memory.clone(),
             processes: machine.processes.clone(),
         };
-        assert_eq!(played.step(self.process), None);
+        assert_eq!(played.step(self.process, NO_RECORD), None);
         assert!(played.memory == *memory, "{self:?} changed the memory");
         let next = played.next_step(self.process);
         next.expect("Q comes after C3N")

@@ -4,7 +4,7 @@ use crate::helps::play_watched;
 use crate::machine::Machine;
 use crate::order::{root_order, Standing};
 use crate::plain_queue::PlainQueue;
-use crate::records::{Act, Answer, Operation, Outcome, ANSWER_RECORD_BYTES, STEP_RECORD_BYTES};
+use crate::records::{numbered, Act, Answer, Operation, Outcome, ANSWER_RECORD_BYTES};
 use crate::refusal::Refusal;
 use crate::run::{accept, test_record, Room};
 use crate::tree::{Shape, Tree, ROOT};
@@ -121,7 +121,7 @@ pub fn check_within(
 pub fn replay(shape: Shape, records: &[u8]) -> Result<Vec<Told>, Violation> {
     let mut machine = Machine::start(shape);
     let mut told: Vec<Told> = Vec::new();
-    for (index, bytes) in records.chunks_exact(STEP_RECORD_BYTES).enumerate() {
+    for (index, (number, bytes)) in numbered(records).enumerate() {
         let record = test_record(&machine, bytes, 0, Room::Unlimited).map_err(|refusal| {
             Violation::NotTaken {
                 record: index,
@@ -129,7 +129,7 @@ pub fn replay(shape: Shape, records: &[u8]) -> Result<Vec<Told>, Violation> {
             }
         })?;
         let process = record.process;
-        let (answer, v3) = play_watched(&mut machine, record);
+        let (answer, v3) = play_watched(&mut machine, number, record);
         match record.act {
             Act::Begin(operation) => {
                 let serial = 1 + told.iter().filter(|t| t.name.process == process).count() as u32;

@@ -132,8 +132,9 @@ struct Maker {
 
 impl Maker {
     fn record(&mut self, process: u32, act: Act) {
-        play_record(&mut self.machine, StepRecord { process, act });
         self.list = std::mem::take(&mut self.list).record(process, act);
+        let record = StepRecord { process, act };
+        play_record(&mut self.machine, self.list.records(), record);
     }
 
     /// Steps of the process until it comes to such a step, or is idle.

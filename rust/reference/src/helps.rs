@@ -3,7 +3,7 @@
 
 use crate::machine::Machine;
 use crate::process::Step;
-use crate::records::{Answer, StepRecord, STEP_RECORD_BYTES};
+use crate::records::{numbered, Answer, StepRecord};
 use crate::run::play_record;
 use crate::tree::Shape;
 
@@ -33,6 +33,7 @@ pub fn help_limit(shape: Shape) -> u32 {
 /// a child. That is told by the step that follows and by the heads, not by the rule that counts.
 pub fn play_watched(
     machine: &mut Machine,
+    number: u32,
     record: StepRecord,
 ) -> (Option<Answer>, Option<ChildV3>) {
     let process = record.process;
@@ -40,7 +41,7 @@ pub fn play_watched(
         Some(Step::V3 { advance }) => Some((advance.node, machine.memory.head(advance.node))),
         _ => None,
     };
-    let answer = play_record(machine, record);
+    let answer = play_record(machine, number, record);
     let next = machine.next_step(process);
     let in_refresh = matches!(next, Some(Step::R4 { .. } | Step::C1 { .. }));
     let v3 = head.filter(|_| in_refresh).map(|(child, head)| ChildV3 {
@@ -53,10 +54,9 @@ pub fn play_watched(
 /// The V3s of children in a list that Run takes whole, in list order.
 pub fn child_v3s(shape: Shape, records: &[u8]) -> Vec<ChildV3> {
     let mut machine = Machine::start(shape);
-    let records = records.chunks_exact(STEP_RECORD_BYTES);
-    let v3s = records.filter_map(|bytes| {
+    let v3s = numbered(records).filter_map(|(number, bytes)| {
         let record = StepRecord::read(bytes, shape.p()).expect("a record that is taken");
-        play_watched(&mut machine, record).1
+        play_watched(&mut machine, number, record).1
     });
     v3s.collect()
 }

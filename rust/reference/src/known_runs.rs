@@ -77,6 +77,10 @@ impl KnownRun {
     }
 }
 
+pub fn m2() -> List {
+    List::new().put(0, 7).steps(0, 31).take(1).steps(1, 31)
+}
+
 pub fn m3() -> List {
     let begun = List::new().put(0, 5).take(1);
     begun.steps(0, 4).steps(1, 4).steps(0, 13).steps(1, 11)
@@ -105,11 +109,10 @@ fn one_put() -> List {
 /// M1 to M11; M10 and M11 on either side of their edge.
 pub fn known_runs() -> Vec<KnownRun> {
     use Outcome::{Nothing, PutDone, Value};
-    let m2 = List::new().put(0, 7).steps(0, 31).take(1).steps(1, 31);
     let twice = List::new().put(0, 1).put(0, 2);
     vec![
         KnownRun::new("M1", 2, 24, List::new()),
-        KnownRun::new("M2", 4, 24, m2)
+        KnownRun::new("M2", 4, 24, m2())
             .answer(0, PutDone, 31, 0, 1)
             .answer(1, Value(7), 31, 0, 2),
         KnownRun::new("M3", 2, 24, m3())
@@ -134,11 +137,11 @@ pub fn known_runs() -> Vec<KnownRun> {
         KnownRun::new("M10, 16 bytes", 2, 24, one_put())
             .bytes(16)
             .answer(0, PutDone, 17, 0, 1),
-        KnownRun::new("M11, 41 words", 2, 1, one_put())
-            .words(41)
+        KnownRun::new("M11, 48 words", 2, 1, one_put())
+            .words(48)
             .refused(3, 0),
-        KnownRun::new("M11, 42 words", 2, 1, one_put())
-            .words(42)
+        KnownRun::new("M11, 49 words", 2, 1, one_put())
+            .words(49)
             .answer(0, PutDone, 17, 0, 1),
     ]
 }

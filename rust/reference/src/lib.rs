@@ -3,6 +3,7 @@
 pub mod account;
 pub mod begin_lists;
 pub mod between_reads;
+pub mod block_numbers;
 pub mod c3_words;
 pub mod check;
 pub mod demand3;

@@ -1,6 +1,6 @@
 //! A builder of step record lists.
 
-use crate::records::{Act, Operation, StepRecord};
+use crate::records::{Act, Operation, StepRecord, STEP_RECORD_BYTES};
 
 #[derive(Clone, Default, PartialEq, Eq, Debug)]
 pub struct List {
@@ -45,6 +45,11 @@ impl List {
         (1..=count).fold(self, |list, value| {
             list.put(process, value).steps(process, steps)
         })
+    }
+
+    /// How many records it has, which is the number of the last one.
+    pub fn records(&self) -> u32 {
+        (self.bytes.len() / STEP_RECORD_BYTES) as u32
     }
 
     pub fn bytes(self) -> Vec<u8> {

@@ -55,8 +55,8 @@ impl Machine {
         };
     }
 
-    /// One step of a busy process; the answer if the step is its Q.
-    pub fn step(&mut self, process: u32) -> Option<Answer> {
+    /// One step of a busy process, by the record with this number; the answer if the step is its Q.
+    pub fn step(&mut self, process: u32, number: u32) -> Option<Answer> {
         let Activity::Busy {
             operation,
             step,
@@ -71,7 +71,7 @@ impl Machine {
             let answer = self.answer(process, operation, steps, helps);
             (Activity::Idle, Some(answer))
         } else {
-            let stepped = one_step(&mut self.memory, process, operation, step);
+            let stepped = one_step(&mut self.memory, process, operation, step, number);
             let busy = Activity::Busy {
                 operation,
                 step: stepped.next,

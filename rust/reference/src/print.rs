@@ -5,7 +5,7 @@ use crate::run::{run, RunResult};
 
 pub const P: u32 = 4;
 pub const L: u32 = 24;
-pub const TABLE_WORDS: usize = 1770;
+pub const TABLE_WORDS: usize = 2065;
 pub const RECORD_BYTES: usize = 65536;
 pub const ANSWER_BYTES: usize = 1536;
 

@@ -51,6 +51,29 @@ pub struct Ends {
     pub right: u32,
 }
 
+/// What C3N builds of a block. C4 adds the number of its own record, and super is 0.
+#[derive(Clone, Copy, PartialEq, Eq, Hash, Debug)]
+pub struct Built {
+    pub totals: Totals,
+    pub ends: Ends,
+    pub size: u32,
+}
+
+impl Built {
+    /// The block that the record with this number writes.
+    pub fn block(self, number: u32) -> Block {
+        Block {
+            puts: self.totals.puts,
+            takes: self.totals.takes,
+            superblock: 0,
+            end_left: self.ends.left,
+            end_right: self.ends.right,
+            size: self.size,
+            number,
+        }
+    }
+}
+
 /// The step that a busy process does next, with that step's own registers.
 #[derive(Clone, Copy, PartialEq, Eq, Hash, Debug)]
 pub enum Step {
@@ -117,7 +140,7 @@ pub enum Step {
     C4 {
         refresh: Refresh,
         h: u32,
-        block: Block,
+        built: Built,
     },
     Q,
 }

@@ -4,6 +4,11 @@ pub const STEP_RECORD_BYTES: usize = 8;
 pub const ANSWER_RECORD_BYTES: usize = 16;
 pub const ORDER_RECORD_BYTES: usize = 8;
 
+/// The whole records of a list, each with its number in the list, from 1.
+pub fn numbered(list: &[u8]) -> impl Iterator<Item = (u32, &[u8])> {
+    (1..).zip(list.chunks_exact(STEP_RECORD_BYTES))
+}
+
 #[derive(Clone, Copy, PartialEq, Eq, Hash, Debug)]
 pub enum Kind {
     Put,

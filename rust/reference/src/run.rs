@@ -2,7 +2,7 @@
 
 use crate::machine::Machine;
 use crate::process::Step;
-use crate::records::{Act, Answer, StepRecord, ANSWER_RECORD_BYTES, STEP_RECORD_BYTES};
+use crate::records::{numbered, Act, Answer, StepRecord, ANSWER_RECORD_BYTES, STEP_RECORD_BYTES};
 use crate::refusal::{number, Refusal};
 use crate::tree::Shape;
 
@@ -82,10 +82,10 @@ fn full(answers: usize, room: Room) -> bool {
     }
 }
 
-/// One record that has passed its tests; the answer if it is a Q.
-pub fn play_record(machine: &mut Machine, record: StepRecord) -> Option<Answer> {
+/// One record that has passed its tests, with its number in the list; the answer if it is a Q.
+pub fn play_record(machine: &mut Machine, number: u32, record: StepRecord) -> Option<Answer> {
     match record.act {
-        Act::Step => machine.step(record.process),
+        Act::Step => machine.step(record.process, number),
         Act::Begin(operation) => {
             machine.begin(record.process, operation);
             None
@@ -101,10 +101,10 @@ pub fn play(shape: Shape, records: &[u8], room: Room) -> Played {
         taken: 0,
         answers: Vec::new(),
     };
-    for bytes in records.chunks_exact(STEP_RECORD_BYTES) {
+    for (number, bytes) in numbered(records) {
         match test_record(&played.machine, bytes, played.answers.len(), room) {
             Ok(record) => {
-                let answer = play_record(&mut played.machine, record);
+                let answer = play_record(&mut played.machine, number, record);
                 played.answers.extend(answer);
                 played.taken += 1;
             }

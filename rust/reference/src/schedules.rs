@@ -174,8 +174,8 @@ impl Maker {
             Act::Step
         };
         let record = StepRecord { process, act };
-        play_record(&mut self.machine, record);
         self.records.push(record.bytes());
+        play_record(&mut self.machine, self.records.len() as u32, record);
         self.current = process;
         for held in self.held.iter_mut().filter(|held| **held != FOR_EVER) {
             *held = held.saturating_sub(1);

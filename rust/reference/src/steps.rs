@@ -1,7 +1,7 @@
 //! The step rules: what each named step does and which step follows it.
 
 use crate::memory::Memory;
-use crate::process::{Advance, Attempt, Ends, Refresh, Step, Then};
+use crate::process::{Advance, Attempt, Built, Ends, Refresh, Step, Then};
 use crate::records::Operation;
 use crate::tree::{left_child, parent, right_child, Block, Totals, Tree, ROOT};
 
@@ -49,11 +49,17 @@ pub struct Stepped {
     pub helped: bool,
 }
 
-/// Does one named step other than Q.
-pub fn one_step(memory: &mut Memory, process: u32, operation: Operation, step: Step) -> Stepped {
+/// Does one named step other than Q, by the record with this number: what A and C4 write has it.
+pub fn one_step(
+    memory: &mut Memory,
+    process: u32,
+    operation: Operation,
+    step: Step,
+    number: u32,
+) -> Stepped {
     let mut helped = false;
     let next = match step {
-        Step::A => append(memory, process, operation),
+        Step::A => append(memory, process, operation, number),
         Step::V1 { advance } => {
             let parent_head = memory.head(parent(advance.node));
             Step::V2 {
@@ -73,13 +79,13 @@ pub fn one_step(memory: &mut Memory, process: u32, operation: Operation, step: S
             helped = moved && advance.then.of_child();
             end_advance(advance)
         }
-        refreshing => refresh_step(memory, refreshing),
+        refreshing => refresh_step(memory, refreshing, number),
     };
     Stepped { next, helped }
 }
 
 /// A: the new block in the own leaf at its head.
-fn append(memory: &mut Memory, process: u32, operation: Operation) -> Step {
+fn append(memory: &mut Memory, process: u32, operation: Operation, number: u32) -> Step {
     let leaf = memory.tree.shape().leaf(process);
     let h = memory.head(leaf);
     let before = memory.tree.block(leaf, h - 1);
@@ -91,6 +97,7 @@ fn append(memory: &mut Memory, process: u32, operation: Operation) -> Step {
         puts: before.puts + puts,
         takes: before.takes + takes,
         end_left: value,
+        number,
         ..Block::default()
     };
     memory.tree.write(leaf, h, block);
@@ -98,7 +105,7 @@ fn append(memory: &mut Memory, process: u32, operation: Operation) -> Step {
 }
 
 /// R1 to R5 and C1 to C4.
-fn refresh_step(memory: &mut Memory, step: Step) -> Step {
+fn refresh_step(memory: &mut Memory, step: Step, number: u32) -> Step {
     match step {
         Step::R1 { refresh } => {
             let h = memory.head(refresh.node);
@@ -121,7 +128,7 @@ fn refresh_step(memory: &mut Memory, step: Step) -> Step {
             c,
             Then::C1 { refresh, h },
         ),
-        creating => create_step(memory, creating),
+        creating => create_step(memory, creating, number),
     }
 }
 
@@ -136,7 +143,7 @@ fn help(memory: &Memory, child: u32, c: u32, then: Then) -> Step {
 }
 
 /// C1, C2 and C4.
-fn create_step(memory: &mut Memory, step: Step) -> Step {
+fn create_step(memory: &mut Memory, step: Step, number: u32) -> Step {
     match step {
         Step::C1 { refresh, h } => {
             let end_left = memory.head(left_child(refresh.node)) - 1;
@@ -157,9 +164,9 @@ fn create_step(memory: &mut Memory, step: Step) -> Step {
             };
             Step::C3L { refresh, h, ends }
         }
-        Step::C4 { refresh, h, block } => {
+        Step::C4 { refresh, h, built } => {
             let node = refresh.node;
-            let success = memory.write_if_absent(node, h, block);
+            let success = memory.write_if_absent(node, h, built.block(number));
             begin_advance(node, h, Then::EndRefresh { refresh, success })
         }
         summing => sum_step(&memory.tree, summing),
@@ -206,7 +213,7 @@ fn sum_step(tree: &Tree, step: Step) -> Step {
     }
 }
 
-/// The block with these totals; if those of block h - 1 are equal, the refresh ends with success,
+/// Builds a block with these totals; if those of block h - 1 are equal, the refresh ends with success,
 /// without C4 and without an advance.
 fn decide(tree: &Tree, refresh: Refresh, h: u32, ends: Ends, totals: Totals) -> Step {
     let before = tree.totals(refresh.node, h - 1);
@@ -217,15 +224,8 @@ fn decide(tree: &Tree, refresh: Refresh, h: u32, ends: Ends, totals: Totals) -> 
         ROOT => size_after(tree.root_size(h - 1), before, totals),
         _ => 0,
     };
-    let block = Block {
-        puts: totals.puts,
-        takes: totals.takes,
-        superblock: 0,
-        end_left: ends.left,
-        end_right: ends.right,
-        size,
-    };
-    Step::C4 { refresh, h, block }
+    let built = Built { totals, ends, size };
+    Step::C4 { refresh, h, built }
 }
 
 /// The size of a root block, from the size and the totals of the one before it and its own totals.

@@ -3,11 +3,12 @@
 use crate::refusal::Refusal;
 
 /// Words of one block. `Block::words` and `Block::from_words` give their order.
-pub const BLOCK_WORDS: usize = 6;
+pub const BLOCK_WORDS: usize = 7;
 /// Where these stand among them.
 pub const PUTS_WORD: usize = 0;
 pub const TAKES_WORD: usize = 1;
 pub const SIZE_WORD: usize = 5;
+pub const NUMBER_WORD: usize = 6;
 pub const ROOT: u32 = 1;
 pub const MOST_OPERATIONS: u32 = 500;
 
@@ -24,6 +25,8 @@ pub struct Block {
     pub end_right: u32,
     /// Values held after this block; 0 except in the root.
     pub size: u32,
+    /// The number, from 1, of the record that wrote the block; 0 in block 0.
+    pub number: u32,
 }
 
 impl Block {
@@ -35,21 +38,25 @@ impl Block {
             self.end_left,
             self.end_right,
             self.size,
+            self.number,
         ]
     }
 
     pub fn from_words(words: &[u32]) -> Block {
+        let words: [u32; BLOCK_WORDS] = words.try_into().expect("the words of one block");
+        let [puts, takes, superblock, end_left, end_right, size, number] = words;
         Block {
-            puts: words[0],
-            takes: words[1],
-            superblock: words[2],
-            end_left: words[3],
-            end_right: words[4],
-            size: words[5],
+            puts,
+            takes,
+            superblock,
+            end_left,
+            end_right,
+            size,
+            number,
         }
     }
 
-    /// Whether a block at a place from 1 on is present.
+    /// Whether a block at a place from 1 on is present: by its totals alone.
     pub fn present(self) -> bool {
         self.puts != 0 || self.takes != 0
     }

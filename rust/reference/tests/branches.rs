@@ -3,7 +3,7 @@
 use reference::machine::Machine;
 use reference::memory::Memory;
 use reference::process::{Advance, Attempt, Step, Then, STEP_NAMES};
-use reference::records::{Outcome, StepRecord};
+use reference::records::{numbered, Outcome, StepRecord};
 use reference::run::play_record;
 use reference::schedules::{schedule, Pace, Plan};
 use reference::tree::{left_child, right_child, Shape, Tree, ROOT};
@@ -86,12 +86,12 @@ fn help_case(step: &str, present: bool) -> String {
 }
 
 fn build_case(memory: &Memory, attempt: Attempt, h: u32, next: Option<Step>) -> Option<String> {
-    let Some(Step::C4 { refresh, block, .. }) = next else {
+    let Some(Step::C4 { refresh, built, .. }) = next else {
         return Some(format!("C3N {attempt:?} finds equal totals"));
     };
     let before = memory.tree.block(refresh.node, h - 1);
-    let held = i64::from(before.size) + i64::from(block.puts - before.puts);
-    let takes = i64::from(block.takes - before.takes);
+    let held = i64::from(before.size) + i64::from(built.totals.puts - before.puts);
+    let takes = i64::from(built.totals.takes - before.takes);
     let below = refresh.node == ROOT && held < takes;
     below.then(|| "C3N keeps the size from falling below 0".into())
 }
@@ -99,10 +99,10 @@ fn build_case(memory: &Memory, attempt: Attempt, h: u32, next: Option<Step>) -> 
 /// Plays a list and counts the cases.
 fn count(plan: &Plan, counts: &mut BTreeMap<String, usize>) -> Machine {
     let mut machine = Machine::start(Shape::new(plan.p, plan.l).unwrap());
-    for bytes in schedule(plan).chunks_exact(8) {
+    for (number, bytes) in numbered(&schedule(plan)) {
         let record = StepRecord::read(bytes, plan.p).unwrap();
         let (step, memory) = (machine.next_step(record.process), machine.memory.clone());
-        let answer = play_record(&mut machine, record);
+        let answer = play_record(&mut machine, number, record);
         let next = machine.next_step(record.process);
         let found = step.and_then(|step| case(&memory, step, next));
         let found = match answer.map(|answer| answer.outcome) {

@@ -62,7 +62,7 @@ fn number_2_before_3_and_later() {
 
 #[test]
 fn number_3_at_every_shorter_length() {
-    for words in 0..42 {
+    for words in 0..49 {
         assert_all_refuse(3, 2, 1, &[], &[], words);
         assert_all_refuse(3, 2, 1, &[1], &[1], words);
     }

@@ -39,13 +39,13 @@ fn with(list: &[u8], place: usize, record: [u8; 8]) -> Vec<u8> {
 #[test]
 fn sums_by_hand() {
     // H is 1, 2, 3: 42, 82 and 122 records an operation.
-    assert_eq!(foreseen(2, 1, &in_turn(2, 1)), (42, 32, 84));
-    assert_eq!(foreseen(2, 24, &in_turn(2, 3)), (594, 96, 252));
-    assert_eq!(foreseen(4, 24, &in_turn(4, 3)), (1770, 192, 984));
-    assert_eq!(foreseen(8, 24, &in_turn(8, 1)), (4698, 128, 976));
+    assert_eq!(foreseen(2, 1, &in_turn(2, 1)), (49, 32, 84));
+    assert_eq!(foreseen(2, 24, &in_turn(2, 3)), (693, 96, 252));
+    assert_eq!(foreseen(4, 24, &in_turn(4, 3)), (2065, 192, 984));
+    assert_eq!(foreseen(8, 24, &in_turn(8, 1)), (5481, 128, 976));
     assert_eq!(
         foreseen(8, 500, &in_turn(8, 500)),
-        (96_090, 64_000, 488_000)
+        (112_105, 64_000, 488_000)
     );
 }
 

@@ -4,7 +4,7 @@
 use crate::support::{mixed_list, run_amply};
 use reference::machine::Machine;
 use reference::random::Random;
-use reference::records::{Act, StepRecord};
+use reference::records::{numbered, Act, StepRecord};
 use reference::refusal::{number, Refusal};
 use reference::run::{play_record, test_record, Room};
 use reference::tree::Shape;
@@ -23,8 +23,8 @@ fn one_more(p: u32, l: u32, seed: u64) -> Vec<u8> {
 /// whether the refused record is such a begin.
 fn former_stop(shape: Shape, records: &[u8]) -> (u32, u64, bool) {
     let mut machine = Machine::start(shape);
-    for (place, bytes) in records.chunks_exact(8).enumerate() {
-        let stop = |refusal, such| (number(Some(refusal)), place as u64, such);
+    for (nth, bytes) in numbered(records) {
+        let stop = |refusal, such| (number(Some(refusal)), u64::from(nth) - 1, such);
         if let Some(StepRecord {
             process,
             act: Act::Begin(_),
@@ -36,7 +36,7 @@ fn former_stop(shape: Shape, records: &[u8]) -> (u32, u64, bool) {
             }
         }
         match test_record(&machine, bytes, 0, Room::Unlimited) {
-            Ok(record) => play_record(&mut machine, record),
+            Ok(record) => play_record(&mut machine, nth, record),
             Err(refusal) => return stop(refusal, false),
         };
     }

@@ -4,7 +4,7 @@ use crate::support::{block_words, one_by_one, order_of, past, run_amply};
 use reference::growth::{grows, Departure, Past};
 use reference::order::Standing;
 use reference::records::Kind;
-use reference::tree::{Shape, ROOT};
+use reference::tree::{Shape, BLOCK_WORDS, ROOT};
 
 const P: u32 = 2;
 const L: u32 = 4;
@@ -130,12 +130,12 @@ fn a_past_rewritten_in_the_table() {
     // The first two operations turned round, both in block 1, and both in block 2.
     assert_eq!(with_words(ROOT, 1, 3, &[0, 1]), order_from(0));
     assert_eq!(with_words(ROOT, 1, 3, &[1, 1]), order_from(1));
-    assert_eq!(with_words(ROOT, 1, 0, &[0; 6]), order_from(0));
+    assert_eq!(with_words(ROOT, 1, 0, &[0; BLOCK_WORDS]), order_from(0));
     // The third in block 4, and a take in the place of the second.
     assert_eq!(with_words(ROOT, 3, 3, &[1, 1]), order_from(2));
     assert_eq!(with_words(3, 1, 0, &[0, 1]), order_from(1));
     // The fourth in block 3, made a put, and dropped: it is not of the past.
     assert_eq!(with_words(ROOT, 3, 3, &[2, 2]), Ok(()));
     assert_eq!(with_words(3, 2, 0, &[2, 0]), Ok(()));
-    assert_eq!(with_words(ROOT, 4, 0, &[0; 6]), Ok(()));
+    assert_eq!(with_words(ROOT, 4, 0, &[0; BLOCK_WORDS]), Ok(()));
 }

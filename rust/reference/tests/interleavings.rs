@@ -1,6 +1,8 @@
-//! All interleavings of a few operations: demand 3, superblocks and growth, wherever they lead.
+//! All interleavings of a few operations: demand 3, superblocks, growth and block numbers, wherever
+//! they lead.
 
-use crate::support::{table_of, Met};
+use crate::support::{places, table_of, unnumbered, Met};
+use reference::block_numbers::{numbers_above, numbers_rise};
 use reference::demand3::check;
 use reference::growth::departs;
 use reference::machine::Machine;
@@ -13,7 +15,7 @@ use std::collections::{BTreeSet, HashSet};
 use std::hash::{Hash, Hasher};
 use std::ops::Range;
 
-/// All that the claims can tell apart: two lists with equal states have equal verdicts.
+/// All that the claims can tell apart.
 #[derive(Clone, Hash)]
 struct State {
     machine: Machine,
@@ -22,10 +24,22 @@ struct State {
     begins: Vec<(u32, usize)>,
 }
 
+impl State {
+    /// Two lists with equal keys have equal verdicts. Block numbers are left out: no step goes by
+    /// them, and `assert_numbered` tells of each record by itself that it keeps their claims.
+    fn key(&self) -> u64 {
+        let mut state = self.clone();
+        state.machine.memory.tree = unnumbered(&self.machine.memory.tree);
+        let mut hasher = DefaultHasher::new();
+        state.hash(&mut hasher);
+        hasher.finish()
+    }
+}
+
 struct Search {
     /// For each process, what it begins in turn.
     operations: Vec<Vec<Operation>>,
-    /// Hashes of the states met.
+    /// Keys of the states met.
     seen: HashSet<u64>,
     /// The answer logs of the ends.
     logs: HashSet<Vec<Answer>>,
@@ -75,9 +89,7 @@ impl Search {
     }
 
     fn visit(&mut self, state: &State, records: &mut Vec<u8>) {
-        let mut hasher = DefaultHasher::new();
-        state.hash(&mut hasher);
-        if !self.seen.insert(hasher.finish()) {
+        if !self.seen.insert(state.key()) {
             return;
         }
         let mut end = true;
@@ -87,8 +99,10 @@ impl Search {
             };
             end = false;
             let record = StepRecord { process, act };
-            let next = after(state, record);
             records.extend(record.bytes());
+            let number = records.len() as u32 / 8;
+            let next = after(state, number, record);
+            assert_numbered(state, &next, number);
             self.grown += usize::from(assert_growth(state, &next, records));
             self.visit(&next, records);
             records.truncate(records.len() - 8);
@@ -108,14 +122,35 @@ impl Search {
     }
 }
 
-fn after(state: &State, record: StepRecord) -> State {
+fn after(state: &State, number: u32, record: StepRecord) -> State {
     let mut next = state.clone();
     if record.act != Act::Step {
         next.begins.push((record.process, next.answers.len()));
     }
-    let answer = play_record(&mut next.machine, record);
+    let answer = play_record(&mut next.machine, number, record);
     next.answers.extend(answer);
     next
+}
+
+/// A block that the record with this number wrote has it, every other keeps its own, and with the new
+/// one the claims of block numbers hold. It is the highest, so whether they do goes by where the block
+/// stands and not by the numbers before it.
+fn assert_numbered(state: &State, next: &State, number: u32) {
+    let [before, after] = [state, next].map(|state| &state.machine.memory.tree);
+    let mut wrote = false;
+    for (node, place) in places(before.shape()) {
+        let (old, new) = (before.block(node, place), after.block(node, place));
+        let written = new.present() && !old.present();
+        let expected = if written { number } else { old.number };
+        assert_eq!(new.number, expected, "block {place} of node {node}");
+        assert!(old.number < number);
+        wrote |= written;
+    }
+    if wrote {
+        let (shape, table) = (before.shape(), after.words());
+        assert_eq!(numbers_rise(shape, &table), Ok(()));
+        assert_eq!(numbers_above(shape, &table), Ok(()));
+    }
 }
 
 /// One record keeps the root order as a beginning; whether it made one longer that was not

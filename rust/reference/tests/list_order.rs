@@ -107,14 +107,14 @@ fn every_output_length() {
 #[test]
 fn the_empty_list_needs_no_output() {
     for list in [vec![], List::new().put(0, 1).steps(0, 9).bytes()] {
-        assert_eq!(list_with(2, 1, &list, 42, 0).result, listed(0, 0));
+        assert_eq!(list_with(2, 1, &list, 49, 0).result, listed(0, 0));
     }
 }
 
 #[test]
 fn a_record_refusal_comes_before_10() {
     let list = List::new().put(0, 1).steps(0, 18).bytes();
-    assert_eq!(list_with(2, 1, &list, 42, 0).result, listed(7, 0));
+    assert_eq!(list_with(2, 1, &list, 49, 0).result, listed(7, 0));
     let whole = &list[..8 * 18];
-    assert_eq!(list_with(2, 1, whole, 42, 0).result, listed(10, 0));
+    assert_eq!(list_with(2, 1, whole, 49, 0).result, listed(10, 0));
 }

@@ -1,9 +1,9 @@
 //! Root order and answers against two other ways of finding them.
 
-use crate::support::{needed, pattern_words};
+use crate::support::{needed, pattern_words, PAPER_BLOCK_WORDS};
 use reference::machine::Machine;
 use reference::order::{margin, put_value, root_block_of, root_order, Given, Standing};
-use reference::records::{Answer, Kind, Outcome, StepRecord};
+use reference::records::{numbered, Answer, Kind, Outcome, StepRecord};
 use reference::run::{play, play_record, run, Room};
 use reference::schedules::{schedule, Ending, Pace, Plan};
 use reference::tree::{Shape, Tree, ROOT};
@@ -36,9 +36,9 @@ fn word_at(p: u32, l: u32, table: &[u32], node: u32, place: u32, word: usize) ->
     let mut start = 0;
     for before in 1..node {
         let leaves_below = p >> before.ilog2();
-        start += 6 * (l * leaves_below + 1);
+        start += PAPER_BLOCK_WORDS * (l * leaves_below + 1) as usize;
     }
-    table[(start + 6 * place) as usize + word]
+    table[start + PAPER_BLOCK_WORDS * place as usize + word]
 }
 
 /// From a leaf's place up: side and place at each level, the root block last.
@@ -150,9 +150,9 @@ fn assert_literal(tree: &Tree, order: &[Standing], answer: &Answer) {
 fn answers_with_the_whole_order_opened_at_each_q() {
     for plan in plans() {
         let mut machine = Machine::start(Shape::new(plan.p, plan.l).unwrap());
-        for bytes in schedule(&plan).chunks_exact(8) {
+        for (number, bytes) in numbered(&schedule(&plan)) {
             let record = StepRecord::read(bytes, plan.p).unwrap();
-            if let Some(answer) = play_record(&mut machine, record) {
+            if let Some(answer) = play_record(&mut machine, number, record) {
                 let tree = &machine.memory.tree;
                 assert_literal(tree, &root_order(tree), &answer);
             }

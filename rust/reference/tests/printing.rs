@@ -1,7 +1,7 @@
 //! The printing program, through its function and as a program.
 
 use reference::help_lists::help_lists;
-use reference::known_runs::m5;
+use reference::known_runs::{m2, m5};
 use reference::lists::List;
 use reference::print::{print_run, L, P, RECORD_BYTES, TABLE_WORDS};
 use reference::tree::Shape;
@@ -29,14 +29,10 @@ fn assert_print(input: &[u8], print: &str) {
     assert_eq!(program(input), print);
 }
 
-fn worked() -> List {
-    List::new().put(0, 7).steps(0, 31).take(1).steps(1, 31)
-}
-
 #[test]
 fn worked_print() {
     assert_print(
-        &worked().bytes(),
+        &m2().bytes(),
         "put 0 1 31 0 1\ntake 1 1 31 0 2 7\nend 0 64\n",
     );
 }
@@ -74,7 +70,7 @@ fn refusals_end_the_print() {
     assert_print(&[], "end 0 0\n");
     assert_print(&[0; 7], "end 4 0\n");
     assert_print(
-        &worked().steps(1, 1).bytes(),
+        &m2().steps(1, 1).bytes(),
         "put 0 1 31 0 1\ntake 1 1 31 0 2 7\nend 7 64\n",
     );
     assert_print(&List::new().put(4, 0).bytes(), "end 5 0\n");
@@ -97,7 +93,7 @@ fn all_operations_have_room() {
 
 #[test]
 fn input_as_long_as_the_buffer_and_longer() {
-    let mut list = worked().bytes();
+    let mut list = m2().bytes();
     list.resize(RECORD_BYTES, 0);
     assert_print(&list, "put 0 1 31 0 1\ntake 1 1 31 0 2 7\nend 7 64\n");
     list.push(0);

@@ -1,8 +1,8 @@
 //! Each step alone: what it changes in the memory, what it reads into registers and what it counts.
 
 use reference::machine::Machine;
-use reference::process::{Activity, Step, STEP_NAMES};
-use reference::records::{Act, Operation, StepRecord};
+use reference::process::{Activity, Ends, Step, STEP_NAMES};
+use reference::records::{numbered, Act, Operation, StepRecord};
 use reference::run::play_record;
 use reference::schedules::{schedule, Ending, Pace, Plan};
 use reference::tree::{left_child, parent, right_child, Block, Shape, Totals, ROOT};
@@ -30,27 +30,31 @@ fn changes(before: &Machine, after: &Machine) -> (Vec<BlockChange>, Vec<HeadChan
 }
 
 /// The block that A writes, with its node and place.
-fn appended(before: &Machine, process: u32, operation: Operation) -> BlockChange {
+fn appended(before: &Machine, process: u32, operation: Operation, number: u32) -> BlockChange {
     let leaf = before.shape().leaf(process);
     let head = before.memory.head(leaf);
     let last = before.memory.tree.block(leaf, head - 1);
     let words = match operation {
-        Operation::Put(value) => [last.puts + 1, last.takes, 0, value, 0, 0],
-        Operation::Take => [last.puts, last.takes + 1, 0, 0, 0, 0],
+        Operation::Put(value) => [last.puts + 1, last.takes, 0, value, 0, 0, number],
+        Operation::Take => [last.puts, last.takes + 1, 0, 0, 0, 0, number],
     };
     (leaf, head, Block::from_words(&words))
 }
 
-/// What the step must change.
+/// What the step must change. A and C4 write the number of their record; V2 keeps the block's.
 fn expected(
     before: &Machine,
     process: u32,
     operation: Operation,
     step: Step,
+    number: u32,
 ) -> (Vec<BlockChange>, Vec<HeadChange>) {
     let (tree, none) = (&before.memory.tree, (Vec::new(), Vec::new()));
     match step {
-        Step::A => (vec![appended(before, process, operation)], Vec::new()),
+        Step::A => {
+            let block = appended(before, process, operation, number);
+            (vec![block], Vec::new())
+        }
         Step::V2 {
             advance,
             parent_head,
@@ -65,8 +69,14 @@ fn expected(
         Step::V3 { advance } if before.memory.head(advance.node) == advance.place => {
             (Vec::new(), vec![(advance.node, advance.place + 1)])
         }
-        Step::C4 { refresh, h, block } if !tree.block(refresh.node, h).present() => {
-            (vec![(refresh.node, h, block)], Vec::new())
+        Step::C4 { refresh, h, built } if !tree.block(refresh.node, h).present() => {
+            let Totals { puts, takes } = built.totals;
+            let Ends { left, right } = built.ends;
+            let words = [puts, takes, 0, left, right, built.size, number];
+            (
+                vec![(refresh.node, h, Block::from_words(&words))],
+                Vec::new(),
+            )
         }
         _ => none,
     }
@@ -135,23 +145,23 @@ fn assert_decision(before: &Machine, step: Step, next: Step) {
         refresh,
         h,
         ends,
-        totals: Totals { puts, takes },
+        totals,
     } = step
     else {
         return;
     };
     let old = before.memory.tree.block(refresh.node, h - 1);
-    let built = match next {
+    let more = match next {
         Step::C4 {
-            h: place, block, ..
+            h: place, built, ..
         } => {
-            let words = [puts, takes, 0, ends.left, ends.right];
-            assert_eq!((place, &block.words()[..5]), (h, &words[..]));
+            assert_eq!((place, built.totals, built.ends), (h, totals, ends));
             true
         }
         _ => false,
     };
-    assert_eq!(built, (old.puts, old.takes) != (puts, takes), "{step:?}");
+    let Totals { puts, takes } = totals;
+    assert_eq!(more, (old.puts, old.takes) != (puts, takes), "{step:?}");
 }
 
 /// One step more, and one help more if it raised a head and its refresh goes on with R4 or C1; both
@@ -171,7 +181,13 @@ fn assert_counts(before: &Machine, after: &Machine, process: u32, raised: bool) 
 }
 
 /// One record: its effect on the memory, its reads and counts, and nothing in other processes.
-fn assert_effect(before: &Machine, after: &Machine, operation: Operation, record: StepRecord) {
+fn assert_effect(
+    before: &Machine,
+    after: &Machine,
+    operation: Operation,
+    number: u32,
+    record: StepRecord,
+) {
     let process = record.process;
     for other in (0..before.shape().p()).filter(|&other| other != process) {
         assert_eq!(before.process(other), after.process(other));
@@ -181,7 +197,7 @@ fn assert_effect(before: &Machine, after: &Machine, operation: Operation, record
         assert_counts(before, after, process, false);
         return;
     };
-    let effect = expected(before, process, operation, step);
+    let effect = expected(before, process, operation, step, number);
     assert_eq!(changes(before, after), effect, "{step:?}");
     assert_counts(before, after, process, !effect.1.is_empty());
     let Some(next) = after.next_step(process) else {
@@ -196,19 +212,15 @@ fn assert_effect(before: &Machine, after: &Machine, operation: Operation, record
 fn assert_effects(plan: &Plan) {
     let mut machine = Machine::start(Shape::new(plan.p, plan.l).unwrap());
     let mut operations = vec![Operation::Take; plan.p as usize];
-    for bytes in schedule(plan).chunks_exact(8) {
+    for (number, bytes) in numbered(&schedule(plan)) {
         let record = StepRecord::read(bytes, plan.p).unwrap();
         if let Act::Begin(operation) = record.act {
             operations[record.process as usize] = operation;
         }
         let before = machine.clone();
-        play_record(&mut machine, record);
-        assert_effect(
-            &before,
-            &machine,
-            operations[record.process as usize],
-            record,
-        );
+        play_record(&mut machine, number, record);
+        let operation = operations[record.process as usize];
+        assert_effect(&before, &machine, operation, number, record);
     }
 }
 

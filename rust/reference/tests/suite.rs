@@ -2,6 +2,8 @@
 
 mod account;
 mod between_reads;
+mod block_numbers_mutations;
+mod block_numbers_runs;
 mod branches;
 mod c3_words;
 mod call_refusals;

@@ -1,7 +1,8 @@
 //! Superblocks near their subblocks' super: by hand, on random, hostile and refused lists.
 
-use crate::support::{every_shape, needed, run_with, stalls, subblock_at, Met};
-use reference::demand3::step_limit;
+use crate::support::{
+    ample, every_shape, needed, refused_ends, run_with, stalls, subblock_at, Met, ZERO,
+};
 use reference::known_runs::known_runs;
 use reference::lists::List;
 use reference::process::STEP_NAMES;
@@ -23,9 +24,9 @@ fn by_hand(list: List) -> (Vec<u32>, Vec<Subblock>) {
 fn the_superblock_at_super() {
     let (table, found) = by_hand(List::new().put(0, 5).steps(0, 17));
     assert_eq!(found, [subblock_at(2, 1, 1, 1)]);
-    let root = [[0; 6], [1, 0, 0, 1, 0, 1], [0; 6]].concat();
-    let leaf_of_0 = [[0; 6], [1, 0, 1, 5, 0, 0]].concat();
-    assert_eq!(table, [root, leaf_of_0, vec![0; 12]].concat());
+    let root = [ZERO, [1, 0, 0, 1, 0, 1, 16], ZERO].concat();
+    let leaf_of_0 = [ZERO, [1, 0, 1, 5, 0, 0, 2]].concat();
+    assert_eq!(table, [root, leaf_of_0, [ZERO; 2].concat()].concat());
 }
 
 /// Process 0 reads the root's head, 1, before process 1 writes root block 1 without its block.
@@ -34,9 +35,9 @@ fn the_superblock_one_later() {
     let begun = List::new().put(1, 7).steps(1, 10).put(0, 5).steps(0, 2);
     let (table, found) = by_hand(begun.steps(1, 7).steps(0, 15));
     assert_eq!(found, [subblock_at(2, 1, 2, 1), subblock_at(3, 1, 1, 1)]);
-    let root = [[0; 6], [1, 0, 0, 0, 1, 1], [2, 0, 0, 1, 1, 2]].concat();
-    let leaf_of_0 = [[0; 6], [1, 0, 1, 5, 0, 0]].concat();
-    let leaf_of_1 = [[0; 6], [1, 0, 1, 7, 0, 0]].concat();
+    let root = [ZERO, [1, 0, 0, 0, 1, 1, 19], [2, 0, 0, 1, 1, 2, 34]].concat();
+    let leaf_of_0 = [ZERO, [1, 0, 1, 5, 0, 0, 13]].concat();
+    let leaf_of_1 = [ZERO, [1, 0, 1, 7, 0, 0, 2]].concat();
     assert_eq!(table, [root, leaf_of_0, leaf_of_1].concat());
 }
 
@@ -46,11 +47,6 @@ fn assert_left(plan: &Plan, list: &[u8], bytes: usize, met: &mut Met) -> u32 {
     let after = run_with(p, l, list, needed(p, l), bytes);
     met.assert_near(Shape::new(p, l).unwrap(), &after.table, plan);
     after.result.refusal
-}
-
-/// Answer bytes for all operations.
-fn ample(plan: &Plan) -> usize {
-    16 * (plan.p * plan.l) as usize
 }
 
 /// Checks what the plans' lists leave, played whole.
@@ -111,17 +107,6 @@ fn stops_at_each_step() {
 fn the_largest_shape() {
     let plan = Plan::new(8, 500, Pace::Uniform, 1);
     assert_plans(&[plan]).assert_both(0..3);
-}
-
-/// Ends that Run refuses whatever the list before them: an ill-formed record, two begins in
-/// turn, and more steps than one operation has.
-fn refused_ends(plan: &Plan) -> [Vec<u8>; 3] {
-    let most = step_limit(Shape::new(plan.p, plan.l).unwrap()) as usize;
-    [
-        List::new().steps(plan.p, 1).bytes(),
-        List::new().take(0).take(0).bytes(),
-        List::new().steps(0, most + 1).bytes(),
-    ]
 }
 
 #[test]

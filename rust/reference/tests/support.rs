@@ -1,6 +1,8 @@
 //! Helpers of the tests: buffers with a pattern, calls on them, mixed and hostile lists.
 
+use reference::block_numbers::At;
 use reference::check::{check_log, CheckResult};
+use reference::demand3::step_limit;
 use reference::growth::Past;
 use reference::list::{list_order, ListResult};
 use reference::lists::List;
@@ -9,9 +11,12 @@ use reference::process::StepName;
 use reference::run::{run, RunResult};
 use reference::schedules::{schedule, Ending, Pace, Plan};
 use reference::superblocks::{all_subblocks, supers_near, Subblock};
-use reference::tree::{Shape, BLOCK_WORDS};
+use reference::tree::{Block, Shape, Tree, BLOCK_WORDS, ROOT};
 use std::fmt::Debug;
 use std::ops::Range;
+
+/// Words of a block by the paper, for tests that find words apart from the version's layout.
+pub const PAPER_BLOCK_WORDS: usize = 7;
 
 /// Words and bytes lent past those needed; they must keep their content.
 pub const SPARE: usize = 21;
@@ -98,6 +103,28 @@ pub fn table_of(machine: &Machine) -> Vec<u32> {
     machine.memory.tree.words()
 }
 
+/// Node and place of every block.
+pub fn places(shape: Shape) -> impl Iterator<Item = (u32, u32)> {
+    let nodes = ROOT..=shape.last_node();
+    nodes.flat_map(move |node| (0..=shape.last_place(node)).map(move |place| (node, place)))
+}
+
+/// The blocks without their numbers.
+pub fn unnumbered(tree: &Tree) -> Tree {
+    let mut unnumbered = tree.clone();
+    for (node, place) in places(tree.shape()) {
+        let block = Block {
+            number: 0,
+            ..tree.block(node, place)
+        };
+        unnumbered.write(node, place, block);
+    }
+    unnumbered
+}
+
+/// The words of a place that is absent, and of block 0.
+pub const ZERO: [u32; BLOCK_WORDS] = [0; BLOCK_WORDS];
+
 /// The words of a node's block.
 pub fn block_words(shape: Shape, table: &mut [u32], node: u32, place: u32) -> &mut [u32] {
     let start = shape.node_start(node) + BLOCK_WORDS * place as usize;
@@ -111,6 +138,10 @@ pub fn then_pattern_words(start: &[u32], count: usize) -> Vec<u32> {
 
 pub fn then_pattern_bytes(start: &[u8], count: usize) -> Vec<u8> {
     [start, &pattern_bytes(count)[start.len()..]].concat()
+}
+
+pub fn block_at(node: u32, place: u32) -> At {
+    At { node, place }
 }
 
 pub fn subblock_at(node: u32, place: u32, above: u32, super_word: u32) -> Subblock {
@@ -185,6 +216,22 @@ pub fn every_shape(pace: Pace, seeds: u64) -> Vec<Plan> {
         }
     }
     plans
+}
+
+/// Answer bytes for all operations.
+pub fn ample(plan: &Plan) -> usize {
+    16 * (plan.p * plan.l) as usize
+}
+
+/// Ends that Run refuses whatever the list before them: an ill-formed record, two begins in
+/// turn, and more steps than one operation has.
+pub fn refused_ends(plan: &Plan) -> [Vec<u8>; 3] {
+    let most = step_limit(Shape::new(plan.p, plan.l).unwrap()) as usize;
+    [
+        List::new().steps(plan.p, 1).bytes(),
+        List::new().take(0).take(0).bytes(),
+        List::new().steps(0, most + 1).bytes(),
+    ]
 }
 
 /// Plans that stop at one named step, before and after it, with each ending.

@@ -1,15 +1,15 @@
 //! Shape of the tree and layout of the work table.
 
-use crate::support::{mixed_list, needed, run_amply};
+use crate::support::{mixed_list, needed, run_amply, PAPER_BLOCK_WORDS};
 use reference::refusal::Refusal;
 use reference::run::{play, Room};
 use reference::tree::{left_child, parent, right_child, Block, Shape, Tree, BLOCK_WORDS, ROOT};
 
 #[test]
 fn words_needed_by_the_paper() {
-    assert_eq!(needed(2, 1), 42);
-    assert_eq!(needed(4, 24), 1770);
-    assert_eq!(needed(8, 500), 6 * (4 * 8 * 500 + 15));
+    assert_eq!(needed(2, 1), 49);
+    assert_eq!(needed(4, 24), 2065);
+    assert_eq!(needed(8, 500), PAPER_BLOCK_WORDS * (4 * 8 * 500 + 15));
 }
 
 #[test]
@@ -37,7 +37,7 @@ fn node_parts_follow_each_other() {
             let mut next = 0;
             for node in ROOT..=shape.last_node() {
                 assert_eq!(shape.node_start(node), next);
-                next += 6 * (l as usize * (1 << shape.height(node)) + 1);
+                next += PAPER_BLOCK_WORDS * (l as usize * (1 << shape.height(node)) + 1);
             }
             assert_eq!(next, shape.words_needed());
         }
@@ -58,7 +58,7 @@ fn nodes_of_eight_processes() {
 
 #[test]
 fn words_and_blocks_agree() {
-    let words = [1, 2, 3, 4, 5, 6];
+    let words = [1, 2, 3, 4, 5, 6, 7];
     let block = Block {
         puts: 1,
         takes: 2,
@@ -66,13 +66,14 @@ fn words_and_blocks_agree() {
         end_left: 4,
         end_right: 5,
         size: 6,
+        number: 7,
     };
     assert_eq!(block.words(), words);
     assert_eq!(Block::from_words(&words), block);
-    for (words, present) in [([0, 0, 1, 1, 1, 1], false), ([1, 0, 0, 0, 0, 0], true)] {
-        assert_eq!(Block::from_words(&words).present(), present);
-    }
-    assert!(Block::from_words(&[0, 1, 0, 0, 0, 0]).present());
+    let present = |words: [u32; BLOCK_WORDS]| Block::from_words(&words).present();
+    assert!(present([1, 0, 0, 0, 0, 0, 0]) && present([0, 1, 0, 0, 0, 0, 0]));
+    // A number makes no block present.
+    assert!(!present([0, 0, 1, 1, 1, 1, 1]));
 }
 
 #[test]

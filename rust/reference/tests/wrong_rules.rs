@@ -1,7 +1,8 @@
-//! Wrong step rules: the checkers of superblocks and of growth see what they leave. Wrong rules of
-//! counting helps: the checker of demand 3 sees what they write.
+//! Wrong step rules: the checkers of superblocks, of growth and of block numbers see what they leave.
+//! Wrong rules of counting helps: the checker of demand 3 sees what they write.
 
-use crate::support::{run_amply, subblock_at, table_of};
+use crate::support::{block_at, run_amply, subblock_at, table_of};
+use reference::block_numbers::{numbers_above, numbers_hold, numbers_rise, Misnumbered};
 use reference::demand3::{check, Violation};
 use reference::growth::{grows, Departure, Past};
 use reference::help_lists::{help_lists, HelpList};
@@ -10,10 +11,10 @@ use reference::lists::List;
 use reference::machine::Machine;
 use reference::memory::Memory;
 use reference::process::{Activity, Step, Then};
-use reference::records::{Act, Answer, StepRecord};
+use reference::records::{numbered, Act, Answer, StepRecord};
 use reference::run::play_record;
 use reference::superblocks::supers_near;
-use reference::tree::{Block, Shape};
+use reference::tree::{Block, Shape, ROOT};
 
 /// Makes a wrong rule of a right one, by what the step meets in the memory or its registers.
 type Spoil = fn(&mut Memory, Step) -> Step;
@@ -68,16 +69,69 @@ const BLOCK_WRITTEN_OVER: Spoil = |memory, step| {
     step
 };
 
+/// V2 leaves no number.
+const NUMBER_LOST: Spoil = |memory, step| {
+    if let Step::V2 { advance, .. } = step {
+        let block = Block {
+            number: 0,
+            ..memory.tree.block(advance.node, advance.place)
+        };
+        memory.tree.write(advance.node, advance.place, block);
+    }
+    step
+};
+
+/// What can be counted up to a record, that record included.
+#[derive(Clone, Copy, Default)]
+struct Counted {
+    records: u32,
+    step_records: u32,
+    /// Records of its process.
+    own_records: u32,
+    /// Steps of its process since the last begin of it.
+    own_steps: u32,
+    /// All records up to the one before it of its process.
+    own_before: u32,
+}
+
+/// A rule of numbering: what a block is written with.
+type Numbering = fn(Counted) -> u32;
+
+const RIGHT_NUMBER: Numbering = |counted| counted.records;
+const FROM_0: Numbering = |counted| counted.records - 1;
+const BEGINS_LEFT_OUT: Numbering = |counted| counted.step_records;
+/// The record before is the begin of an A, and the C3N of a C4.
+const RECORD_BEFORE: Numbering = |counted| counted.own_before;
+const OWN_RECORDS: Numbering = |counted| counted.own_records;
+const OWN_STEPS: Numbering = |counted| counted.own_steps;
+
 /// What a list leaves that is played by such a rule.
 fn table_by(spoil: Spoil, shape: Shape, list: List) -> Vec<u32> {
+    table_with(spoil, RIGHT_NUMBER, shape, list)
+}
+
+/// The same with blocks numbered by such a rule.
+fn table_with(spoil: Spoil, numbering: Numbering, shape: Shape, list: List) -> Vec<u32> {
     let mut machine = Machine::start(shape);
-    for bytes in list.bytes().chunks_exact(8) {
+    let mut counted = [Counted::default(); 8];
+    let mut step_records = 0;
+    for (number, bytes) in numbered(&list.bytes()) {
         let record = StepRecord::read(bytes, shape.p()).unwrap();
+        let is_step = record.act == Act::Step;
+        step_records += u32::from(is_step);
+        let own = &mut counted[record.process as usize];
+        *own = Counted {
+            records: number,
+            step_records,
+            own_records: own.own_records + 1,
+            own_steps: if is_step { own.own_steps + 1 } else { 0 },
+            own_before: own.records,
+        };
         let process = &mut machine.processes[record.process as usize];
         if let Activity::Busy { step, .. } = &mut process.activity {
             *step = spoil(&mut machine.memory, *step);
         }
-        play_record(&mut machine, record);
+        play_record(&mut machine, numbering(*own), record);
     }
     table_of(&machine)
 }
@@ -130,6 +184,54 @@ fn with_a_block_written_over_the_past_changes() {
     assert_eq!(goes_on(RIGHT), Ok(()));
     let entry = 0;
     assert_eq!(goes_on(BLOCK_WRITTEN_OVER), Err(Departure::Order { entry }));
+}
+
+/// Numbers that rise and stand above those of subblocks, but are of other records.
+#[test]
+fn numbered_otherwise_a_block_has_another_record() {
+    let shape = Shape::new(2, 1).unwrap();
+    let list = m6(0, 1);
+    let table = |numbering| table_with(RIGHT, numbering, shape, list.clone());
+    let records = list.clone().bytes();
+    assert_eq!(numbers_hold(shape, &records, &table(RIGHT_NUMBER)), Ok(()));
+    for numbering in [FROM_0, BEGINS_LEFT_OUT, RECORD_BEFORE, OWN_RECORDS] {
+        let table = table(numbering);
+        assert_eq!(numbers_rise(shape, &table), Ok(()));
+        assert_eq!(numbers_above(shape, &table), Ok(()));
+        let (block, record) = (block_at(ROOT, 1), Some(21));
+        let wrong = Err(Misnumbered::NotWritten { block, record });
+        assert_eq!(numbers_hold(shape, &records, &table), wrong);
+    }
+}
+
+/// Process 0 has had 20 records when it writes a block that process 1, with its 19th, carries up.
+#[test]
+fn numbered_by_process_a_block_is_not_above_its_subblock() {
+    let shape = Shape::new(2, 2).unwrap();
+    let begun = List::new().put(0, 5).steps(0, 17).put(0, 6).steps(0, 1);
+    let list = begun.put(1, 7).steps(1, 20);
+    let table = |numbering| table_with(RIGHT, numbering, shape, list.clone());
+    assert_eq!(numbers_above(shape, &table(RIGHT_NUMBER)), Ok(()));
+    let (block, subblock) = (block_at(ROOT, 2), block_at(2, 2));
+    let wrong = Err(Misnumbered::NotAbove { block, subblock });
+    assert_eq!(numbers_above(shape, &table(OWN_RECORDS)), wrong);
+    let wrong = Err(Misnumbered::NotRising(block_at(2, 2)));
+    assert_eq!(numbers_rise(shape, &table(OWN_STEPS)), wrong);
+}
+
+#[test]
+fn a_number_that_is_lost_or_another_records() {
+    let shape = Shape::new(2, 1).unwrap();
+    let lost = table_by(NUMBER_LOST, shape, m6(0, 1));
+    let wrong = Err(Misnumbered::NotRising(block_at(2, 1)));
+    assert_eq!(numbers_rise(shape, &lost), wrong);
+    // Process 1 comes to C4 with record 15, process 0 writes the block with record 31.
+    let list = List::new().put(1, 7).steps(1, 14).put(0, 5).steps(0, 17);
+    let list = list.steps(1, 1);
+    let over = table_by(BLOCK_WRITTEN_OVER, shape, list.clone());
+    let (block, record) = (block_at(ROOT, 1), Some(31));
+    let wrong = Err(Misnumbered::NotWritten { block, record });
+    assert_eq!(numbers_hold(shape, &list.bytes(), &over), wrong);
 }
 
 /// A rule of counting helps.
@@ -193,7 +295,7 @@ fn log_by(counting: Counting, shape: Shape, list: &[u8]) -> Vec<u8> {
     let mut machine = Machine::start(shape);
     let mut helps = [0; 8];
     let mut log = Vec::new();
-    for bytes in list.chunks_exact(8) {
+    for (number, bytes) in numbered(list) {
         let record = StepRecord::read(bytes, shape.p()).unwrap();
         let helps = &mut helps[record.process as usize];
         if record.act != Act::Step && counting.set_back {
@@ -203,7 +305,7 @@ fn log_by(counting: Counting, shape: Shape, list: &[u8]) -> Vec<u8> {
             let moves = machine.memory.head(advance.node) == advance.place;
             *helps += u8::from((counting.counts)(advance.then, moves));
         }
-        if let Some(answer) = play_record(&mut machine, record) {
+        if let Some(answer) = play_record(&mut machine, number, record) {
             let helps = *helps;
             log.extend(Answer { helps, ..answer }.bytes());
         }

@@ -30,10 +30,10 @@ run-room p l records table answers =
     both (λ (r : RunResult). 16 * r .answered ≤ length answers) (accepted (callRefusal p l (length table) (length records)))
     (played-room (shapeFor p l) (length answers) (stepRecords records)) (omega arith)
 
-few : (r : Ran) (records table answers : List ℕ) → runLeft r table answers ≡ run 4 24 records (replicate 1770 0) (replicate 1536 0) → r .answers ≤ 96
+few : (r : Ran) (records table answers : List ℕ) → runLeft r table answers ≡ run 4 24 records (replicate 2065 0) (replicate 1536 0) → r .answers ≤ 96
 unfolding runLeft
 few r records table answers e =
-    omega (arith, ap (λ (x : RunResult). x .answered) e, run-room 4 24 records (replicate 1770 0) (replicate 1536 0))
+    omega (arith, ap (λ (x : RunResult). x .answered) e, run-room 4 24 records (replicate 2065 0) (replicate 1536 0))
 
 slice-aggregate-put-text : tie.Need-slice-aggregate-put-text
 slice-aggregate-put-text c = search needs

@@ -72,21 +72,22 @@ Moves q r = r ≡ moved q (operationIn (q .status)) (stepIn (r .status))
 
 -- q becomes r by a step that looks at these heads alone and leaves heads'
 abbrev pub NextByHeads : List ℕ → List ℕ → Process → Process → Type 0
-NextByHeads heads heads' q r = Moves q r × ((s : Shape) (k : ℕ) (o : Operation) (table : List ℕ)
-    → step s k o (memoryOf table heads) (stepIn (q .status))
-    ≡ go s k o (memoryOf table heads) (memoryOf table heads') (stepIn (r .status)))
+NextByHeads heads heads' q r = Moves q r × ((s : Shape) (number k : ℕ) (o : Operation) (table : List ℕ)
+    → step s number k o (memoryOf table heads) (stepIn (q .status))
+    ≡ go s number k o (memoryOf table heads) (memoryOf table heads') (stepIn (r .status)))
 
 -- q becomes r by a step that looks at these heads alone, leaves heads', and tells whether it was a help: r counts what
 -- it tells
 abbrev pub NextTelling : List ℕ → List ℕ → Process → Process → Type 0
-NextTelling heads heads' q r = (s : Shape) (k : ℕ) (table : List ℕ)
-    → let z = step s k (operationIn (q .status)) (memoryOf table heads) (stepIn (q .status)) in (r ≡ stepped q z) × (z .memory ≡ memoryOf table heads')
+NextTelling heads heads' q r = (s : Shape) (number k : ℕ) (table : List ℕ)
+    → let z = step s number k (operationIn (q .status)) (memoryOf table heads) (stepIn (q .status)) in (r ≡ stepped q z) × (z .memory ≡ memoryOf table heads')
 
--- q becomes r by a step that looks at this table alone, by the starts of its parts, and leaves table'
-abbrev pub NextByTable : List ℕ → List ℕ → List ℕ → Process → Process → Type 0
-NextByTable starts table table' q r = Moves q r × ((s : Shape) (k : ℕ) (o : Operation) (heads : List ℕ) → PartsBegin s starts (stepIn (q .status))
-    → step s k o (memoryOf table heads) (stepIn (q .status))
-    ≡ go s k o (memoryOf table heads) (memoryOf table' heads) (stepIn (r .status)))
+-- q becomes r by a step that looks at this table alone, by the starts of its parts, and leaves table'; number is that of
+-- its record
+abbrev pub NextByTable : ℕ → List ℕ → List ℕ → List ℕ → Process → Process → Type 0
+NextByTable number starts table table' q r = Moves q r × ((s : Shape) (k : ℕ) (o : Operation) (heads : List ℕ) → PartsBegin s starts (stepIn (q .status))
+    → step s number k o (memoryOf table heads) (stepIn (q .status))
+    ≡ go s number k o (memoryOf table heads) (memoryOf table' heads) (stepIn (r .status)))
 
 -- The functions of the named steps. A name is given by what it is to say P of each step of that name: of R2,
 -- (w : Visit) → P (R2 w). Where process q is at such a step, Next holds; at a step of another name, Same does.
@@ -99,8 +100,8 @@ StepsByHeads Each heads heads' q r = AtName Each q (NextByHeads heads heads' q r
 abbrev pub StepsTelling : ((Step → Type 0) → Type 0) → List ℕ → List ℕ → Process → Process → Type 0
 StepsTelling Each heads heads' q r = AtName Each q (NextTelling heads heads' q r) ((r ≡ q) × (heads' ≡ heads))
 
-abbrev pub StepsByTable : ((Step → Type 0) → Type 0) → List ℕ → List ℕ → List ℕ → Process → Process → Type 0
-StepsByTable Each starts table table' q r = AtName Each q (NextByTable starts table table' q r) ((r ≡ q) × (table' ≡ table))
+abbrev pub StepsByTable : ((Step → Type 0) → Type 0) → ℕ → List ℕ → List ℕ → List ℕ → Process → Process → Type 0
+StepsByTable Each number starts table table' q r = AtName Each q (NextByTable number starts table table' q r) ((r ≡ q) × (table' ≡ table))
 
 -- Where process q is at V3, P holds of its registers; at another step, Same does.
 abbrev pub AtV3 : Process → (After → ℕ → ℕ → Type 0) → Type 0 → Type 0

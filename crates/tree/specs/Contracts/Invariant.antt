@@ -35,9 +35,9 @@ Present s m v i = 1 ≤ count (block s m v i)
 abbrev pub Written : Shape → Memory → ℕ → ℕ → Type 0
 Written s m v i = (i ≡ 0) ⊎ Present s m v i
 
--- all six words are zero
+-- all words are zero
 unfoldable pub zeros : Block
-zeros = record { puts = 0; takes = 0; superblock = 0; left = 0; right = 0; size = 0 }
+zeros = record { puts = 0; takes = 0; superblock = 0; left = 0; right = 0; size = 0; number = 0 }
 
 -- a memory that has the words needed and a head for each node
 pub record Sized (s : Shape) (m : Memory) : Type 0 where

@@ -8,6 +8,7 @@ mod listing;
 mod making;
 mod playing;
 mod showing;
+mod tabling;
 mod tracing;
 
 use crate::arguments::{Choice, Given};
@@ -52,7 +53,7 @@ const JSON: Choice = Choice {
     about: "writes the result as JSON",
 };
 
-const COMMANDS: [Command; 10] = [
+const COMMANDS: [Command; 11] = [
     Command {
         name: "run",
         usage: "[-p P -L L] STEPS [--log OUT] [--whole] [--json]",
@@ -109,11 +110,25 @@ const COMMANDS: [Command; 10] = [
         call: showing::show,
     },
     Command {
+        name: "table",
+        usage: "[-p P -L L] STEPS [--node V] [--whole] [--json]",
+        about: "shows the blocks that the steps left, and when each was written",
+        more: "By node, a line a block: its place, the puts and takes up to it, super (`-` if it is not set), its\n\
+               ends in the children or in a leaf its operation, in the root the size of the queue after it,\n\
+               and the record that wrote it with that record's process. `otq trace` tells what the record did.\n\
+               Of a refused list it shows what the records before the refused one left.",
+        choices: &[&P, &L, &tabling::NODE, &WHOLE, &JSON],
+        files: (1, 1),
+        proved: true,
+        call: tabling::table,
+    },
+    Command {
         name: "trace",
         usage: "[-p P -L L] STEPS [--from N] [--to N] [--whole]",
         about: "tells what each record does",
         more: "A line a record: its number, process and named step, what it read, what it wrote or moved,\n\
                and whom it helped: the process that wrote the block, in a leaf or, with C4, in a node above.\n\
+               A block that it meets is told with the record that wrote it, and whose that is.\n\
                It comes from the Rust version of the rules, whose table and answers are compared with the\n\
                proved library before anything is printed.",
         choices: &[&P, &L, &tracing::FROM, &tracing::TO, &WHOLE],

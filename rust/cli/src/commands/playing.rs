@@ -21,10 +21,7 @@ pub const LOG: Choice = Choice {
 pub fn run(tool: &mut Tool, given: &Given) -> Result<Status, Failure> {
     let list = List::read(tool, given)?;
     let played = list.run()?;
-    let refused = played
-        .run
-        .refusal
-        .map(|refusal| Refused::of_list(&list, refusal, played.run.taken as usize));
+    let refused = Refused::of_run(&list, &played.run);
     if let Some(path) = given.value("--log") {
         if refused
             .as_ref()

@@ -23,9 +23,7 @@ pub fn trace(tool: &mut Tool, given: &Given) -> Result<Status, Failure> {
     let list = List::read(tool, given)?;
     let run = list.run()?.run;
     let taken = run.taken as usize;
-    let refused = run
-        .refusal
-        .map(|refusal| Refused::of_list(&list, refusal, taken));
+    let refused = Refused::of_run(&list, &run);
     if let Some(refused) = refused.as_ref().filter(|refused| refused.record.is_none()) {
         return Err(refused.failure());
     }

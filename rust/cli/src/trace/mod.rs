@@ -3,7 +3,6 @@
 //! A trace needs heads and step names, which the library's table does not hold.
 
 mod told;
-mod writers;
 
 use crate::failure::Failure;
 use crate::list::List;
@@ -13,7 +12,6 @@ use reference::records::Answer;
 use reference::run::{test_record, Room};
 use reference::tree::Shape;
 use told::Told;
-use writers::Writers;
 
 /// About how many records and table words the comparisons of one trace may cost.
 const BUDGET: u64 = 50_000_000;
@@ -22,7 +20,6 @@ const BUDGET: u64 = 50_000_000;
 pub struct Traced<'a> {
     list: &'a List,
     machine: Machine,
-    writers: Writers,
     answers: Vec<Answer>,
     /// Records played.
     played: usize,
@@ -35,7 +32,6 @@ impl Traced<'_> {
         Ok(Traced {
             list,
             machine: Machine::start(shape),
-            writers: Writers::default(),
             answers: Vec::new(),
             played: 0,
         })
@@ -52,7 +48,7 @@ impl Traced<'_> {
             name,
             words,
             answer,
-        } = told::play(&mut self.machine, &mut self.writers, record);
+        } = told::play(&mut self.machine, self.list.records(), number, record);
         self.answers.extend(answer);
         self.played = number;
         let process = record.process;

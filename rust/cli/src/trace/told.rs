@@ -1,14 +1,14 @@
 //! What a record does, in words.
 
-use super::writers::Writers;
-use crate::words::count;
+use crate::notation::Record;
+use crate::words::{count, node_name};
 use reference::helps::{play_watched, ChildV3};
 use reference::machine::Machine;
 use reference::memory::Memory;
-use reference::process::{Activity, Attempt, Refresh, Step};
+use reference::process::{Activity, Attempt, Built, Ends, Refresh, Step};
 use reference::records::{Act, Answer, Operation, Outcome, StepRecord};
 use reference::run::play_record;
-use reference::tree::{left_child, parent, right_child, Block, Shape, ROOT};
+use reference::tree::{left_child, parent, right_child, Block, Shape, Totals, ROOT};
 
 /// What a record did: the name of its step, or that it is a begin; and what was read and written.
 pub struct Told {
@@ -18,27 +18,29 @@ pub struct Told {
     pub answer: Option<Answer>,
 }
 
-/// Plays a record, and tells what it did.
-pub fn play(machine: &mut Machine, writers: &mut Writers, record: StepRecord) -> Told {
+/// Plays the record with this number, from 1, of a list, and tells what it did.
+pub fn play(machine: &mut Machine, list: &[Record], number: usize, record: StepRecord) -> Told {
     let process = record.process;
     let busy = machine.next_step(process);
     let Some(step) = busy.filter(|_| record.act == Act::Step) else {
-        play_record(machine, record);
+        play_record(machine, number as u32, record);
         return begun(machine, record);
     };
     let seen = Seen {
         memory: &machine.memory,
+        list,
         process,
+        number: number as u32,
     };
     let seen = seen.step(step);
-    let (answer, v3) = play_watched(machine, record);
+    let (answer, v3) = play_watched(machine, number as u32, record);
     let next = machine.next_step(process);
-    writers.keep(process, step, next);
     let did = match (step, answer, next) {
         (Step::A, ..) => written(machine, process),
-        (Step::V3 { advance }, ..) => {
-            v3.map_or_else(String::new, |v3| helped(v3, advance.place, writers))
-        }
+        (Step::V3 { advance }, ..) => v3.map_or_else(String::new, |v3| {
+            let block = machine.memory.tree.block(v3.child, advance.place);
+            helped(v3, block, list)
+        }),
         (_, Some(answer), _) => ended(answer),
         _ => built(step, next),
     };
@@ -75,20 +77,26 @@ fn written(machine: &Machine, process: u32) -> String {
         } => format!(", value {value}"),
         _ => String::new(),
     };
-    format!(
-        "writes block {place} there: {}{value}",
-        totals(block.puts, block.takes)
-    )
+    let node = node_name(tree.shape().p(), leaf);
+    let (totals, number) = (block_totals(block), block.number);
+    format!("writes block {place} of {node}: {totals}{value}, number {number}")
+}
+
+/// The process of the record that wrote a block.
+fn writer(list: &[Record], block: Block) -> u8 {
+    list[block.number as usize - 1][0]
 }
 
 /// Whom the V3 of a child's block helped; or that it was no help, if the head was moved already.
-fn helped(v3: ChildV3, place: u32, writers: &Writers) -> String {
+fn helped(v3: ChildV3, block: Block, list: &[Record]) -> String {
     let ChildV3 { child, moved } = v3;
     match moved {
         // Never its own block: what a process wrote, it has advanced before it refreshes a node.
         true => {
-            let writer = writers.of(child, place);
-            format!(": a help, moved the head of node {child} for process {writer}'s block")
+            let (writer, record) = (writer(list, block), block.number);
+            format!(
+                ": a help, moved the head of node {child} for process {writer}'s block of record {record}"
+            )
         }
         false => ": moved already, so it does not count as a help".to_string(),
     }
@@ -97,11 +105,9 @@ fn helped(v3: ChildV3, place: u32, writers: &Writers) -> String {
 /// What came of C3R and C3N.
 fn built(step: Step, next: Option<Step>) -> String {
     match (step, next) {
-        (_, Some(Step::C3N { totals: sums, .. })) => {
-            format!("; together {}", totals(sums.puts, sums.takes))
-        }
-        (Step::C3N { .. }, Some(Step::C4 { refresh, block, .. })) => {
-            let content = content(refresh.node, block);
+        (_, Some(Step::C3N { totals: sums, .. })) => format!("; together {}", totals(sums)),
+        (Step::C3N { .. }, Some(Step::C4 { refresh, built, .. })) => {
+            let content = content(refresh.node, built);
             format!("; there is more, so it builds a block: {content}")
         }
         (Step::C3N { .. }, _) => "; there is no more, so the refresh has succeeded".to_string(),
@@ -130,7 +136,10 @@ fn ended(answer: Answer) -> String {
 /// What a process sees before its step.
 struct Seen<'a> {
     memory: &'a Memory,
+    list: &'a [Record],
     process: u32,
+    /// The number of the record that does the step.
+    number: u32,
 }
 
 impl Seen<'_> {
@@ -142,7 +151,7 @@ impl Seen<'_> {
                 advance,
                 parent_head,
             } => {
-                let block = self.place(advance.node, advance.place);
+                let block = self.block(advance.node, advance.place);
                 match self
                     .memory
                     .tree
@@ -206,15 +215,18 @@ impl Seen<'_> {
             }
             Step::C3N { refresh, h, .. } => {
                 let block = self.memory.tree.block(refresh.node, h - 1);
-                let place = self.place(refresh.node, h - 1);
-                let size = size(refresh.node, block);
-                format!("reads {place}: {}{size}", totals(block.puts, block.takes))
+                let size = size(refresh.node, block.size);
+                let told = self.block(refresh.node, h - 1);
+                format!("reads {told}: {}{size}", block_totals(block))
             }
-            Step::C4 { refresh, h, block } => {
-                let place = self.place(refresh.node, h);
+            Step::C4 { refresh, h, built } => {
+                let block = self.block(refresh.node, h);
                 match self.memory.tree.block(refresh.node, h).present() {
-                    false => format!("writes {place}: {}", content(refresh.node, block)),
-                    true => format!("finds {place} present, so the refresh has failed"),
+                    false => {
+                        let (content, number) = (content(refresh.node, built), self.number);
+                        format!("writes {block}: {content}, number {number}")
+                    }
+                    true => format!("finds {block} present, so the refresh has failed"),
                 }
             }
             other => format!("{other:?}"),
@@ -224,8 +236,10 @@ impl Seen<'_> {
     /// What A reads.
     fn own_leaf(&self) -> String {
         let leaf = self.shape().leaf(self.process);
-        let last = self.block(leaf, self.memory.head(leaf) - 1);
-        format!("reads {}, and {last}; ", self.head(leaf))
+        let last = self.memory.head(leaf) - 1;
+        let totals = block_totals(self.memory.tree.block(leaf, last));
+        let (head, block) = (self.head(leaf), self.block(leaf, last));
+        format!("reads {head}, and {block}: {totals}; ")
     }
 
     fn shape(&self) -> Shape {
@@ -233,13 +247,7 @@ impl Seen<'_> {
     }
 
     fn node(&self, node: u32) -> String {
-        match node {
-            ROOT => "the root".to_string(),
-            leaf if self.shape().height(leaf) == 0 => {
-                format!("leaf {}", self.shape().process_of_leaf(leaf))
-            }
-            node => format!("node {node}"),
-        }
+        node_name(self.shape().p(), node)
     }
 
     fn head(&self, node: u32) -> String {
@@ -250,23 +258,22 @@ impl Seen<'_> {
         )
     }
 
-    fn place(&self, node: u32, place: u32) -> String {
-        format!("block {place} of {}", self.node(node))
-    }
-
-    /// A block with its totals.
+    /// A block by its place, with the record that wrote it and whose that is; block 0 and those that are
+    /// absent have none.
     fn block(&self, node: u32, place: u32) -> String {
-        let block = self.memory.tree.block(node, place);
-        format!(
-            "{} ({})",
-            self.place(node, place),
-            totals(block.puts, block.takes)
-        )
+        let told = format!("block {place} of {}", self.node(node));
+        match self.memory.tree.block(node, place) {
+            Block { number: 0, .. } => told,
+            block => {
+                let (number, process) = (block.number, writer(self.list, block));
+                format!("{told} (by record {number}, process {process})")
+            }
+        }
     }
 
     /// R3 and R5.
     fn look(&self, child: u32, c: u32) -> String {
-        let block = self.place(child, c);
+        let block = self.block(child, c);
         match self.memory.tree.block(child, c).present() {
             true => format!("looks at {block}: present, so it helps to advance it"),
             false => format!("looks at {block}: absent"),
@@ -275,12 +282,9 @@ impl Seen<'_> {
 
     /// C3L and C3R.
     fn child_block(&self, side: &str, child: u32, place: u32) -> String {
-        let block = self.memory.tree.block(child, place);
-        let place = self.place(child, place);
-        format!(
-            "reads {place}, the {side} child: {}",
-            totals(block.puts, block.takes)
-        )
+        let totals = block_totals(self.memory.tree.block(child, place));
+        let block = self.block(child, place);
+        format!("reads {block}, the {side} child: {totals}")
     }
 
     /// C1 and C2.
@@ -290,27 +294,26 @@ impl Seen<'_> {
     }
 }
 
-fn totals(puts: u32, takes: u32) -> String {
+fn totals(Totals { puts, takes }: Totals) -> String {
     let (puts, takes) = (puts as usize, takes as usize);
     format!("{}, {}", count(puts, "put"), count(takes, "take"))
 }
 
+fn block_totals(Block { puts, takes, .. }: Block) -> String {
+    totals(Totals { puts, takes })
+}
+
 /// Only blocks of the root have a size.
-fn size(node: u32, block: Block) -> String {
+fn size(node: u32, size: u32) -> String {
     match node {
-        ROOT => format!(", size {}", block.size),
+        ROOT => format!(", size {size}"),
         _ => String::new(),
     }
 }
 
-/// A block of a node that is no leaf.
-fn content(node: u32, block: Block) -> String {
-    let totals = totals(block.puts, block.takes);
-    let Block {
-        end_left,
-        end_right,
-        ..
-    } = block;
-    let size = size(node, block);
-    format!("{totals}, ends {end_left} and {end_right}{size}")
+/// What C3N built and C4 writes in a node.
+fn content(node: u32, built: Built) -> String {
+    let Ends { left, right } = built.ends;
+    let (totals, size) = (totals(built.totals), size(node, built.size));
+    format!("{totals}, ends {left} and {right}{size}")
 }

@@ -22,7 +22,7 @@ enum-known-visit : tie.Need-enum-known-visit
 enum-known-visit c = search needs
 
 returns : tie.Need-returns
-returns c = (λ _ _ _ e. absurd (other (c .match .keys2) (c .before .step-in .ensures ∙ e) tt), λ _. (refl, refl))
+returns c = λ number. (λ _ _ _ e. absurd (other (c .match .keys2) (c .before .step-in .ensures ∙ e) tt), λ _. (refl, refl))
 
 mul-totals-at : tie.Need-mul-totals-at
 mul-totals-at c = let p = c .before .before .before .before .before .before .pre .1 _ _ _ (at (c .before .before)) .0 in search needs
@@ -36,7 +36,7 @@ moved-requires c κs = (search needs, busy _ (at (c .before .before .before)) tt
 returns-2 : tie.Need-returns-2
 unfolding step go leftOf block totalsOf
 returns-2 c =
-    let here = at (c .before .before .before .before) in (
+    let here = at (c .before .before .before .before) in λ number. (
       λ _ _ _ _. rw (c .moved .ensures) (
         refl,
         λ s k o heads b. let g = rw here at b in rw (here, c .before .totals-at .ensures, node-read s _ _ _ _ g),

@@ -19,7 +19,7 @@ enum-known-visit : tie.Need-enum-known-visit
 enum-known-visit c = search needs
 
 returns : tie.Need-returns
-returns c = (λ _ _ e. absurd (other (c .match .keys2) (c .before .step-in .ensures ∙ e) tt), λ _. (refl, refl))
+returns c = λ number. (λ _ _ e. absurd (other (c .match .keys2) (c .before .step-in .ensures ∙ e) tt), λ _. (refl, refl))
 
 mul-v : tie.Need-mul-v
 mul-v c = let p = c .before .before .before .before .before .before .pre .1 _ _ (at (c .before .before)) .0 in search needs
@@ -35,7 +35,7 @@ returns-2 : tie.Need-returns-2
 unfolding step go leftOf
 returns-2 c =
     let here = at (c .before .before .before .before) in
-    (λ _ _ _. rw (c .moved .ensures) (refl, λ s k o heads b. rw (here, c .before .help .ensures s heads (rw here at b))), λ no. absurd (no _ _ here))
+    λ number. (λ _ _ _. rw (c .moved .ensures) (refl, λ s k o heads b. rw (here, c .before .help .ensures s heads (rw here at b))), λ no. absurd (no _ _ here))
 
 pub step-r3-spec : {M : Type 1} → statement M
 step-r3-spec =

@@ -20,7 +20,7 @@ enum-known-after : tie.Need-enum-known-after
 enum-known-after c = search needs
 
 returns : tie.Need-returns
-returns c = (λ _ _ _ _ _ e. absurd (other (c .match .keys2) (c .before .step-in .ensures ∙ e) tt), λ _. (refl, refl))
+returns c = λ number. (λ _ _ _ _ _ e. absurd (other (c .match .keys2) (c .before .step-in .ensures ∙ e) tt), λ _. (refl, refl))
 
 set-super-at-requires : tie.Need-set-super-at-requires
 set-super-at-requires c κs = let p = c .before .before .before .before .before .before .pre .1 _ _ _ _ _ (at (c .before .before)) .0 in search needs
@@ -37,7 +37,7 @@ same-length c = search needs
 returns-2 : tie.Need-returns-2
 unfolding step go setSuper write block
 returns-2 c =
-    let here = at (c .before .before .before .before .before .before .before) in (
+    let here = at (c .before .before .before .before .before .before .before) in λ number. (
       λ _ _ _ _ _ _. rw (c .moved .ensures) (
         refl,
         λ s k o heads b.

@@ -7,14 +7,14 @@ use Rattle.block_steps.proofs.build.plus_operation.Tie as tie
 enum-known-o : tie.Need-enum-known-o
 enum-known-o c = search needs
 
-add-t5 : tie.Need-add-t5
-add-t5 c = search needs
+add-t6 : tie.Need-add-t6
+add-t6 c = search needs
 
 enum-told : tie.Need-enum-told
 enum-told c = search needs
 
-add-t6 : tie.Need-add-t6
-add-t6 c = search needs
+add-t7 : tie.Need-add-t7
+add-t7 c = search needs
 
 returns : tie.Need-returns
 unfolding plusOperation
@@ -25,4 +25,4 @@ unfolding plusOperation
 returns-2 c = rw (c .before .enum-told .given .1)
 
 pub plus-operation-spec : {M : Type 1} → statement M
-plus-operation-spec = tie.close (tie.spec enum-known-o add-t5 enum-told add-t6 returns returns-2)
+plus-operation-spec = tie.close (tie.spec enum-known-o add-t6 enum-told add-t7 returns returns-2)

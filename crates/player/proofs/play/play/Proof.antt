@@ -7,7 +7,7 @@ use mathlib.Core.Path.{sym, _∙_}
 use borrow.Author.Needs.{needs}
 use borrow.Author.Tests.{not-true, not-false}
 use Rattle.steps.specs.Process.{idle}
-use Rattle.player.proofs.LoopInvariant.{loop-start, loop-narrow, loop-ends}
+use Rattle.player.proofs.LoopInvariant.{loop-start, loop-number, loop-narrow, loop-ends}
 use Rattle.player.proofs.StepLoop.{step-low, step-idle}
 use Rattle.player.proofs.BeginLoop.{valued-ill, other-ill, begin-few, begin-refused, begin-moves}
 use Rattle.player.proofs.play.play.Proof.Places.{Inv-loop, μ-loop, callAt, stateAt, few, step-at, recordOf, found, slot, few-steps, few-answers, other-at, begin-slot}
@@ -99,10 +99,12 @@ play-spec =
     (λ c. record { fits = omega (arith, slot (c .before .before)) })
     (λ c. slot (c .before .before))
     (λ c. let f = found (c .before .before .before .before .before) in record { fits = omega (arith, f .low, loop-narrow (f .inv)) })
+    (λ c. record { fits = few (recordOf (c .before .before .before .before .before)) })
+    (λ c κs. loop-number (found (c .before .before .before .before .before) .inv))
     arms.ready-a
-    (λ c. record { fits = omega (arith, slot (c .before .before .before .before .before .before .before .before)) })
-    (λ c. slot (c .before .before .before .before .before .before .before .before))
-    (λ c. record { fits = few (recordOf (c .before .before .before .before .before .before .before .before)) })
+    (λ c. record { fits = omega (arith, slot (c .before .before .before .before .before .before .before .before .before)) })
+    (λ c. slot (c .before .before .before .before .before .before .before .before .before))
+    (λ c. record { fits = few (recordOf (c .before .before .before .before .before .before .before .before .before)) })
     (λ c. search needs)
     arms.again-a
     -- V1
@@ -253,10 +255,12 @@ play-spec =
     (λ c. search needs)
     (λ c. record { fits = omega (arith, slot (c .before .before)) })
     (λ c. slot (c .before .before))
+    (λ c. record { fits = few (recordOf (c .before .before .before .before)) })
+    (λ c κs. loop-number (found (c .before .before .before .before) .inv))
     arms.ready-c4
-    (λ c. record { fits = omega (arith, slot (c .before .before .before .before .before .before .before)) })
-    (λ c. slot (c .before .before .before .before .before .before .before))
-    (λ c. record { fits = few (recordOf (c .before .before .before .before .before .before .before)) })
+    (λ c. record { fits = omega (arith, slot (c .before .before .before .before .before .before .before .before)) })
+    (λ c. slot (c .before .before .before .before .before .before .before .before))
+    (λ c. record { fits = few (recordOf (c .before .before .before .before .before .before .before .before)) })
     (λ c. search needs)
     arms.again-c4
     -- Q

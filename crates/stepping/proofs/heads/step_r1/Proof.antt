@@ -31,7 +31,7 @@ returns-2 : tie.Need-returns-2
 unfolding step go headOf
 returns-2 c =
     let here = at (c .before .before .before) in
-    (λ _ _ _. rw (c .moved .ensures) (refl, λ s k o table. rw (here, c .before .head-of .ensures)), λ no. absurd (no _ _ here))
+    (λ _ _ _. rw (c .moved .ensures) (refl, λ s number k o table. rw (here, c .before .head-of .ensures)), λ no. absurd (no _ _ here))
 
 pub step-r1-spec : {M : Type 1} → statement M
 step-r1-spec =

@@ -32,7 +32,7 @@ returns-2 : tie.Need-returns-2
 unfolding step go headOf rightOf
 returns-2 c =
     let here = at (c .before .before .before) in
-    (λ _ _. rw (c .moved .ensures) (refl, λ s k o table. rw (here, c .before .right-head .ensures)), λ no. absurd (no _ here))
+    (λ _ _. rw (c .moved .ensures) (refl, λ s number k o table. rw (here, c .before .right-head .ensures)), λ no. absurd (no _ here))
 
 pub step-r4-spec : {M : Type 1} → statement M
 step-r4-spec =

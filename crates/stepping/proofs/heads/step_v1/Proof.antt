@@ -35,7 +35,7 @@ returns-2 : tie.Need-returns-2
 unfolding step go headOf parentOf
 returns-2 c =
     let here = at (c .before .before .before .before) in (
-      λ _ _ _ _ _. rw (c .moved .ensures) (refl, λ s k o table. rw (here, c .before .head-of .ensures, c .before .before .by-fields .ensures)),
+      λ _ _ _ _ _. rw (c .moved .ensures) (refl, λ s number k o table. rw (here, c .before .head-of .ensures, c .before .before .by-fields .ensures)),
       λ no. absurd (no _ _ _ _ here),
     )
 

@@ -46,8 +46,8 @@ returns-2 c =
     let here = at (c .before .before .before) in
     let told = c .before .before .before .before .before .before .before .before .raise-in .ensures .0 _ _ _ _ here in
     let child = c .before .before .before .before .before .before .before .before .before .before .before .pre .2 _ _ _ _ here .0 in (
-      λ _ _ _ _ _ s k table. (
-        c .moved-telling .ensures s k (memoryOf table []) (memoryOf table []) ∙ rw (here, child, c .before .after-child .ensures, told .1),
+      λ _ _ _ _ _ s number k table. (
+        c .moved-telling .ensures s number k (memoryOf table []) (memoryOf table []) ∙ rw (here, child, c .before .after-child .ensures, told .1),
         rw (here, told .0),
       ),
       λ no. absurd (no _ _ _ _ here),

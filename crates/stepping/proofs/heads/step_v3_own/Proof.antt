@@ -45,7 +45,7 @@ returns-2 c =
     let here = at (c .before .before .before) in
     let told = c .before .before .before .before .before .before .before .before .raise-in .ensures .0 _ _ _ _ here in
     let own = c .before .before .before .before .before .before .before .before .before .before .before .pre .1 _ _ _ _ here .0 in (
-      λ _ _ _ _ _. rw (c .moved .ensures) (refl, λ s k o table. rw (here, own, c .before .after-own .ensures, told .0)),
+      λ _ _ _ _ _. rw (c .moved .ensures) (refl, λ s number k o table. rw (here, own, c .before .after-own .ensures, told .0)),
       λ no. absurd (no _ _ _ _ here),
     )
 

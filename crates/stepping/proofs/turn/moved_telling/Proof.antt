@@ -15,7 +15,7 @@ helps-after-requires c κs = search needs
 
 returns : tie.Need-returns
 unfolding goTelling
-returns c s k m after = rw (c .before .before .operation-in .ensures, c .helps-after .ensures)
+returns c s number k m after = rw (c .before .before .operation-in .ensures, c .helps-after .ensures)
 
 pub moved-telling-spec : {M : Type 1} → statement M
 moved-telling-spec = tie.close (tie.spec operation-in-requires add-t6 helps-after-requires returns)

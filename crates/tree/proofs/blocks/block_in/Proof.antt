@@ -62,6 +62,15 @@ mul-t25 c = search needs
 shared-slice-read-t27 : tie.Need-shared-slice-read-t27
 shared-slice-read-t27 c = search needs
 
+add-t28 : tie.Need-add-t28
+add-t28 c = search needs
+
+mul-t29 : tie.Need-mul-t29
+mul-t29 c = search needs
+
+shared-slice-read-t31 : tie.Need-shared-slice-read-t31
+shared-slice-read-t31 c = search needs
+
 returns : tie.Need-returns
 unfolding blockIn wordIn
 returns c = refl
@@ -89,4 +98,7 @@ block-in-spec =
     add-t24
     mul-t25
     shared-slice-read-t27
+    add-t28
+    mul-t29
+    shared-slice-read-t31
     returns)

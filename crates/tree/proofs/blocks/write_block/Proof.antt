@@ -63,6 +63,15 @@ mul-part-6 c = search needs
 slice-write-part-6 : tie.Need-slice-write-part-6
 slice-write-part-6 c = simp length-set (omega arith)
 
+add-part-7 : tie.Need-add-part-7
+add-part-7 c = search needs
+
+mul-part-7 : tie.Need-mul-part-7
+mul-part-7 c = search needs
+
+slice-write-part-7 : tie.Need-slice-write-part-7
+slice-write-part-7 c = simp length-set (omega arith)
+
 same-length : tie.Need-same-length
 same-length c = search needs
 
@@ -92,5 +101,8 @@ write-block-spec =
     add-part-6
     mul-part-6
     slice-write-part-6
+    add-part-7
+    mul-part-7
+    slice-write-part-7
     same-length
     returns)

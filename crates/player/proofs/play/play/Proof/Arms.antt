@@ -12,19 +12,21 @@ use Rattle.player.proofs.play.play.Tie as tie
 pub ready-a : tie.Need-step-a-requires Inv-loop μ-loop
 unfolding idle isQ isIdle
 ready-a c κs =
-    let b = c .before .before .before .before .before in
+    let b = c .before .before .before .before .before .before in
     let busy = b .before .status .given .1 in
-    let at = sym (step-named (found b) busy (c .before .before .before .enum-told2 .given .1)) in
+    let at = sym (step-named (found b) busy (c .before .before .before .before .enum-told2 .given .1)) in
     let ready = step-ready (found b) busy at refl in
     ((few-steps b, rw busy refl, at), (ready, step-fits-leaf (found b) (ready .node)))
 
 pub again-a : tie.Need-loop-again Inv-loop μ-loop
 unfolding idle isQ
 again-a c =
-    let b = c .before .before .before .before .before .before .before .before in
+    let b = c .before .before .before .before .before .before .before .before .before in
     let f = found b in
-    step-moves f (b .before .status .given .1) (c .before .before .before .before .before .before .enum-told2 .given .1) refl _ _ _ refl (c .before .before .step-a .kept .1 .0)
-    (λ is ready _. let e = c .before .before .step-a .ensures in (e .0, rw is (e .1 _ _ (step-leaf f) (step-begins f _ (ready .node)))))
+    step-moves f (b .before .status .given .1) (c .before .before .before .before .before .before .before .enum-told2 .given .1) refl _ _ _ refl (c .before .before .step-a .kept .1 .0)
+    (λ is ready _.
+    let e = rw (c .before .before .before .as-word .ensures) at (c .before .before .step-a .ensures) in
+    (e .0, rw is (e .1 _ _ (step-leaf f) (step-begins f _ (ready .node)))))
 
 pub ready-v1 : tie.Need-step-v1-requires Inv-loop μ-loop
 unfolding idle isQ
@@ -36,7 +38,7 @@ again-v1 c =
     let b = c .before .before .before .before .before in
     let f = found b in
     step-moves f (b .before .status .given .1) (c .before .before .before .enum-told3 .given .1) refl _ _ _ refl refl
-    (λ is _ _. let e = c .step-v1 .ensures .0 _ _ _ _ is in (e .0, e .1 _ _ _ _))
+    (λ is _ _. let e = c .step-v1 .ensures .0 _ _ _ _ is in (e .0, e .1 _ _ _ _ _))
 
 pub ready-v2 : tie.Need-step-v2-requires Inv-loop μ-loop
 unfolding idle isQ
@@ -51,7 +53,7 @@ again-v2 c =
     let b = c .before .before .before .before .before .before .before in
     let f = found b in
     step-moves f (b .before .status .given .1) (c .before .before .before .before .before .enum-told4 .given .1) refl _ _ _ refl (c .before .before .step-v2 .kept .0)
-    (λ is _ placed. let e = c .before .before .step-v2 .ensures .0 _ _ _ _ _ is in (e .0, e .1 _ _ _ _ placed))
+    (λ is _ placed. let e = c .before .before .step-v2 .ensures _ .0 _ _ _ _ _ is in (e .0, e .1 _ _ _ _ placed))
 
 pub ready-v3-child : tie.Need-step-v3-child-requires Inv-loop μ-loop
 unfolding idle isQ
@@ -66,7 +68,7 @@ again-v3-child c =
     let b = c .before .before .before .before .before .before .before .before .before in
     let f = found b in
     telling-moves f (b .before .status .given .1) (c .before .before .before .before .before .before .before .enum-told5 .given .1) refl _ _ _ (c .before .before .step-v3-child .kept .0) refl
-    (λ is _ _. c .before .before .step-v3-child .ensures .0 _ _ _ _ is _ _ _)
+    (λ is _ _. c .before .before .step-v3-child .ensures .0 _ _ _ _ is _ _ _ _)
 
 pub ready-v3-own : tie.Need-step-v3-own-requires Inv-loop μ-loop
 unfolding idle isQ
@@ -81,7 +83,7 @@ again-v3-own c =
     let b = c .before .before .before .before .before .before .before .before .before in
     let f = found b in
     step-moves f (b .before .status .given .1) (c .before .before .before .before .before .before .before .enum-told5 .given .1) refl _ _ _ (c .before .before .step-v3-own .kept .0) refl
-    (λ is _ _. let e = c .before .before .step-v3-own .ensures .0 _ _ _ _ is in (e .0, e .1 _ _ _ _))
+    (λ is _ _. let e = c .before .before .step-v3-own .ensures .0 _ _ _ _ is in (e .0, e .1 _ _ _ _ _))
 
 pub ready-r1 : tie.Need-step-r1-requires Inv-loop μ-loop
 unfolding idle isQ
@@ -93,7 +95,7 @@ again-r1 c =
     let b = c .before .before .before .before .before in
     let f = found b in
     step-moves f (b .before .status .given .1) (c .before .before .before .enum-told6 .given .1) refl _ _ _ refl refl
-    (λ is _ _. let e = c .step-r1 .ensures .0 _ _ is in (e .0, e .1 _ _ _ _))
+    (λ is _ _. let e = c .step-r1 .ensures .0 _ _ is in (e .0, e .1 _ _ _ _ _))
 
 pub ready-r2 : tie.Need-step-r2-requires Inv-loop μ-loop
 unfolding idle isQ
@@ -105,7 +107,7 @@ again-r2 c =
     let b = c .before .before .before .before .before in
     let f = found b in
     step-moves f (b .before .status .given .1) (c .before .before .before .enum-told7 .given .1) refl _ _ _ refl refl
-    (λ is _ _. let e = c .step-r2 .ensures .0 _ is in (e .0, e .1 _ _ _ _))
+    (λ is _ _. let e = c .step-r2 .ensures .0 _ is in (e .0, e .1 _ _ _ _ _))
 
 pub ready-r3 : tie.Need-step-r3-requires Inv-loop μ-loop
 unfolding idle isQ
@@ -120,7 +122,7 @@ again-r3 c =
     let b = c .before .before .before .before .before in
     let f = found b in
     step-moves f (b .before .status .given .1) (c .before .before .before .enum-told8 .given .1) refl _ _ _ refl refl
-    (λ is _ placed. let e = c .step-r3 .ensures .0 _ _ is in (e .0, e .1 _ _ _ _ placed))
+    (λ is _ placed. let e = c .step-r3 .ensures _ .0 _ _ is in (e .0, e .1 _ _ _ _ placed))
 
 pub ready-r4 : tie.Need-step-r4-requires Inv-loop μ-loop
 unfolding idle isQ
@@ -132,7 +134,7 @@ again-r4 c =
     let b = c .before .before .before .before .before in
     let f = found b in
     step-moves f (b .before .status .given .1) (c .before .before .before .enum-told9 .given .1) refl _ _ _ refl refl
-    (λ is _ _. let e = c .step-r4 .ensures .0 _ is in (e .0, e .1 _ _ _ _))
+    (λ is _ _. let e = c .step-r4 .ensures .0 _ is in (e .0, e .1 _ _ _ _ _))
 
 pub ready-r5 : tie.Need-step-r5-requires Inv-loop μ-loop
 unfolding idle isQ
@@ -147,7 +149,7 @@ again-r5 c =
     let b = c .before .before .before .before .before in
     let f = found b in
     step-moves f (b .before .status .given .1) (c .before .before .before .enum-told10 .given .1) refl _ _ _ refl refl
-    (λ is _ placed. let e = c .step-r5 .ensures .0 _ _ is in (e .0, e .1 _ _ _ _ placed))
+    (λ is _ placed. let e = c .step-r5 .ensures _ .0 _ _ is in (e .0, e .1 _ _ _ _ placed))
 
 pub ready-c1 : tie.Need-step-c1-requires Inv-loop μ-loop
 unfolding idle isQ
@@ -159,7 +161,7 @@ again-c1 c =
     let b = c .before .before .before .before .before in
     let f = found b in
     step-moves f (b .before .status .given .1) (c .before .before .before .enum-told11 .given .1) refl _ _ _ refl refl
-    (λ is _ _. let e = c .step-c1 .ensures .0 _ is in (e .0, e .1 _ _ _ _))
+    (λ is _ _. let e = c .step-c1 .ensures .0 _ is in (e .0, e .1 _ _ _ _ _))
 
 pub ready-c2 : tie.Need-step-c2-requires Inv-loop μ-loop
 unfolding idle isQ
@@ -171,7 +173,7 @@ again-c2 c =
     let b = c .before .before .before .before .before in
     let f = found b in
     step-moves f (b .before .status .given .1) (c .before .before .before .enum-told12 .given .1) refl _ _ _ refl refl
-    (λ is _ _. let e = c .step-c2 .ensures .0 _ _ is in (e .0, e .1 _ _ _ _))
+    (λ is _ _. let e = c .step-c2 .ensures .0 _ _ is in (e .0, e .1 _ _ _ _ _))
 
 pub ready-c3l : tie.Need-step-c3l-requires Inv-loop μ-loop
 unfolding idle isQ
@@ -186,7 +188,7 @@ again-c3l c =
     let b = c .before .before .before .before .before in
     let f = found b in
     step-moves f (b .before .status .given .1) (c .before .before .before .enum-told13 .given .1) refl _ _ _ refl refl
-    (λ is _ placed. let e = c .step-c3l .ensures .0 _ _ _ is in (e .0, e .1 _ _ _ _ placed))
+    (λ is _ placed. let e = c .step-c3l .ensures _ .0 _ _ _ is in (e .0, e .1 _ _ _ _ placed))
 
 pub ready-c3r : tie.Need-step-c3r-requires Inv-loop μ-loop
 unfolding idle isQ
@@ -201,7 +203,7 @@ again-c3r c =
     let b = c .before .before .before .before .before in
     let f = found b in
     step-moves f (b .before .status .given .1) (c .before .before .before .enum-told14 .given .1) refl _ _ _ refl refl
-    (λ is _ placed. let e = c .step-c3r .ensures .0 _ _ _ _ _ is in (e .0, e .1 _ _ _ _ placed))
+    (λ is _ placed. let e = c .step-c3r .ensures _ .0 _ _ _ _ _ is in (e .0, e .1 _ _ _ _ placed))
 
 pub ready-c3n : tie.Need-adds-nothing-requires Inv-loop μ-loop
 unfolding idle isQ
@@ -219,7 +221,7 @@ again-c3n-up c =
     let decided = rw (c .before .if4 .taken) at (c .before .before .adds-nothing .ensures) in
     step-moves f (b .before .status .given .1) (c .before .before .before .before .before .enum-told15 .given .1) refl _ _ _ refl refl
     (λ is _ placed.
-    let e = decided-next _ _ (q f) _ _ _ _ _ _ is true (decided .0 _ _ _ _ _ is) (c .step-c3n-up .ensures .0 _ _ _ _ _ is) in
+    let e = decided-next _ _ _ (q f) _ _ _ _ _ _ is true (decided .0 _ _ _ _ _ is) (c .step-c3n-up .ensures .0 _ _ _ _ _ is) in
     (e .0, e .1 _ _ _ _ placed))
 
 pub ready-c3n-on : tie.Need-step-c3n-on-requires Inv-loop μ-loop
@@ -237,23 +239,25 @@ again-c3n-on c =
     let decided = rw (c .before .before .if4 .left) at (c .before .before .before .adds-nothing .ensures) in
     step-moves f (b .before .status .given .1) (c .before .before .before .before .before .before .enum-told15 .given .1) refl _ _ _ refl refl
     (λ is _ placed.
-    let e = decided-next _ _ (q f) _ _ _ _ _ _ is false (decided .0 _ _ _ _ _ is) (c .step-c3n-on .ensures .0 _ _ _ _ _ is) in
+    let e = decided-next _ _ _ (q f) _ _ _ _ _ _ is false (decided .0 _ _ _ _ _ is) (c .step-c3n-on .ensures .0 _ _ _ _ _ is) in
     (e .0, e .1 _ _ _ _ placed))
 
 pub ready-c4 : tie.Need-step-c4-requires Inv-loop μ-loop
 unfolding idle isQ
 ready-c4 c κs =
-    let b = c .before .before .before .before in
+    let b = c .before .before .before .before .before in
     let busy = b .before .status .given .1 in
     (few-steps b, λ _ _ e. ((step-ready (found b) busy e refl) .1, step-fits (found b) busy e refl))
 
 pub again-c4 : tie.Need-loop-again-17 Inv-loop μ-loop
 unfolding idle isQ
 again-c4 c =
-    let b = c .before .before .before .before .before .before .before in
+    let b = c .before .before .before .before .before .before .before .before in
     let f = found b in
-    step-moves f (b .before .status .given .1) (c .before .before .before .before .before .enum-told16 .given .1) refl _ _ _ refl (c .before .before .step-c4 .kept .0)
-    (λ is _ placed. let e = c .before .before .step-c4 .ensures .0 _ _ is in (e .0, e .1 _ _ _ _ placed))
+    step-moves f (b .before .status .given .1) (c .before .before .before .before .before .before .enum-told16 .given .1) refl _ _ _ refl (c .before .before .step-c4 .kept .0)
+    (λ is _ placed.
+    let e = rw (c .before .before .before .as-word2 .ensures) at (c .before .before .step-c4 .ensures .0 _ _ is) in
+    (e .0, e .1 _ _ _ _ placed))
 
 pub full-q : tie.Need-returns-3 Inv-loop μ-loop
 unfolding idle

@@ -1,0 +1,232 @@
+//! `otq table`.
+
+use crate::arguments::{Choice, Given};
+use crate::failure::{Failure, Status};
+use crate::json::Json;
+use crate::list::List;
+use crate::refused::Refused;
+use crate::tool::Tool;
+use crate::words::node_name;
+use otq::{Block, Table, ROOT};
+
+pub const NODE: Choice = Choice {
+    name: "--node",
+    value: Some("V"),
+    about: "shows node V alone: 1 is the root, p + k the leaf of process k",
+};
+
+pub fn table(tool: &mut Tool, given: &Given) -> Result<Status, Failure> {
+    let asked = given.small("--node")?;
+    let list = List::read(tool, given)?;
+    let played = list.run()?;
+    let refused = Refused::of_run(&list, &played.run);
+    let nodes = match &refused {
+        // A call that is turned down before its records leaves no blocks.
+        Some(refused) if refused.record.is_none() => Vec::new(),
+        _ => shown(&list, &played.table, asked)?,
+    };
+    match given.has("--json") {
+        true => tool.line(json(&nodes, played.run.taken, refused.as_ref()))?,
+        false => print(tool, &nodes)?,
+    }
+    refused.map_or(Ok(Status::Done), |refused| Err(refused.failure()))
+}
+
+/// A node with its present blocks.
+struct Node {
+    number: u32,
+    name: String,
+    /// What its blocks have to show.
+    columns: &'static [Column],
+    blocks: Vec<Shown>,
+}
+
+impl Node {
+    /// Its name, and its number where the name does not have it.
+    fn heading(&self) -> String {
+        let number = format!("node {}", self.number);
+        match self.name == number {
+            true => number,
+            false => format!("{}, {number}", self.name),
+        }
+    }
+}
+
+/// A present block.
+struct Shown {
+    place: u32,
+    block: Block,
+    /// The block before it in its node.
+    before: Block,
+    /// The process of the record that wrote it.
+    process: u8,
+}
+
+impl Shown {
+    /// What a block of a leaf is of. The end left of a put is its value.
+    fn operation(&self) -> String {
+        match self.block.puts > self.before.puts {
+            true => format!("put {}", self.block.end_left),
+            false => "take".to_string(),
+        }
+    }
+}
+
+/// The nodes asked for, all or one, of the table that the list left.
+fn shown(list: &List, words: &[u32], asked: Option<u32>) -> Result<Vec<Node>, Failure> {
+    let p = list.p();
+    let table = Table::new(p, list.l(), words).expect("a table that the library has filled");
+    let nodes = match asked {
+        None => table.nodes(),
+        Some(node) if table.nodes().contains(&node) => node..=node,
+        Some(node) => {
+            let last = *table.nodes().end();
+            return Err(Failure::mistake(format!(
+                "--node {node}: the tree of {p} processes has nodes {ROOT} to {last}; {ROOT} is the root, {p} + k \
+                 the leaf of process k"
+            )));
+        }
+    };
+    Ok(nodes.map(|node| of_node(list, table, node)).collect())
+}
+
+fn of_node(list: &List, table: Table, node: u32) -> Node {
+    let blocks = table.present(node).map(|(place, block)| Shown {
+        place,
+        block,
+        before: table.block(node, place - 1).unwrap_or_default(),
+        process: list.records()[block.number as usize - 1][0],
+    });
+    Node {
+        number: node,
+        name: node_name(list.p(), node),
+        columns: match (node, table.leaf_of(node)) {
+            (ROOT, _) => &OF_ROOT,
+            (_, Some(_)) => &OF_LEAF,
+            (_, None) => &OF_INNER,
+        },
+        blocks: blocks.collect(),
+    }
+}
+
+/// A column: its title, and what it has of a block.
+struct Column {
+    title: &'static str,
+    cell: fn(&Shown) -> String,
+    /// Words stand at the left, numbers at the right.
+    is_number: bool,
+}
+
+const fn number(title: &'static str, cell: fn(&Shown) -> String) -> Column {
+    Column {
+        title,
+        cell,
+        is_number: true,
+    }
+}
+
+const fn words(title: &'static str, cell: fn(&Shown) -> String) -> Column {
+    Column {
+        title,
+        cell,
+        is_number: false,
+    }
+}
+
+const PLACE: Column = number("block", |shown| shown.place.to_string());
+const PUTS: Column = number("puts", |shown| shown.block.puts.to_string());
+const TAKES: Column = number("takes", |shown| shown.block.takes.to_string());
+const SUPER: Column = number("super", |shown| match shown.block.superblock {
+    0 => "-".to_string(),
+    place => place.to_string(),
+});
+const LEFT: Column = number("end left", |shown| shown.block.end_left.to_string());
+const RIGHT: Column = number("end right", |shown| shown.block.end_right.to_string());
+const SIZE: Column = number("size", |shown| shown.block.size.to_string());
+const OPERATION: Column = words("operation", Shown::operation);
+const WRITTEN: Column = words("written by", |shown| {
+    format!("record {}, process {}", shown.block.number, shown.process)
+});
+
+/// The root has no parent, so that its blocks have no super.
+const OF_ROOT: [Column; 7] = [PLACE, PUTS, TAKES, LEFT, RIGHT, SIZE, WRITTEN];
+const OF_INNER: [Column; 7] = [PLACE, PUTS, TAKES, SUPER, LEFT, RIGHT, WRITTEN];
+const OF_LEAF: [Column; 6] = [PLACE, PUTS, TAKES, SUPER, OPERATION, WRITTEN];
+
+fn print(tool: &mut Tool, nodes: &[Node]) -> Result<(), Failure> {
+    for node in nodes {
+        if node.blocks.is_empty() {
+            tool.line(format!("{}: no block", node.heading()))?;
+            continue;
+        }
+        tool.line(node.heading())?;
+        for line in lines(node) {
+            tool.line(line)?;
+            if tool.closed() {
+                return Ok(());
+            }
+        }
+    }
+    Ok(())
+}
+
+/// The titles, and a line a block.
+fn lines(node: &Node) -> Vec<String> {
+    let mut lines = vec![String::new(); 1 + node.blocks.len()];
+    for column in node.columns {
+        let mut cells = vec![column.title.to_string()];
+        cells.extend(node.blocks.iter().map(column.cell));
+        let width = cells.iter().map(String::len).max().unwrap_or(0);
+        for (line, cell) in lines.iter_mut().zip(cells) {
+            *line += &match column.is_number {
+                true => format!("  {cell:>width$}"),
+                false => format!("  {cell:<width$}"),
+            };
+        }
+    }
+    let lines = lines.iter().map(|line| line.trim_end().to_string());
+    lines.collect()
+}
+
+fn json(nodes: &[Node], taken: u64, refused: Option<&Refused>) -> Json {
+    let node = |node: &Node| {
+        Json::object([
+            ("node", Json::Number(node.number.into())),
+            ("name", Json::text(&node.name)),
+            (
+                "blocks",
+                Json::List(node.blocks.iter().map(block).collect()),
+            ),
+        ])
+    };
+    Json::object([
+        ("refusal", Json::or_null(refused.map(Refused::json))),
+        ("taken", Json::Number(taken)),
+        ("nodes", Json::List(nodes.iter().map(node).collect())),
+    ])
+}
+
+/// The words of a block by their names, its place, and the process of the record that wrote it.
+fn block(shown: &Shown) -> Json {
+    let Block {
+        puts,
+        takes,
+        superblock,
+        end_left,
+        end_right,
+        size,
+        number,
+    } = shown.block;
+    let members = [
+        ("block", shown.place),
+        ("puts", puts),
+        ("takes", takes),
+        ("super", superblock),
+        ("end_left", end_left),
+        ("end_right", end_right),
+        ("size", size),
+        ("number", number),
+        ("process", shown.process.into()),
+    ];
+    Json::object(members.map(|(name, word)| (name, Json::Number(word.into()))))
+}
