@@ -1,9 +1,9 @@
 -- A list with its numbers, by its parts; and a numbered list without them.
-use Prim.Native.Nat.{ℕ, suc, _+_}
+use Prim.Native.Nat.{ℕ, zero, suc, _+_, _<_}
 use native.Mathlib.Omega.{arith}
 use mathlib.Core.Path.{_≡_, refl, ap, _∙_}
 use mathlib.Core.List.{List, [], _∷_, _++_, map}
-use lib.ListN.{length}
+use lib.ListN.{length, take, getD}
 use Rattle.record.specs.declared.StepRecord.{StepRecord}
 use Rattle.calls.specs.Numbered.{Numbered, numberedAfter, numbered}
 
@@ -45,3 +45,42 @@ after-length i (r ∷ rs) = ap suc (after-length (suc i) rs)
 pub numbered-length : (rs : List StepRecord) → length (numbered rs) ≡ length rs
 unfolding numbered
 numbered-length rs = after-length 0 rs
+
+after-take : (i j : ℕ) (rs : List StepRecord) → take j (numberedAfter i rs) ≡ numberedAfter i (take j rs)
+unfolding numberedAfter
+after-take i zero rs = refl
+after-take i (suc j) [] = refl
+after-take i (suc j) (r ∷ rs) = ap (λ (l : List Numbered). record { number = suc i; item = r } ∷ l) (after-take (suc i) j rs)
+
+-- its first records, and the number of each
+pub numbered-take : (j : ℕ) (rs : List StepRecord) → take j (numbered rs) ≡ numbered (take j rs)
+unfolding numbered
+numbered-take j rs = after-take 0 j rs
+
+after-at : (i j : ℕ) (rs : List StepRecord) → j < length rs → (d : Numbered) → getD (numberedAfter i rs) j d .number ≡ i + suc j
+unfolding numberedAfter
+after-at i j [] l d = absurd (omega arith)
+after-at i zero (r ∷ rs) l d = omega arith
+after-at i (suc j) (r ∷ rs) l d = omega (arith, after-at (suc i) j rs (omega arith) d)
+
+pub numbered-at : (j : ℕ) (rs : List StepRecord) → j < length rs → (d : Numbered) → getD (numbered rs) j d .number ≡ suc j
+unfolding numbered
+numbered-at j rs l d = omega (arith, after-at 0 j rs l d)
+
+-- ---- numbers that rise along a list, from above a number on, and the last of them
+abbrev pub RisesFrom : ℕ → List Numbered → Type 0
+RisesFrom i [] = Unit {0}
+RisesFrom i (n ∷ ns) = (i < n .number) × RisesFrom (n .number) ns
+
+abbrev pub lastFrom : ℕ → List Numbered → ℕ
+lastFrom i [] = i
+lastFrom i (n ∷ ns) = lastFrom (n .number) ns
+
+after-rises : (i : ℕ) (rs : List StepRecord) → RisesFrom i (numberedAfter i rs)
+unfolding numberedAfter
+after-rises i [] = tt
+after-rises i (r ∷ rs) = (omega arith, after-rises (suc i) rs)
+
+pub numbered-rises : (rs : List StepRecord) → RisesFrom 0 (numbered rs)
+unfolding numbered
+numbered-rises rs = after-rises 0 rs

@@ -1,16 +1,21 @@
 -- What each record does to the numbers of blocks, and that a block keeps its number as more records are played. For
 -- general H. Used by proofs; no exported promise names it.
-use Prim.Native.Nat.{ℕ, _≤_}
+use Prim.Native.Nat.{ℕ, _≤_, _<_}
 use mathlib.Core.Path.{_≡_, refl, ap, sym, _∙_, subst}
 use mathlib.Core.Bool.{Bool, true, false}
 use mathlib.Core.List.{List, [], _∷_, _++_, append-nil}
 use lib.Seq.{append-snoc}
 use Rattle.record.specs.StepRecords.{isStep}
-use Rattle.tree.specs.Shape.{Shape}
+use Rattle.tree.specs.Shape.{Shape, processes}
 use Rattle.tree.specs.Memory.{Memory, block}
 use Rattle.tree.specs.Contracts.Invariant.{Node, Written}
+use Rattle.tree.proofs.Growth.{Grows, grows-refl}
 use Rattle.tree.proofs.Later.{later-written}
-use Rattle.steps.specs.Machine.{Machine}
+use Rattle.steps.specs.declared.Operation.{Operation}
+use Rattle.steps.specs.declared.Step.{Step}
+use Rattle.steps.specs.declared.Status.the-variants.{Busy}
+use Rattle.steps.specs.Machine.{Machine, processOf, stepOf}
+use Rattle.steps.proofs.Keeps.{step-effect, stepped-memory}
 use Rattle.steps.proofs.WrittenNumbers.{WritesNumber, none-written, step-number}
 use Rattle.calls.specs.Numbered.{Numbered}
 use Rattle.calls.specs.History.{machineAfter}
@@ -23,19 +28,30 @@ module _ (s : Shape) (tall : 1 ≤ s .height) where
   abbrev memoryAfter : List Numbered → Memory
   memoryAfter ns = machineAfter s ns .memory
 
-  -- a begin writes no block
-  pub record-number : (ns : List Numbered) (n : Numbered) → Run s ns → Accepted s (machineAfter s ns) (n .item) → WritesNumber s (n .number) (memoryAfter ns) (memoryAfter (ns ++ (n ∷ [])))
-  record-number ns n run acc = on (isStep (n .item)) refl
-    where
-      on : (b : Bool) → isStep (n .item) ≡ b → WritesNumber s (n .number) (memoryAfter ns) (memoryAfter (ns ++ (n ∷ [])))
-      on true z =
-          let at = busy s tall ns n run acc z in
-          subst (λ (x : Machine). WritesNumber s (n .number) (memoryAfter ns) (x .memory)) (sym (machine-snoc s ns n ∙ taken-step s tall ns n run acc z))
-          (step-number s tall (n .number) (machineAfter s ns) (run .invariant) (n .item .process) (acc .process-low) (at .0) (at .1) (at .2))
-      on false z =
-          subst (WritesNumber s (n .number) (memoryAfter ns))
-          (sym (ap (λ (x : Machine). x .memory) (machine-snoc s ns n ∙ taken-begin s tall ns n run acc z) ∙ begin-memory s tall ns n run acc))
-          (none-written s (n .number) (memoryAfter ns))
+  -- a record that is taken: a begin leaves the memory as it is, and a step does what steps do
+  module _ (ns : List Numbered) (n : Numbered) (run : Run s ns) (acc : Accepted s (machineAfter s ns) (n .item)) where
+    by-record : (P : Memory → Type 0) → P (memoryAfter ns)
+        → ((k : ℕ) → k < processes s → (o : Operation) (x : Step) → processOf (machineAfter s ns) k .status ≡ Busy o x → P (stepOf s (n .number) (machineAfter s ns) k .memory))
+        → P (memoryAfter (ns ++ (n ∷ [])))
+    by-record P begun stepped = on (isStep (n .item)) refl
+      where
+        on : (b : Bool) → isStep (n .item) ≡ b → P (memoryAfter (ns ++ (n ∷ [])))
+        on true z =
+            let at = busy s tall ns n run acc z in
+            subst (λ (x : Machine). P (x .memory)) (sym (machine-snoc s ns n ∙ taken-step s tall ns n run acc z)) (stepped (n .item .process) (acc .process-low) (at .0) (at .1) (at .2))
+        on false z = subst P (sym (ap (λ (x : Machine). x .memory) (machine-snoc s ns n ∙ taken-begin s tall ns n run acc z) ∙ begin-memory s tall ns n run acc)) begun
+
+    pub record-number : WritesNumber s (n .number) (memoryAfter ns) (memoryAfter (ns ++ (n ∷ [])))
+    record-number =
+        by-record (WritesNumber s (n .number) (memoryAfter ns)) (none-written s (n .number) (memoryAfter ns)) (step-number s tall (n .number) (machineAfter s ns) (run .invariant))
+
+    pub record-grows : Grows s (memoryAfter ns) (memoryAfter (ns ++ (n ∷ [])))
+    record-grows =
+        by-record (Grows s (memoryAfter ns)) (grows-refl s (memoryAfter ns))
+        (λ k kp o x at.
+        let inv = run .invariant in
+        subst (Grows s (memoryAfter ns)) (sym (stepped-memory s tall (n .number) (machineAfter s ns) inv k kp o x at))
+        (step-effect s tall (n .number) (machineAfter s ns) inv k kp o x at .grows))
 
   -- what is written keeps its number
   pub number-stays : (ns ts : List Numbered) → Legal s (ns ++ ts) → (u i : ℕ) → Node s u → Written s (memoryAfter ns) u i

@@ -16,6 +16,8 @@ use Rattle.calls.proofs.Played.{played-room}
 use Rattle.calls.proofs.Theorem.{demand3-run}
 use Rattle.superblocks.specs.Supers.{SupersNear, RunSupers}
 use Rattle.superblocks.proofs.RunSupers.{supers-run}
+use Rattle.block_numbers.specs.BlockNumbers.{NumbersTell, RunNumbers}
+use Rattle.block_numbers.proofs.RunNumbers.{numbers-run}
 use Rattle.log.proofs.Written.{written-fits}
 use Rattle.player.specs.declared.Outcome.{Outcome}
 use Rattle.player.specs.Contracts.PlayCalls.{PlayResult}
@@ -33,17 +35,22 @@ module _ (p l : ℕ) (records table answers : List ℕ) where
   abbrev n : Refusal
   n = callRefusal p l (length table) (length records)
 
-  -- what the equation then tells: demand 3 of what a call that is not turned down leaves, and where superblocks stand
-  pub with-demand3 : (r : Ran) (table' answers' : List ℕ) → runLeft r table' answers' ≡ run p l records table answers
+  -- what the equation then tells of what a call that is not turned down leaves: demand 3, where superblocks stand, and
+  -- which record wrote each block
+  pub with-claims : (r : Ran) (table' answers' : List ℕ) → runLeft r table' answers' ≡ run p l records table answers
       → (runLeft r table' answers' ≡ run p l records table answers)
       × ((accepted n ≡ true → Demand3 p l (take (r .taken) (stepRecords records)) (take (answerSize * r .answers) answers') (take (wordsNeeded s) table'))
-      × (accepted n ≡ true → SupersNear s (take (wordsNeeded s) table')))
+      × ((accepted n ≡ true → SupersNear s (take (wordsNeeded s) table'))
+      × (accepted n ≡ true → NumbersTell s (take (r .taken) (stepRecords records)) (take (wordsNeeded s) table'))))
   unfolding runLeft
-  with-demand3 r table' answers' e = (
+  with-claims r table' answers' e = (
     e,
     (
       λ ok. subst (RunKeeps p l records) (sym e) (demand3-run p l records table answers ok),
-      λ ok. subst (RunSupers p l) (sym e) (supers-run p l records table answers ok),
+      (
+        λ ok. subst (RunSupers p l) (sym e) (supers-run p l records table answers ok),
+        λ ok. subst (RunNumbers p l records) (sym e) (numbers-run p l records table answers ok),
+      ),
     ),
   )
 

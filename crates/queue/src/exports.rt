@@ -26,6 +26,7 @@ ghost use Rattle.calls.specs.LogVerdict.{Judges};
 ghost use Rattle.calls.specs.Demand3.{Demand3};
 ghost use Rattle.calls.specs.Forecast.{forecast as forecastOf, Forecasts};
 ghost use Rattle.superblocks.specs.Supers.{SupersNear};
+ghost use Rattle.block_numbers.specs.BlockNumbers.{NumbersTell};
 ghost use Rattle.queue.specs.Exported.{RunExport, ListExport, CheckExport, forecastExported};
 
 // Run.
@@ -42,6 +43,8 @@ pub extern "C" fn otq_run(
         Demand3 p l (take (r .taken) (stepRecords (now (records .entry)))) (take (answerSize * r .answers) (now (answers .exit))) (take (wordsNeeded (shapeFor p l)) (now (table .exit)))) ⌝ }
     ensures supers { λ r. ⌜ (accepted (callRefusal p l (length (now (table .entry))) (length (now (records .entry)))) ≡ true →
         SupersNear (shapeFor p l) (take (wordsNeeded (shapeFor p l)) (now (table .exit)))) ⌝ }
+    ensures numbers { λ r. ⌜ (accepted (callRefusal p l (length (now (table .entry))) (length (now (records .entry)))) ≡ true →
+        NumbersTell (shapeFor p l) (take (r .taken) (stepRecords (now (records .entry)))) (take (wordsNeeded (shapeFor p l)) (now (table .exit)))) ⌝ }
 {
     let r = run(p, l, records, table, answers);
     let why = r.refusal;

@@ -16,6 +16,7 @@ ghost use Rattle.tree.specs.Shape.{shapeFor};
 ghost use Rattle.calls.specs.Run.{run as runOf};
 ghost use Rattle.calls.specs.Demand3.{Demand3};
 ghost use Rattle.superblocks.specs.Supers.{SupersNear};
+ghost use Rattle.block_numbers.specs.BlockNumbers.{NumbersTell};
 ghost use Rattle.queue.specs.Left.{runLeft};
 
 // Run, of a call that is not turned down.
@@ -46,14 +47,17 @@ fn run_accepted(p: u32, l: u32, records: &[u8], table: &mut [u32], answers: &mut
 
 // Plays step records with p processes of at most l operations each, and writes the answers. What it returns and all
 // that it leaves in the table and in the answer bytes is what the step rules say; and of a call that is not turned
-// down, demand 3 holds of the records that it took, the bytes that it wrote and the needed words that it left, and in
-// these words each superblock stands at its block's super or one place later.
+// down, demand 3 holds of the records that it took, the bytes that it wrote and the needed words that it left. In these
+// words each superblock stands at its block's super or one place later, and each block's number tells the record that
+// wrote it, rises with place and is above those of its subblocks.
 pub fn run(p: u32, l: u32, records: &[u8], table: &mut [u32], answers: &mut [u8]) -> Ran
     ensures rules { λ r. ⌜ runLeft r (now (table .exit)) (now (answers .exit)) ≡ runOf p l (now (records .entry)) (now (table .entry)) (now (answers .entry)) ⌝ }
     ensures demand3 { λ r. ⌜ (isAccepted (callRefusal p l (length (now (table .entry))) (length (now (records .entry)))) ≡ true →
         Demand3 p l (take (r .taken) (stepRecords (now (records .entry)))) (take (answerSize * r .answers) (now (answers .exit))) (take (wordsNeeded (shapeFor p l)) (now (table .exit)))) ⌝ }
     ensures supers { λ r. ⌜ (isAccepted (callRefusal p l (length (now (table .entry))) (length (now (records .entry)))) ≡ true →
         SupersNear (shapeFor p l) (take (wordsNeeded (shapeFor p l)) (now (table .exit)))) ⌝ }
+    ensures numbers { λ r. ⌜ (isAccepted (callRefusal p l (length (now (table .entry))) (length (now (records .entry)))) ≡ true →
+        NumbersTell (shapeFor p l) (take (r .taken) (stepRecords (now (records .entry)))) (take (wordsNeeded (shapeFor p l)) (now (table .exit)))) ⌝ }
 {
     let n = of_call(p, l, table.len(), records.len());
     if !accepted(n) {

@@ -19,7 +19,7 @@ use Rattle.tree.proofs.Ancestors.{ancestor-inner}
 use Rattle.tree.proofs.Heights.{leaf-places, node-places}
 use Rattle.tree.proofs.Presence.{absent-count}
 use Rattle.tree.proofs.Sound.{below-head, leaf-count}
-use Rattle.tree.proofs.Growth.{Same, Fresh, same-refl}
+use Rattle.tree.proofs.Growth.{Same, Fresh, same-refl, grows-refl}
 use Rattle.tree.proofs.Writes.{write-cases, raise-cases}
 use Rattle.steps.specs.declared.Operation.{Operation}
 use Rattle.steps.specs.declared.Operation.the-variants.{Put, Take}
@@ -69,7 +69,7 @@ module _ (s : Shape) (number k : ℕ) (o : Operation) (m : Memory) where
   pub still : {x y : Stage} → ((d : Side) (u h e : ℕ) → Holds d y u h e → Holds d x u h e ⊎ (e ≡ headOf m (childOf d u) - 1)) → Effect s number k o m x m y
   still gains =
       record {
-        grows = record { raised = λ u nu. inl refl; stays = λ u i nu p. same-refl (block s m u i); absents = λ u i nu z. refl; fresh = λ u i nu f. inl f };
+        grows = grows-refl s m;
         leaves = λ r i f. inl f;
         inners = λ u i iu f. inl f;
         gains = gains;

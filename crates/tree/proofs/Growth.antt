@@ -65,6 +65,10 @@ module _ {s : Shape} {m n : Memory} (g : Grows s m n) where
   pub present-stays : (u i : ℕ) → Node s u → Present s m u i → Present s n u i
   present-stays u i nu f = let e = g .stays u i nu (inr f) in omega (arith, e .puts, e .takes)
 
+-- nothing happens
+pub grows-refl : (s : Shape) (m : Memory) → Grows s m m
+grows-refl s m = record { raised = λ u nu. inl refl; stays = λ u i nu p. same-refl (block s m u i); absents = λ u i nu z. refl; fresh = λ u i nu f. inl f }
+
 -- ---- what holds of two neighbours holds of blocks that are the same
 pub follows-same : (b c b' c' : Block) → Same b' b → Same c' c → Follows b c → Follows b' c'
 follows-same b c b' c' p q f =

@@ -2,8 +2,8 @@
 use Prim.Native.Nat.{_≤_}
 use native.Mathlib.Omega.{arith}
 use native.Mathlib.Decide.{decLe}
-use mathlib.Core.Path.{_≡_, sym, _∙_}
-use mathlib.Core.Bool.{true, false, true≢false}
+use mathlib.Core.Path.{_≡_, refl, sym, _∙_}
+use mathlib.Core.Bool.{Bool, true, false, true≢false}
 use lib.Dec.{eqb}
 use borrow.Author.Tests.{eqb-true, eq-eqb}
 use Rattle.base.proofs.Cases.{and-true}
@@ -25,3 +25,10 @@ present-count b h = on (decLe 1 (count b))
     on : Dec (1 ≤ count b) → 1 ≤ count b
     on (yes l) = l
     on (no l) = absurd (true≢false (sym (count-absent b (omega arith)) ∙ h))
+
+pub count-present : (b : Block) → 1 ≤ count b → absent b ≡ false
+count-present b l = on (absent b) refl
+  where
+    on : (x : Bool) → absent b ≡ x → x ≡ false
+    on true e = absurd (omega (arith, absent-count b e))
+    on false e = refl

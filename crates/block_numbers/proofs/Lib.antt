@@ -1,0 +1,3 @@
+pub mod NumbersSound
+pub mod Wrote
+pub mod RunNumbers
