@@ -4,13 +4,13 @@
 use Prim.Native.Nat.{ℕ, zero, suc, _≤_, _<_}
 use native.Mathlib.Omega.{arith}
 use native.Mathlib.Decide.{ℕ-discrete}
-use mathlib.Core.Path.{_≡_, refl, ap}
+use mathlib.Core.Path.{_≡_, ap}
 use mathlib.Core.Logic.{_⊎_, inl, inr}
 use Rattle.tree.specs.declared.Block.{Block}
 use Rattle.tree.specs.Shape.{Shape}
 use Rattle.tree.specs.Memory.{Memory, headOf, block}
 use Rattle.tree.specs.Sides.{Side, childOf, endOf}
-use Rattle.tree.specs.Contracts.Invariant.{Node, Inner, Present, Written, zeros, NodeSound, Sound}
+use Rattle.tree.specs.Contracts.Invariant.{Node, Inner, Present, Written, zeros, Sound}
 use Rattle.tree.proofs.Nodes.{child-node, inner-node}
 use Rattle.tree.proofs.Sound.{below-head, before-written, end-below, first-zeros}
 use Rattle.tree.proofs.Growth.{Fresh, Grows, same-end}

@@ -1,21 +1,20 @@
 -- The theorem: the numbers of the blocks that every run leaves tell which record wrote each, rise with place and are
 -- above those of subblocks; for general H of every list of records, and of what Run leaves for every p, L, list of
 -- bytes, table and answer buffer.
-use Prim.Native.Nat.{ℕ, suc, _+_, _*_, _-_, _≤_, _<_}
+use Prim.Native.Nat.{ℕ, suc, _+_, _-_, _≤_, _<_}
 use native.Mathlib.Omega.{arith}
-use mathlib.Core.Path.{_≡_, refl, ap, sym, _∙_, subst}
-use mathlib.Core.Bool.{Bool, true, false}
+use mathlib.Core.Path.{_≡_, sym, _∙_, subst}
+use mathlib.Core.Bool.{true}
 use mathlib.Core.List.{List, [], _∷_, _++_, append-nil}
 use lib.ListN.{length, take}
 use lib.Seq.{append-snoc}
 use Rattle.base.proofs.Members.{members-between}
 use Rattle.record.specs.declared.StepRecord.{StepRecord}
 use Rattle.record.specs.StepRecords.{stepRecords, stepRecord}
-use Rattle.tree.specs.Shape.{Shape, processes, root, shapeFor}
-use Rattle.tree.specs.Blocks.{absent}
+use Rattle.tree.specs.Shape.{Shape, root, shapeFor}
 use Rattle.tree.specs.Memory.{Memory, block}
-use Rattle.tree.specs.Sides.{Side, childOf, subblocks}
-use Rattle.tree.specs.Contracts.Invariant.{Node, Present, Sound}
+use Rattle.tree.specs.Sides.{subblocks}
+use Rattle.tree.specs.Contracts.Invariant.{Sound}
 use Rattle.tree.proofs.Presence.{count-absent, present-count, count-present}
 use Rattle.steps.specs.Machine.{Machine, start}
 use Rattle.calls.specs.Numbered.{Numbered, numbered}

@@ -15,7 +15,7 @@ use Rattle.tree.proofs.Cleared.{cleared-count}
 use Rattle.steps.specs.Machine.{start}
 use Rattle.calls.specs.Numbered.{Numbered}
 use Rattle.calls.specs.History.{courseStart, courseAfter, machineAfter}
-use Rattle.calls.proofs.Legal.{Accepted, Legal, none, more}
+use Rattle.calls.proofs.Legal.{Legal, none, more}
 use Rattle.calls.proofs.Runs.{runs}
 use Rattle.calls.proofs.NumbersStay.{record-number}
 

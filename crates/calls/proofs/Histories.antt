@@ -7,15 +7,16 @@ use mathlib.Core.List.{List, [], _∷_, _++_, foldl, foldl-append, append-assoc,
 use lib.Seq.{append-snoc}
 use lib.Dec.{eqb}
 use Rattle.base.specs.Choice.{if_then_else_}
+use Rattle.base.proofs.Cases.{both}
 use Rattle.record.specs.declared.StepRecord.{StepRecord}
 use Rattle.record.specs.StepRecords.{isBegin}
 use Rattle.tree.specs.Shape.{Shape}
 use Rattle.tree.specs.Order.{OpId}
 use Rattle.tree.specs.Standing.{same}
 use Rattle.tree.proofs.Names.{count-append}
-use Rattle.steps.specs.Machine.{processOf, atQ, helpBy}
+use Rattle.steps.specs.Machine.{processOf, atQ}
 use Rattle.calls.specs.Numbered.{Numbered}
-use Rattle.calls.specs.Run.{operationOf, takeRecord, recordAnswers}
+use Rattle.calls.specs.Run.{takeRecord, recordAnswers}
 use Rattle.calls.specs.History.{Event, opens, moves, finishes, operation, begunBy, Course, courseStart, nextEvent, courseRecord, courseAfter, machineAfter, history}
 use Rattle.calls.specs.History.{isOpening, isOwnStep, isOwnHelp, isFinish, isOpened, isFinished, finishedBefore, ownSteps, ownHelps, does}
 use Rattle.calls.specs.Demand3.{finishing}
@@ -84,17 +85,11 @@ begunBy-append k (finishes x ∷ h) g = begunBy-append k h g
 module _ (s : Shape) (j : ℕ) where
   begun-event : (c : Course) (n : Numbered) → begunBy j (nextEvent s c n ∷ []) ≡ (if isBegin (n .item) && eqb (n .item .process) j then 1 else 0)
   unfolding nextEvent begunBy operation
-  begun-event c n = on (isBegin (n .item))
+  begun-event c n = on (isBegin (n .item)) refl
     where
-      step-none : (b : Bool) (x : OpId) (helped : Bool) → begunBy j ((if b then finishes x else moves x helped) ∷ []) ≡ 0
-      step-none true x helped = refl
-      step-none false x helped = refl
-
-      on : (b : Bool) → begunBy j ((if b then opens (operation (n .item .process) (begunBy (n .item .process) (c .events) + 1)) (operationOf (n .item))
-          else if atQ (processOf (c .machine) (n .item .process) .status) then finishes (operation (n .item .process) (begunBy (n .item .process) (c .events)))
-          else moves (operation (n .item .process) (begunBy (n .item .process) (c .events))) (helpBy s (n .number) (c .machine) (n .item .process))) ∷ []) ≡ (if b && eqb (n .item .process) j then 1 else 0)
-      on true = refl
-      on false = step-none (atQ (processOf (c .machine) (n .item .process) .status)) _ _
+      on : (b : Bool) → isBegin (n .item) ≡ b → begunBy j (nextEvent s c n ∷ []) ≡ (if b && eqb (n .item .process) j then 1 else 0)
+      on true e = rw e
+      on false e = rw e (both (λ (x : Event). begunBy j (x ∷ []) ≡ 0) (atQ (processOf (c .machine) (n .item .process) .status)) refl refl)
 
   pub begun-snoc : (ns : List Numbered) (n : Numbered)
       → begunBy j (history s (ns ++ (n ∷ []))) ≡ begunBy j (history s ns) + (if isBegin (n .item) && eqb (n .item .process) j then 1 else 0)

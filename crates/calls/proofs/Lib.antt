@@ -23,6 +23,7 @@ pub mod BeginRecords
 pub mod RecordLimit
 pub mod Rooms
 pub mod RunLimits
+pub mod SameTables
 pub mod PlannedBegins
 pub mod ForecastHolds
 pub mod Foreseen

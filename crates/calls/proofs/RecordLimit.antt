@@ -139,6 +139,3 @@ module _ (s : Shape) (tall : 1 ≤ s .height) (rs : List StepRecord) (l : Legal 
 
   pub list-begins : length (beginRecords rs) ≤ processes s * s .most
   list-begins = rw (items-numbered rs) at (legal-begins s tall l)
-
-  pub list-begun : (k : ℕ) → begunBy k (history s (numbered rs)) ≡ begins k rs
-  list-begun k = legal-begun s k l ∙ ap (begins k) (items-numbered rs)

@@ -23,7 +23,7 @@ printed answers n refusal taken = answerLines answers n ++ lastLine refusal take
 unfoldable pub runText : RunResult → List ℕ
 runText r = printed (r .answers) (r .answered) (r .refusal) (r .taken)
 
--- what the printing program prints of an input: p = 4, L = 24, a table of 1,770 words, 1,536 answer bytes; an input
+-- what the printing program prints of an input: p = 4, L = 24, a table of 2,065 words, 1,536 answer bytes; an input
 -- longer than 65,536 bytes prints long alone
 unfoldable pub printRun : List ℕ → List ℕ
 printRun input =

@@ -19,12 +19,11 @@ use Rattle.steps.specs.declared.Process.{Process}
 use Rattle.steps.specs.Process.{idle}
 use Rattle.steps.specs.Rules.{Stepped, step}
 use Rattle.steps.specs.Machine.{Machine, start, processOf, withProcess, begin, stepOf}
-use Rattle.steps.proofs.Stages.{stage, stageOf}
-use Rattle.steps.proofs.Progress.{OwnLeaf, Carried}
+use Rattle.steps.proofs.Stages.{stageOf}
 use Rattle.steps.proofs.Others.{Effect}
 use Rattle.steps.proofs.Effects.{still}
 use Rattle.steps.proofs.Invariant.{Invariant, holding}
-use Rattle.steps.proofs.Keeps.{start-process, begun-here, begun-other, begin-keeps, step-effect, step-keeps, stepped-memory, stepped-here, stepped-other}
+use Rattle.steps.proofs.Keeps.{start-process, begun-here, begun-other, begin-keeps, step-effect, step-keeps, stepped-memory, stepped-here, stepped-other, own, carried}
 use Rattle.superblocks.proofs.Marks.{super, Seen, Asks, Raises, Mark, MarksHold, statuses, SuperInvariant}
 use Rattle.superblocks.proofs.Traces.{Traces, quiet, traces}
 use Rattle.superblocks.proofs.Sights.{seen-turn}
@@ -96,12 +95,6 @@ module _ (s : Shape) (tall : 1 ≤ s .height) (number : ℕ) (m : Machine) (inv 
     next : at' k ≡ r .next
     next = ap (λ (p : Process). p .status) (stepped-here s tall number m inv k kp o n busy)
 
-    own : OwnLeaf s (m .memory) k b (stage n)
-    own = subst (λ (x : Status). OwnLeaf s (m .memory) k b (stageOf x)) busy (inv .process k kp .leaf)
-
-    carried : Carried s (m .memory) (holding m) k b (stage n)
-    carried = subst (λ (x : Status). Carried s (m .memory) (holding m) k b (stageOf x)) busy (inv .process k kp .carried)
-
     -- what V2 is to set is a mark, so not 0
     asked : (v i z : ℕ) → Asks v i z (Busy o n) → 1 < v → super s (m .memory) v i ≡ 0 → 1 ≤ z
     asked v i z q l e =
@@ -121,11 +114,11 @@ module _ (s : Shape) (tall : 1 ≤ s .height) (number : ℕ) (m : Machine) (inv 
         (subst (λ (y : Status). Effect s number k o (m .memory) (holding m k) (r .memory) (stageOf y)) (sym next) (step-effect s tall number m inv k kp o n busy))
         (λ j ne. ap (λ (p : Process). p .status) (stepped-other s tall number m inv k kp o n busy j ne))
         (subst (λ (x : Status). Traces s (m .memory) x (r .memory) (at' k)) (sym busy)
-        (subst (Traces s (m .memory) (Busy o n) (r .memory)) (sym next) (traces s (m .memory) (inv .sized) (inv .sound) (holding m) number k kp o b n own carried asked raised)))
+        (subst (Traces s (m .memory) (Busy o n) (r .memory)) (sym next) (traces s (m .memory) (inv .sized) (inv .sound) (holding m) number k kp o b n (own s tall number m inv k kp o n busy) (carried s tall number m inv k kp o n busy) asked raised)))
         old
         (λ d u i z here low q.
         subst (Seen (r .memory) d u i z) (sym next)
-        (seen-turn s (m .memory) (inv .sound) o u i z (inv .sized) (holding m) number k b n d here low carried (subst (Seen (m .memory) d u i z) busy q)))
+        (seen-turn s (m .memory) (inv .sound) o u i z (inv .sized) (holding m) number k b n d here low (carried s tall number m inv k kp o n busy) (subst (Seen (m .memory) d u i z) busy q)))
 
     pub step-supers : SuperInvariant s (stepOf s number m k)
     step-supers = subst (λ (x : Memory). MarksHold s x at') (sym (stepped-memory s tall number m inv k kp o n busy)) stepped

@@ -82,7 +82,7 @@ impl Taken {
         let shape = terms::shape(self.shape);
         let history = (self.records.len() <= SHORT).then(|| {
             let records = bytes(&self.records);
-            let left = format!("history {shape} (stepRecords {records})");
+            let left = format!("history {shape} (numbered (stepRecords {records}))");
             Statement::equal("history", &left, "events-#")
         });
         let each =
