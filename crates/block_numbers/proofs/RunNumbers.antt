@@ -17,11 +17,11 @@ use Rattle.tree.specs.Sides.{subblocks}
 use Rattle.tree.specs.Contracts.Invariant.{Sound}
 use Rattle.tree.proofs.Presence.{count-absent, present-count, count-present}
 use Rattle.steps.specs.Machine.{Machine, start}
-use Rattle.calls.specs.Numbered.{Numbered, numbered}
+use Rattle.calls.specs.Numbered.{Numbered, nextAfter, numbered}
 use Rattle.calls.specs.Refusals.{accepted, callRefusal}
 use Rattle.calls.specs.Run.{play, runPlayed, run}
 use Rattle.calls.specs.History.{courseStart, courseAfter, machineAfter}
-use Rattle.calls.proofs.Numbers.{RisesFrom, lastFrom, numbered-rises, numbered-take, numbered-at, numbered-length, nextAfter}
+use Rattle.calls.proofs.Numbers.{RisesFrom, lastFrom, numbered-rises, numbered-take, numbered-at, numbered-length}
 use Rattle.calls.proofs.Legal.{Legal}
 use Rattle.calls.proofs.Prefixes.{legal-prefix, legal-accepted}
 use Rattle.calls.proofs.Runs.{runs}
@@ -67,8 +67,6 @@ module _ (s : Shape) (tall : 1 ≤ s .height) (rs : List StepRecord) (legal : Le
       let is : n ≡ suc (w .index) = w .is (nextAfter 0 (stepRecord [])) ∙ numbered-at (w .index) rs low _ in
       let before : n - 1 ≡ w .index = omega arith in
       record {
-        first = omega arith;
-        last = omega arith;
         before = rw (before) (count-absent _ (rw (numbered-take (w .index) rs) at (w .before)));
         after = rw (is) (count-present _ (rw (numbered-take (suc (w .index)) rs) at (w .after)));
       }

@@ -9,18 +9,16 @@ use mathlib.Core.List.{List, [], _∷_, _++_}
 use lib.ListN.{length, take, getD, length-append}
 use lib.Seq.{getD-take, getD-append-seam, take-append-le, take-append-seam, take-all}
 use Rattle.tree.specs.Shape.{Shape}
-use Rattle.tree.specs.Memory.{Memory, block}
+use Rattle.tree.specs.Memory.{block}
 use Rattle.tree.specs.Contracts.Invariant.{Node, count, Present}
 use Rattle.tree.proofs.Cleared.{cleared-count}
 use Rattle.steps.specs.Machine.{start}
 use Rattle.calls.specs.Numbered.{Numbered}
 use Rattle.calls.specs.History.{courseStart, courseAfter, machineAfter}
 use Rattle.calls.proofs.Legal.{Legal, none, more}
+use Rattle.calls.proofs.Histories.{memoryAfter}
 use Rattle.calls.proofs.Runs.{runs}
 use Rattle.calls.proofs.NumbersStay.{record-number}
-
-abbrev memoryAfter : Shape → List Numbered → Memory
-memoryAfter s ns = machineAfter s ns .memory
 
 -- the record at this index has the number, and wrote block i of node u
 pub record WroteAt (s : Shape) (ns : List Numbered) (u i number : ℕ) : Type 0 where
@@ -72,7 +70,8 @@ wrote s tall (more {ns} n l a) u i nu f = on (decLe 1 (count (block s (memoryAft
     fresh p (inl q) = absurd (p q)
     fresh p (inr e) = subst (WroteAt s (ns ++ (n ∷ [])) u i) (sym e) (latest s ns n u i (omega arith) f)
 
-    on : Dec (Present s (memoryAfter s ns) u i) → (Present s (memoryAfter s ns) u i → WroteAt s ns u i (block s (memoryAfter s ns) u i .number)) → WroteAt s (ns ++ (n ∷ [])) u i (block s (memoryAfter s (ns ++ (n ∷ []))) u i .number)
+    on : Dec (Present s (memoryAfter s ns) u i) → (Present s (memoryAfter s ns) u i → WroteAt s ns u i (block s (memoryAfter s ns) u i .number))
+        → WroteAt s (ns ++ (n ∷ [])) u i (block s (memoryAfter s (ns ++ (n ∷ []))) u i .number)
     on (yes p) ih =
         subst (WroteAt s (ns ++ (n ∷ [])) u i) (sym (record-number s tall ns n (runs s tall l) a .stays u i nu (inr p))) (earlier s ns n u i (ih p))
     on (no p) ih = fresh p (record-number s tall ns n (runs s tall l) a .fresh u i nu f)

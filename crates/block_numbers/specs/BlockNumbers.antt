@@ -4,7 +4,7 @@ use Prim.Native.Nat.{ℕ, _*_, _-_, _≤_, _<_}
 use mathlib.Core.Path.{_≡_}
 use mathlib.Core.Bool.{true, false}
 use mathlib.Core.List.{List}
-use lib.ListN.{length, take}
+use lib.ListN.{take}
 use Rattle.base.specs.Members.{All}
 use Rattle.record.specs.declared.StepRecord.{StepRecord}
 use Rattle.record.specs.StepRecords.{stepRecords}
@@ -20,10 +20,9 @@ use Rattle.calls.specs.History.{machineAfter}
 unfoldable pub tableAfter : Shape → List StepRecord → List ℕ
 tableAfter s rs = machineAfter s (numbered rs) .memory .table
 
--- record n of a list wrote block i of node v: the records before it left the place absent, and with it it is present
+-- record n of a list wrote block i of node v: the records before it leave the place absent, those up to it leave it
+-- present (so n is neither 0 nor past the list, for there the two are the same records)
 pub record WrittenBy (s : Shape) (rs : List StepRecord) (v i n : ℕ) : Type 0 where
-  pub first : 1 ≤ n
-  pub last : n ≤ length rs
   pub before : absent (blockAt s (tableAfter s (take (n - 1) rs)) v i) ≡ true
   pub after : absent (blockAt s (tableAfter s (take n rs)) v i) ≡ false
 

@@ -36,7 +36,8 @@ module _ (s : Shape) (starts t u heads heads' : List ℕ) (x : Step) (is : List 
     pub same-process : (number : ℕ) (q y z : Process) → stepIn (q .status) ≡ x → NextByTable number starts t t q y → NextByTable number starts u u q z → y ≡ z
     same-process number q y z e py pz =
         let next : stepIn (y .status) ≡ stepIn (z .status) =
-        sym (came s number starts t heads q y x fits e py) ∙ ap stepIn (same-next s (memoryOf t heads) (memoryOf u heads') x is own same number 0 Take) ∙ came s number starts u heads' q z x fits e pz in
+        sym (came s number starts t heads q y x fits e py) ∙ ap stepIn (same-next s (memoryOf t heads) (memoryOf u heads') x is own same number 0 Take)
+        ∙ came s number starts u heads' q z x fits e pz in
         py .0 ∙ ap (moved q (operationIn (q .status))) next ∙ sym (pz .0)
 
 -- what is known of two blocks of the memories is known of them by the starts

@@ -9,8 +9,8 @@ ghost use Rattle.tree.specs.Size.{rootSize};
 ghost use Rattle.steps.specs.Rules.{plusOperation, sameTotals, blockOf};
 ghost use Rattle.tree.specs.Contracts.Access.{totalsOf};
 
-// A leaf's next block: the totals of the last one plus this operation, and the number of the record that adds it. A take
-// has no value, and a leaf has no children, so their words are 0.
+// A leaf's next block: the totals of the last one plus this operation, and the number of the record that adds it. A
+// take has no value, and a leaf has no children, so their words are 0.
 pub fn plus_operation(number: u32, o: Operation, b: Block) -> Block
     requires { ⌜ (b .puts < 65536) × (b .takes < 65536) ⌝ }
     ensures { λ r. ⌜ r ≡ plusOperation number o b ⌝ }

@@ -59,7 +59,8 @@ unfolding plusOperation
 block-added number (Put x) b b' p = (omega (arith, p .puts), sym (p .takes), refl)
 block-added number Take b b' p = (sym (p .puts), omega (arith, p .takes))
 
--- process k, inside operation o at step n, takes a step, by the record with this number, where history and machine agree
+-- process k, inside operation o at step n, takes a step, by the record with this number, where history and machine
+-- agree
 pub record StepTaken (s : Shape) (number : ℕ) (m : Machine) (c : ℕ → ℕ) (h : List Event) (log : List AnswerRecord) (k : ℕ) (o : Operation) (n : Step) : Type 0 where
   pub agrees : Agrees s m c h log
   pub tall : 1 ≤ s .height

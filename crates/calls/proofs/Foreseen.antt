@@ -47,7 +47,7 @@ module _ (s : Shape) (tall : 1 ≤ s .height) where
       (λ b. planned-snoc s [] bs (n .item) before (plan s (begins (n .item .process) bs) (n .item) (begin-planned ns (n .item) l a b)))
       (λ b. rw (append-nil bs) before))
 
-  pub list-planned : (rs : List StepRecord) → Legal s (numbered rs) → accepted (beginsRefusal s [] (beginRecords rs)) ≡ true
+  list-planned : (rs : List StepRecord) → Legal s (numbered rs) → accepted (beginsRefusal s [] (beginRecords rs)) ≡ true
   list-planned rs l = rw (items-numbered rs) at (legal-planned l)
 
 -- ---- of what Run returns

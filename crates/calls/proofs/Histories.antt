@@ -11,6 +11,7 @@ use Rattle.base.proofs.Cases.{both}
 use Rattle.record.specs.declared.StepRecord.{StepRecord}
 use Rattle.record.specs.StepRecords.{isBegin}
 use Rattle.tree.specs.Shape.{Shape}
+use Rattle.tree.specs.Memory.{Memory}
 use Rattle.tree.specs.Order.{OpId}
 use Rattle.tree.specs.Standing.{same}
 use Rattle.tree.proofs.Names.{count-append}
@@ -24,6 +25,10 @@ use Rattle.calls.specs.Forecast.{begins}
 use Rattle.calls.proofs.Legal.{answersAfter, answersAlong}
 
 -- ---- records
+
+-- the memory that they left
+abbrev pub memoryAfter : Shape → List Numbered → Memory
+memoryAfter s ns = machineAfter s ns .memory
 
 module _ (s : Shape) where
   course-append : (ns ts : List Numbered) → courseAfter s (ns ++ ts) ≡ foldl (courseRecord s) (courseAfter s ns) ts
@@ -57,7 +62,7 @@ module _ (s : Shape) where
   unfolding answersAlong answersAfter
   answers-snoc ns n = rw (answers-after-append [] ns (n ∷ [])) (rw append-nil)
 
-pub begins-append : (k : ℕ) (rs ts : List StepRecord) → begins k (rs ++ ts) ≡ begins k rs + begins k ts
+begins-append : (k : ℕ) (rs ts : List StepRecord) → begins k (rs ++ ts) ≡ begins k rs + begins k ts
 unfolding begins
 begins-append k = count-append (λ r. isBegin r && eqb (r .process) k) (begins k) refl (λ r rs. refl)
 

@@ -5,20 +5,16 @@ use mathlib.Core.Path.{_≡_, refl, ap, _∙_}
 use mathlib.Core.List.{List, [], _∷_, _++_, map}
 use lib.ListN.{length, take, getD}
 use Rattle.record.specs.declared.StepRecord.{StepRecord}
-use Rattle.calls.specs.Numbered.{Numbered, numberedAfter, numbered}
+use Rattle.calls.specs.Numbered.{Numbered, nextAfter, numberedAfter, numbered}
 
 -- the records alone
 abbrev pub items : List Numbered → List StepRecord
 items ns = map (λ (n : Numbered). n .item) ns
 
--- the record that follows i others
-abbrev pub nextAfter : ℕ → StepRecord → Numbered
-nextAfter i r = record { number = i + 1; item = r }
-
 after-append : (i : ℕ) (rs ts : List StepRecord) → numberedAfter i (rs ++ ts) ≡ numberedAfter i rs ++ numberedAfter (i + length rs) ts
 unfolding numberedAfter
 after-append i [] ts = let e : i + 0 ≡ i = omega arith in rw e
-after-append i (r ∷ rs) ts = let e : i + suc (length rs) ≡ suc i + length rs = omega arith in rw (e, after-append (suc i) rs ts)
+after-append i (r ∷ rs) ts = let e : i + suc (length rs) ≡ i + 1 + length rs = omega arith in rw (e, after-append (i + 1) rs ts)
 
 pub numbered-append : (rs ts : List StepRecord) → numbered (rs ++ ts) ≡ numbered rs ++ numberedAfter (length rs) ts
 unfolding numbered
@@ -26,12 +22,12 @@ numbered-append rs ts = after-append 0 rs ts ∙ ap (λ (i : ℕ). numberedAfter
 
 pub numbered-snoc : (rs : List StepRecord) (r : StepRecord) → numbered (rs ++ (r ∷ [])) ≡ numbered rs ++ (nextAfter (length rs) r ∷ [])
 unfolding numberedAfter
-numbered-snoc rs r = numbered-append rs (r ∷ []) ∙ ap (λ (i : ℕ). numbered rs ++ (record { number = i; item = r } ∷ [])) (omega arith)
+numbered-snoc rs r = numbered-append rs (r ∷ [])
 
 after-items : (i : ℕ) (rs : List StepRecord) → items (numberedAfter i rs) ≡ rs
 unfolding numberedAfter
 after-items i [] = refl
-after-items i (r ∷ rs) = ap (λ (l : List StepRecord). r ∷ l) (after-items (suc i) rs)
+after-items i (r ∷ rs) = ap (λ (l : List StepRecord). r ∷ l) (after-items (i + 1) rs)
 
 pub items-numbered : (rs : List StepRecord) → items (numbered rs) ≡ rs
 unfolding numbered
@@ -40,7 +36,7 @@ items-numbered rs = after-items 0 rs
 after-length : (i : ℕ) (rs : List StepRecord) → length (numberedAfter i rs) ≡ length rs
 unfolding numberedAfter
 after-length i [] = refl
-after-length i (r ∷ rs) = ap suc (after-length (suc i) rs)
+after-length i (r ∷ rs) = ap suc (after-length (i + 1) rs)
 
 pub numbered-length : (rs : List StepRecord) → length (numbered rs) ≡ length rs
 unfolding numbered
@@ -50,7 +46,7 @@ after-take : (i j : ℕ) (rs : List StepRecord) → take j (numberedAfter i rs) 
 unfolding numberedAfter
 after-take i zero rs = refl
 after-take i (suc j) [] = refl
-after-take i (suc j) (r ∷ rs) = ap (λ (l : List Numbered). record { number = suc i; item = r } ∷ l) (after-take (suc i) j rs)
+after-take i (suc j) (r ∷ rs) = ap (λ (l : List Numbered). nextAfter i r ∷ l) (after-take (i + 1) j rs)
 
 -- its first records, and the number of each
 pub numbered-take : (j : ℕ) (rs : List StepRecord) → take j (numbered rs) ≡ numbered (take j rs)
@@ -61,7 +57,7 @@ after-at : (i j : ℕ) (rs : List StepRecord) → j < length rs → (d : Numbere
 unfolding numberedAfter
 after-at i j [] l d = absurd (omega arith)
 after-at i zero (r ∷ rs) l d = omega arith
-after-at i (suc j) (r ∷ rs) l d = omega (arith, after-at (suc i) j rs (omega arith) d)
+after-at i (suc j) (r ∷ rs) l d = omega (arith, after-at (i + 1) j rs (omega arith) d)
 
 pub numbered-at : (j : ℕ) (rs : List StepRecord) → j < length rs → (d : Numbered) → getD (numbered rs) j d .number ≡ suc j
 unfolding numbered
@@ -79,7 +75,7 @@ lastFrom i (n ∷ ns) = lastFrom (n .number) ns
 after-rises : (i : ℕ) (rs : List StepRecord) → RisesFrom i (numberedAfter i rs)
 unfolding numberedAfter
 after-rises i [] = tt
-after-rises i (r ∷ rs) = (omega arith, after-rises (suc i) rs)
+after-rises i (r ∷ rs) = (omega arith, after-rises (i + 1) rs)
 
 pub numbered-rises : (rs : List StepRecord) → RisesFrom 0 (numbered rs)
 unfolding numbered

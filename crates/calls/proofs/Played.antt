@@ -15,10 +15,10 @@ use Rattle.tree.specs.Shape.{Shape}
 use Rattle.steps.specs.Machine.{Machine, processOf}
 use Rattle.calls.specs.declared.Refusal.{Refusal}
 use Rattle.calls.specs.Refusals.{accepted, recordRefusal}
-use Rattle.calls.specs.Numbered.{numberedAfter, numbered}
+use Rattle.calls.specs.Numbered.{nextAfter, numberedAfter, numbered}
 use Rattle.calls.specs.Run.{takeRecord, Played, atStart, taking, refusing, playRecord, play}
 use Rattle.calls.specs.History.{courseStart, courseAfter, machineAfter}
-use Rattle.calls.proofs.Numbers.{nextAfter, numbered-snoc}
+use Rattle.calls.proofs.Numbers.{numbered-snoc}
 use Rattle.calls.proofs.Legal.{Accepted, Legal, none, more, answersAfter, answersAlong, accept, answers-room}
 use Rattle.calls.proofs.Histories.{machine-snoc, answers-snoc}
 use Rattle.calls.proofs.RunsBy.{playRecordBy, playBy, by-append, by-over, by-taken, by-refused}

@@ -1,4 +1,4 @@
--- The finst records of a legal list are legal, and each is accepted after those before it.
+-- The first records of a legal list are legal, and each is accepted after those before it.
 use Prim.Native.Nat.{ℕ, _≤_}
 use native.Mathlib.Omega.{arith}
 use native.Mathlib.Decide.{decLe}

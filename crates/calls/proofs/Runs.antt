@@ -14,6 +14,7 @@ use Rattle.record.specs.declared.StepRecord.{StepRecord}
 use Rattle.record.specs.declared.AnswerRecord.{AnswerRecord}
 use Rattle.record.specs.StepRecords.{isStep, isBegin}
 use Rattle.tree.specs.Shape.{Shape, processes, leafOf}
+use Rattle.tree.specs.Memory.{Memory}
 use Rattle.tree.specs.Order.{OpId}
 use Rattle.tree.proofs.Later.{Later, later-refl, later-trans}
 use Rattle.tree.proofs.Cleared.{cleared-count}
@@ -33,7 +34,7 @@ use Rattle.calls.specs.History.{Event, opens, operation, begunBy, course
 use Rattle.calls.specs.Demand3.{finishing}
 use Rattle.calls.proofs.Legal.{Accepted, Legal, none, more, answersAfter, answersAlong, not-step, not-begin}
 use Rattle.calls.proofs.Prefixes.{legal-prefix, legal-accepted}
-use Rattle.calls.proofs.Histories.{machine-snoc, history-snoc, answers-snoc, begun-snoc}
+use Rattle.calls.proofs.Histories.{memoryAfter, machine-snoc, history-snoc, answers-snoc, begun-snoc}
 use Rattle.calls.proofs.OwnCounts.{countsIn}
 use Rattle.calls.proofs.Agrees.{Doing, Agrees}
 use Rattle.calls.proofs.AfterBegin.{begin-agrees}
@@ -185,10 +186,6 @@ module _ (s : Shape) (tall : 1 ≤ s .height) (ns : List Numbered) (n : Numbered
         (sym (answers-snoc s ns n ∙ ap (λ (l : List AnswerRecord). answersAlong s ns ++ l) answered))
         (step-answers of-step)
 
-    later-step : Later s (m .memory) (machineAfter s (ns ++ (n ∷ [])) .memory)
-    later-step =
-        subst (λ (x : Machine). Later s (m .memory) (x .memory)) (sym (machine-snoc s ns n ∙ taken-step)) (later of-step)
-
   after-record : Run s (ns ++ (n ∷ []))
   after-record = on (isStep r) refl
     where
@@ -196,17 +193,26 @@ module _ (s : Shape) (tall : 1 ≤ s .height) (ns : List Numbered) (n : Numbered
       on true z = after-step z
       on false z = after-begin z
 
-  pub begin-memory : begin m k (operationOf r) .memory ≡ m .memory
+  begin-memory : begin m k (operationOf r) .memory ≡ m .memory
   unfolding begin withProcess
   begin-memory = refl
 
-  later-record : Later s (m .memory) (machineAfter s (ns ++ (n ∷ [])) .memory)
-  later-record = on (isStep r) refl
+  -- the memory: a begin leaves it as it is, and a step does what steps do
+  pub by-record : (P : Memory → Type 0) → P (m .memory)
+      → ((j : ℕ) → j < processes s → (o : Operation) (x : Step) → processOf m j .status ≡ Busy o x → P (stepOf s (n .number) m j .memory))
+      → P (memoryAfter s (ns ++ (n ∷ [])))
+  by-record P begun stepped = on (isStep r) refl
     where
-      on : (b : Bool) → isStep r ≡ b → Later s (m .memory) (machineAfter s (ns ++ (n ∷ [])) .memory)
-      on true z = later-step z
-      on false z =
-          subst (Later s (m .memory)) (sym (ap (λ (x : Machine). x .memory) (machine-snoc s ns n ∙ taken-begin z) ∙ begin-memory)) (later-refl s (m .memory))
+      on : (b : Bool) → isStep r ≡ b → P (memoryAfter s (ns ++ (n ∷ [])))
+      on true z =
+          let at = busy z in
+          subst (λ (x : Machine). P (x .memory)) (sym (machine-snoc s ns n ∙ taken-step z)) (stepped k (acc .process-low) (at .0) (at .1) (at .2))
+      on false z = subst P (sym (ap (λ (x : Machine). x .memory) (machine-snoc s ns n ∙ taken-begin z) ∙ begin-memory)) begun
+
+  later-record : Later s (m .memory) (memoryAfter s (ns ++ (n ∷ [])))
+  later-record =
+      by-record (Later s (m .memory)) (later-refl s (m .memory))
+      (λ j low o x at. later (record { agrees = run; tall = tall; low = low; busy = at }))
 
 -- ---- every legal list
 pub runs : (s : Shape) → 1 ≤ s .height → {ns : List Numbered} → Legal s ns → Run s ns

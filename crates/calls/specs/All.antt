@@ -11,7 +11,8 @@ use Rattle.calls.specs.ListOrder.{playAll, listRefusal, listed, listPlay
 use Rattle.calls.specs.CheckLog.{sameBytes, compared, checkRefusal, verdictNumber, verdictIndex, verdictRefusal, checked, verdictOn, checkPlayed, checkLog}
 use Rattle.calls.specs.LogVerdict.{logOfRules, recordAt}
 use Rattle.calls.specs.PlainQueue.{fed, answers}
-use Rattle.calls.specs.History.{operation, begunBy, courseStart, nextEvent, courseRecord, courseAfter, machineAfter, history, isOpening, isOwnStep, isOwnHelp, isFinish, isOpened, isFinished, finishedBefore, ownSteps, ownHelps, does}
+use Rattle.calls.specs.History.{operation, begunBy, courseStart, nextEvent, courseRecord, courseAfter, machineAfter, history}
+use Rattle.calls.specs.History.{isOpening, isOwnStep, isOwnHelp, isFinish, isOpened, isFinished, finishedBefore, ownSteps, ownHelps, does}
 use Rattle.calls.specs.Demand3.{queueAfter, queueAnswer, queueRecord, finishing, stepLimit}
 use Rattle.calls.specs.Linearizable.{response, precedes}
 use Rattle.calls.specs.Forecast.{recordLimit, begins, plannedRefusal, beginsRefusal, forecastRefusal, foreseen, forecast, beginRecords}

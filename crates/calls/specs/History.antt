@@ -43,8 +43,8 @@ unfoldable pub courseStart : Shape → Course
 courseStart s = record { machine = start s; events = [] }
 
 -- the event of the next record: a begin opens the next operation of its process, a step is one of the last that its
--- process opened. Which step is a Q, and which a help, the step rules say of the machine: its process is at Q, or the
--- step moves a child's head inside a refresh. Nothing else here names them.
+-- process opened. Which step is a Q, and which a help, the step rules say of the machine so far: its process is at Q,
+-- or the step moves a child's head inside a refresh.
 unfoldable pub nextEvent : Shape → Course → Numbered → Event
 nextEvent s c n =
     let r = n .item in

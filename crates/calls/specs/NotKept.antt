@@ -38,7 +38,7 @@ y = operation 1 1
 abbrev pub x2 : OpId
 x2 = operation 0 2
 
--- the words of a block: puts, takes, end left, end right and size; its super and its number are 0, which no clause reads
+-- the words of a block: puts, takes, end left, end right and size; super and number, which no clause reads, are 0
 abbrev pub blockWith : ℕ → ℕ → ℕ → ℕ → ℕ → List ℕ
 blockWith puts takes left right size = puts ∷ takes ∷ 0 ∷ left ∷ right ∷ size ∷ 0 ∷ []
 

@@ -16,7 +16,7 @@ use Rattle.steps.specs.Machine.{Machine, start, processOf, begin, stepOf}
 use Rattle.calls.specs.declared.Refusal.{Refusal}
 use Rattle.calls.specs.declared.Refusal.the-variants.{None}
 use Rattle.calls.specs.Answer.{answersOf}
-use Rattle.calls.specs.Numbered.{Numbered}
+use Rattle.calls.specs.Numbered.{Numbered, nextAfter}
 use Rattle.calls.specs.Refusals.{refusalNumber, accepted, callRefusal, recordRefusal}
 
 -- the operation that a begin record opens
@@ -41,11 +41,11 @@ pub record Played : Type 0 where
 unfoldable pub atStart : Shape → Played
 atStart s = record { machine = start s; answers = []; taken = 0; refusal = None }
 
--- the next record is the one after those taken, so that its number in the whole list is one more
+-- the next record of the whole list is the one that follows those taken
 unfoldable pub taking : Shape → Played → StepRecord → Played
 taking s g r =
     record {
-      machine = takeRecord s (g .machine) (record { number = g .taken + 1; item = r });
+      machine = takeRecord s (g .machine) (nextAfter (g .taken) r);
       answers = g .answers ++ recordAnswers s (g .machine) r;
       taken = g .taken + 1;
       refusal = None;

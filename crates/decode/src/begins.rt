@@ -18,8 +18,8 @@ fn begin_by(p: u32, process: u32, operation: Operation) -> Begin
     Begin::Opens { process, operation }
 }
 
-// The begin that a record with these two words is, where there are p processes; the first word of a step is below p. The
-// process is in the word's low byte and the kind in the next, and the other two are zero.
+// The begin that a record with these two words is, where there are p processes; the first word of a step is below p.
+// The process is in the word's low byte and the kind in the next, and the other two are zero.
 pub fn begin_of(p: u32, first: u32, value: u32) -> Begin
     requires { ⌜ (p ≤ first) × (p ≤ 256) ⌝ }
     ensures { λ b. ⌜ ((r : StepRecord) → r .process < 256 → r .kind < 256 → first ≡ firstWord r → value ≡ r .value → b ≡ beginOf p r) ⌝ }

@@ -18,9 +18,8 @@ use Rattle.calls.specs.declared.Refusal.the-variants.{None}
 use Rattle.calls.specs.Answer.{answerOf}
 use Rattle.calls.specs.Refusals.{refusalNumber, accepted, recordRefusal}
 use Rattle.calls.specs.Run.{Played, takeRecord, recordAnswers, taking, refusing, play}
-use Rattle.calls.specs.Numbered.{Numbered, numbered}
+use Rattle.calls.specs.Numbered.{Numbered, nextAfter, numbered}
 use Rattle.calls.specs.History.{begunBy, history}
-use Rattle.calls.proofs.Numbers.{nextAfter}
 use Rattle.calls.proofs.Agrees.{Agrees}
 use Rattle.calls.proofs.Legal.{answersAlong}
 use Rattle.calls.proofs.Played.{played-machine, played-legal, over-stays, play-append, play-taken, play-refused}

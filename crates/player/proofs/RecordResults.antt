@@ -15,8 +15,8 @@ use Rattle.steps.specs.Contracts.Operations.{rested}
 use Rattle.calls.specs.declared.Refusal.{Refusal}
 use Rattle.calls.specs.Answer.{answerOf}
 use Rattle.calls.specs.Refusals.{accepted, recordRefusal}
+use Rattle.calls.specs.Numbered.{nextAfter}
 use Rattle.calls.specs.Run.{takeRecord, recordAnswers}
-use Rattle.calls.proofs.Numbers.{nextAfter}
 
 -- a record is refused, or the process that it names moves on and is then as given, or that finishes its operation
 pub data RecordResult : Type 0 where

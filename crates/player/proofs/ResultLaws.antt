@@ -21,8 +21,8 @@ use Rattle.calls.specs.declared.Refusal.{Refusal}
 use Rattle.calls.specs.declared.Refusal.the-variants.{None, IllFormed, StepWhileIdle, AnswersFull}
 use Rattle.calls.specs.Answer.{answersFrom, answersOf}
 use Rattle.calls.specs.Refusals.{refusalNumber, accepted, beginRefusal, stepRefusal, recordRefusal}
+use Rattle.calls.specs.Numbered.{nextAfter}
 use Rattle.calls.specs.Run.{operationOf, takeRecord, recordAnswers}
-use Rattle.calls.proofs.Numbers.{nextAfter}
 use Rattle.player.proofs.RecordResults.{Refused, Moved, Finished, ResultOf}
 
 -- an ill-formed record is refused before its process is looked at

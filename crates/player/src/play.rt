@@ -58,7 +58,7 @@ fn ended(refusal: Refusal, taken: usize, answers: usize, equal: usize) -> Outcom
 // if that has any bytes, and compared with the one in the same place of `log`. A record is told by its two words; why,
 // and why Q takes the process modulo p, below which it is, docs/DECISIONS.md says in "Two words tell a record". Each
 // named step has its own arm, which reads the process again and stores it, so that a step loads and stores only the
-// registers that it uses.
+// registers that it uses. The number of a record is i + 1; A and C4 write it.
 pub fn play(
     p: u32,
     l: u32,

@@ -114,8 +114,8 @@ module _ (s : Shape) (m : Memory) (sized : Sized s m) (sound : Sound s m) (hold 
         }
 
     -- ---- every turn
-    pub carried-turn : {x : Stage} {n : Memory} {y : Stage} → Turn s number k o m x n y → hold k ≡ x → hold' k ≡ y → Effect s number k o m (hold k) n (hold' k) → OwnLeaf s m k b x → Carried s m hold k b x
-        → Carried s n hold' k b y
+    pub carried-turn : {x : Stage} {n : Memory} {y : Stage} → Turn s number k o m x n y → hold k ≡ x → hold' k ≡ y → Effect s number k o m (hold k) n (hold' k)
+        → OwnLeaf s m k b x → Carried s m hold k b x → Carried s n hold' k b y
     carried-turn (rests x) e f eff own p = carried-stable s m m sound hold hold' k kp o eff others regs k kp b x p
     carried-turn adds e f eff own p =
         added _ (write-here s m (leafOf s k) (headOf m (leafOf s k)) (plusOperation number o (block s m (leafOf s k) (headOf m (leafOf s k) - 1))) sized (leaf-node s k kp)

@@ -208,7 +208,8 @@ module _ (s : Shape) (number k : ℕ) (o : Operation) (m : Memory) where
               absurd (omega (arith, absent-count (block s m (w .node) (w .head)) free, sound .node (w .node) (inner-node s (w .node) iv) .filled (w .head) (p .refreshing .first) l))
           on (no l) = omega (arith, p .refreshing .last)
 
-      build-within : ((κ : Kind) → total κ (blockOf number n) ≡ total κ (block s m (childOf onLeft (w .node)) (blockOf number n .left)) + total κ (block s m (childOf onRight (w .node)) (blockOf number n .right)))
+      build-within : ((κ : Kind)
+          → total κ (blockOf number n) ≡ total κ (block s m (childOf onLeft (w .node)) (blockOf number n .left)) + total κ (block s m (childOf onRight (w .node)) (blockOf number n .right)))
           → count (blockOf number n) ≤ lastPlace s (w .node)
       unfolding total
       build-within sums =

@@ -81,7 +81,8 @@ module _ (s : Shape) (tall : 1 ≤ s .height) (number : ℕ) (m : Machine) (inv 
 
     step-overall : (f : Status → ℕ) → overall s f (stepOf s number m k) + f (Busy o n) ≡ overall s f m + f next
     step-overall f =
-        omega (arith, ap (λ (p : Process). f (p .status)) (stepped-here s tall number m inv k kp o n is), ap f is, one-changed s m (stepOf s number m k) k kp (stepped-other s tall number m inv k kp o n is) f)
+        let others = one-changed s m (stepOf s number m k) k kp (stepped-other s tall number m inv k kp o n is) f in
+        omega (arith, ap (λ (p : Process). f (p .status)) (stepped-here s tall number m inv k kp o n is), ap f is, others)
 
     -- takes one at least
     pub step-remaining : remaining s (stepOf s number m k) < remaining s m

@@ -131,7 +131,7 @@ abbrev pub HandOk : Shape → Memory → Visit → Hand → Type 0
 HandOk s m w none = Unit {0}
 HandOk s m w (one l) = EndOk s m w onLeft l
 HandOk s m w (two l r x) = EndOk s m w onLeft l × EndOk s m w onRight r × Tallied s m w l r x
--- whatever number it gets
+-- the block that was made, whatever number C4 gives it
 HandOk s m w (made n) =
     (number : ℕ) → Follows (block s m (w .node) (w .head - 1)) (blockOf number n) × Joins s m (w .node) (block s m (w .node) (w .head - 1)) (blockOf number n)
 

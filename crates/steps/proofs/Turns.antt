@@ -28,7 +28,8 @@ abbrev pub afterHelp : Side → After
 afterHelp onLeft = Right
 afterHelp onRight = Ends
 
--- a turn of process k by the record with this number, inside operation o, on memory m: the stage before it, the memory after it, the stage after it
+-- a turn of process k by the record with this number, inside operation o, on memory m: the stage before it, the memory
+-- after it, the stage after it
 pub data Turn (s : Shape) (number k : ℕ) (o : Operation) (m : Memory) : Stage → Memory → Stage → Type 0 where
   -- V1, R2, R4; R3 and R5 that find no block
   rests : (x : Stage) → Turn s number k o m x m x

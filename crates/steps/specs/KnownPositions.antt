@@ -28,8 +28,8 @@ pub nodeInRoot : OwnWords (shapeFor 4 1) (C3N inRoot 2 1 2 1) (21 ∷ 22 ∷ 26 
 unfolding trees stepRules
 nodeInRoot = ofNode inRoot 2 1 2 1
 
--- in a second refresh of node 3, whose head was 2, with the ends 1 and 0: of block 1 of leaf 6, of block 0 of leaf 7, and of its own
--- block 1
+-- in a second refresh of node 3, whose head was 2, with the ends 1 and 0: of block 1 of leaf 6, of block 0 of leaf 7,
+-- and of its own block 1
 abbrev belowRoot : Visit
 belowRoot = record { node = 3; refresh = Second; head = 2 }
 

@@ -47,8 +47,8 @@ afterFailed Second = Up
 unfoldable pub afterRefresh : Refresh → Bool → After
 afterRefresh x success = if success then Up else afterFailed x
 
--- whether an advance is of a child, which R3 or R5 began, inside a refresh; that of the own leaf, which A began, and that
--- of the refreshed node, which C4 began, are not
+-- whether an advance is of a child, which R3 or R5 began, inside a refresh; that of the own leaf, which A began, and
+-- that of the refreshed node, which C4 began, are not
 unfoldable pub ofChild : After → Bool
 ofChild Right = true
 ofChild Ends = true

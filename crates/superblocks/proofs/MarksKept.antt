@@ -114,7 +114,8 @@ module _ (s : Shape) (tall : 1 ≤ s .height) (number : ℕ) (m : Machine) (inv 
         (subst (λ (y : Status). Effect s number k o (m .memory) (holding m k) (r .memory) (stageOf y)) (sym next) (step-effect s tall number m inv k kp o n busy))
         (λ j ne. ap (λ (p : Process). p .status) (stepped-other s tall number m inv k kp o n busy j ne))
         (subst (λ (x : Status). Traces s (m .memory) x (r .memory) (at' k)) (sym busy)
-        (subst (Traces s (m .memory) (Busy o n) (r .memory)) (sym next) (traces s (m .memory) (inv .sized) (inv .sound) (holding m) number k kp o b n (own s tall number m inv k kp o n busy) (carried s tall number m inv k kp o n busy) asked raised)))
+        (subst (Traces s (m .memory) (Busy o n) (r .memory)) (sym next)
+        (traces s (m .memory) (inv .sized) (inv .sound) (holding m) number k kp o b n (own s tall number m inv k kp o n busy) (carried s tall number m inv k kp o n busy) asked raised)))
         old
         (λ d u i z here low q.
         subst (Seen (r .memory) d u i z) (sym next)

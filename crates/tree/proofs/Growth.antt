@@ -18,7 +18,7 @@ use Rattle.tree.specs.Contracts.Invariant.{Node, Inner, count, Present, 
 use Rattle.tree.proofs.Nodes.{child-node, inner-node, leaf-node}
 use Rattle.tree.proofs.Sound.{below-head, present-low, before-written}
 
--- two blocks are equal but for super and number
+-- two blocks are equal, super and number aside
 pub record Same (x y : Block) : Type 0 where
   pub puts : x .puts ≡ y .puts
   pub takes : x .takes ≡ y .takes
@@ -46,8 +46,8 @@ pub record Fresh (s : Shape) (m : Memory) (u i : ℕ) (c : Block) : Type 0 where
   pub joins : Inner s u → Joins s m u (block s m u i) c
   pub adds : (k : ℕ) → k < processes s → u ≡ leafOf s k → AddsOne (block s m u i) c
 
--- from m to n: a head stays, or rises by one past a present block; what is written stays but for super and number; what is absent
--- is as it was; a new block is at the head
+-- from m to n: a head stays, or rises by one past a present block; what is written stays, super and number aside (of
+-- numbers see steps/WrittenNumbers); what is absent is as it was; a new block is at the head
 pub record Grows (s : Shape) (m n : Memory) : Type 0 where
   pub raised : (u : ℕ) → Node s u → (headOf n u ≡ headOf m u) ⊎ ((headOf n u ≡ headOf m u + 1) × Present s m u (headOf m u))
   pub stays : (u i : ℕ) → Node s u → Written s m u i → Same (block s n u i) (block s m u i)

@@ -5,6 +5,9 @@ use crate::ran::Ran;
 
 type Block = [u32; BLOCK_WORDS];
 
+/// What C3N builds: the words of a block before its number.
+type Built = [u32; NUMBER];
+
 #[derive(Clone, Copy)]
 enum Operation {
     Put(u32),
@@ -65,7 +68,7 @@ enum Step {
     C3L(Refresh, Ends),
     C3R(Refresh, Ends, Totals),
     C3N(Refresh, Ends, Totals),
-    C4(Refresh, Block),
+    C4(Refresh, Built),
     Q,
 }
 
@@ -179,11 +182,11 @@ impl Memory<'_> {
                 *step = Step::C3N(refresh, ends, sums);
             }
             Step::C3N(refresh, ends, sums) => *step = self.build(refresh, ends, sums),
-            Step::C4(refresh, new) => {
+            Step::C4(refresh, built) => {
                 let block = self.block_mut(refresh.node, refresh.head);
                 let success = !present(block);
                 if success {
-                    *block = new;
+                    block[..NUMBER].copy_from_slice(&built);
                     block[NUMBER] = number;
                 }
                 let after = if success || refresh.tries == 1 {
@@ -237,8 +240,7 @@ impl Memory<'_> {
         } else {
             0
         };
-        // C4 writes its own record's number.
-        Step::C4(refresh, [puts, takes, 0, left, right, size, 0])
+        Step::C4(refresh, [puts, takes, 0, left, right, size])
     }
 
     /// The first place of the node from `low + 1` to `high` whose word reaches `wanted`. The word

@@ -71,6 +71,12 @@ impl List {
         self.bytes().as_chunks().0
     }
 
+    /// The process of the record with this number, from 1.
+    pub fn process_of(&self, number: u32) -> u8 {
+        let [process, ..] = self.records()[number as usize - 1];
+        process
+    }
+
     /// The line of a text that says a record, from 0.
     pub fn line_of(&self, record: usize) -> Option<usize> {
         self.exercise.line_of(record)

@@ -1,4 +1,4 @@
-//! Records as lines of text.
+//! Records and nodes in words.
 
 use crate::notation::{Line, Record};
 use otq::{Answer, Kind, Order, Outcome, ROOT};
@@ -65,12 +65,12 @@ pub fn hex(bytes: &[u8]) -> String {
     bytes.join(" ")
 }
 
-/// A node of the tree of p processes: the root, an inner node by its number, a leaf by its process.
-pub fn node_name(p: u32, node: u32) -> String {
-    match node {
-        ROOT => "the root".to_string(),
-        inner if inner < p => format!("node {inner}"),
-        leaf => format!("leaf {}", leaf - p),
+/// A node of the tree: the root, an inner node by its number, a leaf by its process.
+pub fn node_name(node: u32, leaf_of: Option<u32>) -> String {
+    match (node, leaf_of) {
+        (ROOT, _) => "the root".to_string(),
+        (_, Some(process)) => format!("leaf {process}"),
+        (inner, None) => format!("node {inner}"),
     }
 }
 
@@ -102,9 +102,9 @@ mod tests {
 
     #[test]
     fn nodes() {
-        let names = [1, 2, 3, 4, 7].map(|node| node_name(4, node));
-        assert_eq!(names, ["the root", "node 2", "node 3", "leaf 0", "leaf 3"]);
-        assert_eq!(node_name(2, 3), "leaf 1");
+        assert_eq!(node_name(1, None), "the root");
+        assert_eq!(node_name(3, None), "node 3");
+        assert_eq!(node_name(3, Some(1)), "leaf 1");
     }
 
     #[test]

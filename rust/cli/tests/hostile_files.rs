@@ -125,7 +125,7 @@ fn torn_and_changed_lists() {
         let mut steps = steps.clone();
         steps[bit / 8] ^= 1 << (bit % 8);
         let changed = file("changed.bin", &steps);
-        for command in ["run", "order", "trace", "forecast"] {
+        for command in ["run", "order", "table", "trace", "forecast"] {
             otq(&with_numbers(command, &[&changed]));
         }
         otq(&with_numbers("check", &[&changed, LOG]));
@@ -137,7 +137,7 @@ fn torn_and_changed_lists() {
 fn hostile_texts() {
     let long = file("long-line.txt", &b"step 0 ".repeat(10_000));
     let message = format!("{long}:1: expected a line of at most 10000 bytes\n");
-    for command in ["run", "order", "trace", "forecast", "encode"] {
+    for command in ["run", "order", "table", "trace", "forecast", "encode"] {
         assert_eq!(
             otq(&[command, &long]),
             Said {

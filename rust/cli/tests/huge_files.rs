@@ -131,7 +131,7 @@ fn huge_texts() {
             "{list}"
         );
         assert!(said.err.contains(&format!(", {list}:{line}\n")), "{said:?}");
-        for command in ["order", "trace", "forecast"] {
+        for command in ["order", "table", "trace", "forecast"] {
             assert_eq!(otq_limited(&[command, list]).status, 3, "{command} {list}");
         }
     }

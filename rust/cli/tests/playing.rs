@@ -265,7 +265,7 @@ fn text_mistakes() {
         b"put 7 by 0\n# \xff may stand here\nstep 0 \xff\n",
     );
     let message = format!("{path}:3: expected a count from x1 to x1000000, found");
-    for command in ["run", "order", "trace", "forecast", "encode"] {
+    for command in ["run", "order", "table", "trace", "forecast", "encode"] {
         let said = otq(&[command, &path]);
         assert_eq!(said.status, 2, "{said:?}");
         assert!(said.err.starts_with(&message), "{said:?}");

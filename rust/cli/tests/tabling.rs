@@ -1,6 +1,8 @@
 //! `otq table`.
 
-use crate::support::{assert_fails, bytes, file, otq, with_numbers, written, STEPS, TEXT, TORN};
+use crate::support::{
+    assert_fails, bytes, file, otq, path, with_numbers, written, STEPS, TEXT, TORN,
+};
 
 /// Process 1 writes the root's block, with both puts.
 const M6: &str = "\
@@ -124,9 +126,16 @@ fn refused_lists() {
         let left = written(&["table", "-p", "2", "-L", l, &before]);
         assert_eq!(said.out, left, "{name}");
     }
-    // Whichever node is asked for, that the list is refused is told too.
+    // Of one node too, that the list is refused is told.
     let root = otq(&["table", "examples/known/M7.txt", "--node", "1"]);
     assert_eq!((root.status, root.out.lines().count()), (3, 3), "{root:?}");
+    // A node that the tree lacks is a mistake before that.
+    let message = "otq: --node 99: the tree of 2 processes has nodes 1 to 3; ";
+    assert_fails(
+        &["table", "examples/known/M7.txt", "--node", "99"],
+        2,
+        message,
+    );
 }
 
 #[test]
@@ -181,6 +190,37 @@ fn json() {
         turned_down.out.ends_with("\"taken\": 0, \"nodes\": []}\n"),
         "{turned_down:?}"
     );
+}
+
+/// The largest tree, with all operations in the root: its blocks stand in 15 nodes, 500 in each leaf.
+#[test]
+fn the_most_operations() {
+    let list = path("table-most.txt");
+    written(&[
+        "make",
+        "-p",
+        "8",
+        "-L",
+        "500",
+        "--pace",
+        "bursts:40",
+        "--seed",
+        "5",
+        "-o",
+        &list,
+    ]);
+    let of_node = |node: u32| written(&["table", &list, "--node", &node.to_string()]);
+    for leaf in 8..=15 {
+        // A line a block after its heading and the titles.
+        assert_eq!(of_node(leaf).lines().count(), 2 + 500, "node {leaf}");
+    }
+    let root = of_node(1);
+    let last = root.lines().last().unwrap();
+    let words = last.split_whitespace().skip(1).take(2);
+    let totals = words.map(|word| word.parse::<u32>().unwrap());
+    assert_eq!(totals.sum::<u32>(), 4_000, "{last}");
+    let json = written(&["table", "--json", &list]);
+    assert_eq!(json.matches("{\"node\": ").count(), 15);
 }
 
 /// Each block of the table with the record that wrote it, as the trace words it.

@@ -1,24 +1,17 @@
-//! Block numbers in the tables of the compiled library: those of the reference, and their claims.
+//! Block numbers in the tables of the compiled library: their claims, and the same of all three calls.
 
 use crate::support::{mixed_list, needed, with_a_record_more};
-use otq::{most_answer_bytes, Block, Table};
+use otq::{most_answer_bytes, Table};
 use reference::block_numbers::{numbers_hold, written_by};
 use reference::help_lists::help_lists;
 use reference::known_runs::known_runs;
 use reference::process::StepName;
-use reference::run::play_into;
 use reference::schedules::{schedule, Ending, Pace, Plan};
 use reference::tree::Shape;
 
-/// The numbers of a node's present blocks.
-fn numbers(table: Table, node: u32) -> Vec<u32> {
-    let present = table.present(node);
-    present.map(|(_, Block { number, .. })| number).collect()
-}
-
-/// Run, list the order and check a log leave one table; its numbers are those of the reference and of
-/// the records that wrote the blocks, and the claims hold. Gives how many blocks there are, by height.
-fn compare(p: u32, l: u32, records: &[u8]) -> [usize; 4] {
+/// Run, list the order and check a log leave one table; the claims hold of its numbers, and each block
+/// that a record wrote is there. Gives how many blocks there are, by height.
+fn assert_numbered(p: u32, l: u32, records: &[u8]) -> [usize; 4] {
     let shape = Shape::new(p, l).unwrap();
     let mut words = vec![9; needed(p, l)];
     let mut answers = vec![9; most_answer_bytes(p, l).unwrap()];
@@ -26,19 +19,13 @@ fn compare(p: u32, l: u32, records: &[u8]) -> [usize; 4] {
     let taken = &records[..8 * run.taken as usize];
     assert_eq!(numbers_hold(shape, taken, &words), Ok(()));
 
-    let mut expected = vec![7; needed(p, l)];
-    play_into(shape, records, &mut expected);
-    let (table, expected) = (
-        Table::new(p, l, &words).unwrap(),
-        Table::new(p, l, &expected).unwrap(),
-    );
+    let table = Table::new(p, l, &words).unwrap();
     let written = written_by(shape, taken);
     let mut blocks = [0; 4];
     for node in table.nodes() {
-        let numbers = numbers(table, node);
-        assert_eq!(numbers, self::numbers(expected, node), "node {node}");
+        let present = table.present(node);
+        let numbers: Vec<u32> = present.map(|(_, block)| block.number).collect();
         assert_eq!(numbers, written[node as usize], "node {node}");
-        assert_eq!(table.block(node, 0), Some(Block::default()));
         blocks[shape.height(node) as usize] += numbers.len();
     }
 
@@ -66,8 +53,8 @@ fn paces() -> [Pace; 6] {
 #[test]
 fn of_every_p() {
     let mut met = [0; 4];
-    let mut compare = |plan: &Plan| {
-        let blocks = compare(plan.p, plan.l, &schedule(plan));
+    let mut assert_plan = |plan: &Plan| {
+        let blocks = assert_numbered(plan.p, plan.l, &schedule(plan));
         met = std::array::from_fn(|height| met[height] + blocks[height]);
     };
     for p in [2, 4, 8] {
@@ -75,11 +62,11 @@ fn of_every_p() {
             for (l, seed) in [(1, 1), (2, 2), (7, 3), (24, 4)] {
                 let plan = Plan::new(p, l, pace, seed);
                 for ending in [Ending::AllFinish, Ending::Cut(90), Ending::Abandoned] {
-                    compare(&plan.ending(ending));
+                    assert_plan(&plan.ending(ending));
                 }
             }
         }
-        compare(&Plan::new(p, 500, Pace::Bursts(40), 5));
+        assert_plan(&Plan::new(p, 500, Pace::Bursts(40), 5));
     }
     assert!(met.iter().all(|&blocks| blocks > 1000), "{met:?}");
 }
@@ -87,10 +74,10 @@ fn of_every_p() {
 #[test]
 fn of_the_known_runs_and_those_with_helps() {
     for known in known_runs() {
-        compare(known.p, known.l, &known.list);
+        assert_numbered(known.p, known.l, &known.list);
     }
     for fixed in help_lists() {
-        compare(fixed.p, fixed.l, &fixed.list.bytes());
+        assert_numbered(fixed.p, fixed.l, &fixed.list.bytes());
     }
 }
 
@@ -99,7 +86,7 @@ fn of_the_known_runs_and_those_with_helps() {
 fn up_to_a_refused_record() {
     for (p, l) in [(2, 1), (4, 1)] {
         for list in with_a_record_more(p, &mixed_list(p, l, 4)) {
-            compare(p, l, &list);
+            assert_numbered(p, l, &list);
         }
     }
 }

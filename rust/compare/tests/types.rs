@@ -4,7 +4,7 @@ use crate::support::needed;
 use otq::{Act, Answer, Block, Order, Outcome, Step, Table};
 use reference::random::Random;
 use reference::records;
-use reference::tree::{Shape, Tree};
+use reference::tree::{self, Shape, Tree};
 
 /// Bytes that are mostly small, so that many are records.
 fn bytes<const N: usize>(random: &mut Random) -> [u8; N] {
@@ -92,6 +92,18 @@ fn orders() {
     }
 }
 
+fn typed(block: tree::Block) -> Block {
+    Block {
+        puts: block.puts,
+        takes: block.takes,
+        superblock: block.superblock,
+        end_left: block.end_left,
+        end_right: block.end_right,
+        size: block.size,
+        number: block.number,
+    }
+}
+
 /// Every block of a table with random words, and which of them are present.
 #[test]
 fn blocks() {
@@ -113,21 +125,23 @@ fn blocks() {
             assert_eq!(table.last_place(node), Some(shape.last_place(node)));
             let mut of_node = Vec::new();
             for place in 0..=shape.last_place(node) {
-                let expected = tree.block(node, place);
-                let found = Block::from(expected.words());
-                assert_eq!(table.block(node, place), Some(found));
-                assert_eq!(found.number, expected.number);
-                assert_eq!(found.is_present(), expected.present());
-                present[usize::from(found.is_present())] += 1;
-                of_node.extend((place > 0 && found.is_present()).then_some((place, found)));
+                let block = tree.block(node, place);
+                let expected = typed(block);
+                assert_eq!(table.block(node, place), Some(expected));
+                assert_eq!(expected.is_present(), block.present());
+                present[usize::from(block.present())] += 1;
+                of_node.extend((place > 0 && block.present()).then_some((place, expected)));
             }
             assert_eq!(table.present(node).collect::<Vec<_>>(), of_node);
             assert_eq!(table.block(node, shape.last_place(node) + 1), None);
         }
         for process in 0..p {
-            assert_eq!(table.leaf_of(shape.leaf(process)), Some(process as u8));
+            assert_eq!(
+                table.process_of_leaf(shape.leaf(process)),
+                Some(process as u8)
+            );
         }
-        assert_eq!(table.leaf_of(p - 1), None);
+        assert_eq!(table.process_of_leaf(p - 1), None);
     }
     assert!(present.iter().all(|&blocks| blocks > 100), "{present:?}");
 }

@@ -1,8 +1,4 @@
 //! The blocks in the work table that a call left, by node and place.
-//!
-//! Node [`ROOT`] is the root, nodes 2v and 2v + 1 are the children of node v, and node p + k is the leaf of
-//! process k. A node's blocks are one unbroken part of the table; the parts stand in node order, and
-//! places rise within a part.
 
 use crate::sizes::table_words;
 use std::ops::RangeInclusive;
@@ -55,7 +51,11 @@ impl From<[u32; Block::WORDS]> for Block {
     }
 }
 
-/// The blocks of a work table.
+/// The blocks of a work table, by node and place.
+///
+/// Node [`ROOT`] is the root, nodes 2v and 2v + 1 are the children of node v, and node p + k is the leaf of
+/// process k. A node's blocks are one unbroken part of the table; the parts stand in node order, and
+/// places rise within a part.
 ///
 /// A put of 7 by process 0, played to its end. Its A, which writes the leaf's block, is record 2, and
 /// the C4 that writes the root's is record 16:
@@ -72,7 +72,7 @@ impl From<[u32; Block::WORDS]> for Block {
 /// assert_eq!(table.present(1).collect::<Vec<_>>(), [(1, root)]);
 /// let leaf = Block { puts: 1, superblock: 1, end_left: 7, number: 2, ..Block::default() };
 /// assert_eq!(table.block(2, 1), Some(leaf));
-/// assert_eq!(table.leaf_of(2), Some(0));
+/// assert_eq!(table.process_of_leaf(2), Some(0));
 /// assert_eq!(table.present(3).count(), 0);
 /// ```
 #[derive(Clone, Copy, Debug)]
@@ -85,6 +85,9 @@ pub struct Table<'a> {
 impl<'a> Table<'a> {
     /// The blocks of a table that a call with this p and l left. `None` if p or l is turned down or the
     /// table is too short, since then no call fills it.
+    ///
+    /// Words past those needed are not read. A call turned down with 1 to 4, or 11, leaves the table as
+    /// it was lent, and then its words are no blocks.
     ///
     /// ```
     /// let words = vec![0; otq::table_words(2, 1).unwrap()];
@@ -104,14 +107,14 @@ impl<'a> Table<'a> {
     }
 
     /// The process whose leaf the node is; `None` if it is no leaf.
-    pub fn leaf_of(self, node: u32) -> Option<u8> {
+    pub fn process_of_leaf(self, node: u32) -> Option<u8> {
         let leaves = self.p..2 * self.p;
         leaves.contains(&node).then(|| (node - self.p) as u8)
     }
 
     /// The last place of a node, whose places are from 0; `None` if there is no such node.
     pub fn last_place(self, node: u32) -> Option<u32> {
-        // A node has place 0, and l places for each leaf below it.
+        // A node has place 0, and l places for each leaf below it, a leaf itself counted.
         let leaves = |node: u32| self.p >> node.ilog2();
         self.nodes().contains(&node).then(|| self.l * leaves(node))
     }
@@ -155,8 +158,16 @@ mod tests {
                 let mut next = 0;
                 for node in table.nodes() {
                     for place in 0..=table.last_place(node).unwrap() {
-                        let seven = [0, 1, 2, 3, 4, 5, 6].map(|word| next + word);
-                        assert_eq!(table.block(node, place), Some(Block::from(seven)));
+                        let block = Block {
+                            puts: next,
+                            takes: next + 1,
+                            superblock: next + 2,
+                            end_left: next + 3,
+                            end_right: next + 4,
+                            size: next + 5,
+                            number: next + 6,
+                        };
+                        assert_eq!(table.block(node, place), Some(block));
                         next += 7;
                     }
                 }
@@ -173,7 +184,7 @@ mod tests {
         let expected = [12, 6, 6, 3, 3, 3, 3].map(Some);
         let all = [&[None][..], &expected, &[None, None]].concat();
         assert_eq!(last.collect::<Vec<_>>(), all);
-        let leaves = (0..10).map(|node| table.leaf_of(node));
+        let leaves = (0..10).map(|node| table.process_of_leaf(node));
         let expected = [0, 1, 2, 3].map(Some);
         let all = [&[None; 4][..], &expected, &[None, None]].concat();
         assert_eq!(leaves.collect::<Vec<_>>(), all);

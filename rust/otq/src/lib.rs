@@ -166,6 +166,9 @@ pub fn list_order(
 
 /// Plays the records and compares the log with the answers that they give.
 ///
+/// A call turned down with 1 to 4 or 11 changes nothing. Otherwise the work table is left as [`run`]
+/// with room for every answer leaves it.
+///
 /// ```
 /// use otq::Verdict;
 /// let mut records = vec![0, 1, 0, 0, 7, 0, 0, 0];

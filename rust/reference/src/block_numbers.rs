@@ -1,5 +1,5 @@
-//! Checker of block numbers on what a run leaves: in each node they rise with the place, a block's is
-//! above those of its subblocks, and each is the number of the record that wrote the block.
+//! Checker of block numbers on what a run leaves: block 0 has 0, in each node they rise with the place,
+//! a block's is above those of its subblocks, and each is the number of the record that wrote the block.
 
 use crate::machine::Machine;
 use crate::records::{numbered, StepRecord};
@@ -26,7 +26,7 @@ pub enum Misnumbered {
     NotWritten { block: At, record: Option<u32> },
 }
 
-/// Checks all three claims. The records are those that Run took.
+/// Checks all the claims. The records are those that Run took.
 pub fn numbers_hold(shape: Shape, records: &[u8], table: &[u32]) -> Result<(), Misnumbered> {
     numbers_rise(shape, table)?;
     numbers_above(shape, table)?;

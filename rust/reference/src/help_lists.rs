@@ -134,7 +134,7 @@ impl Maker {
     fn record(&mut self, process: u32, act: Act) {
         self.list = std::mem::take(&mut self.list).record(process, act);
         let record = StepRecord { process, act };
-        play_record(&mut self.machine, self.list.records(), record);
+        play_record(&mut self.machine, self.list.count(), record);
     }
 
     /// Steps of the process until it comes to such a step, or is idle.

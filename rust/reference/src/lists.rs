@@ -48,7 +48,7 @@ impl List {
     }
 
     /// How many records it has, which is the number of the last one.
-    pub fn records(&self) -> u32 {
+    pub fn count(&self) -> u32 {
         (self.bytes.len() / STEP_RECORD_BYTES) as u32
     }
 

@@ -8,7 +8,6 @@ pub const BLOCK_WORDS: usize = 7;
 pub const PUTS_WORD: usize = 0;
 pub const TAKES_WORD: usize = 1;
 pub const SIZE_WORD: usize = 5;
-pub const NUMBER_WORD: usize = 6;
 pub const ROOT: u32 = 1;
 pub const MOST_OPERATIONS: u32 = 500;
 

@@ -1,10 +1,10 @@
 //! The checker of block numbers can fail: a wrong number is named rightly, by the claim that it breaks.
 
-use crate::support::{block_at as at, block_words, mixed_list, one_by_one, run_amply};
+use crate::support::{block_at as at, block_words, mixed_list, one_by_one, run_amply, NUMBER_WORD};
 use reference::block_numbers::{
     numbers_above, numbers_hold, numbers_rise, numbers_written, At, Misnumbered,
 };
-use reference::tree::{Shape, Tree, NUMBER_WORD, PUTS_WORD, ROOT, TAKES_WORD};
+use reference::tree::{Shape, Tree, PUTS_WORD, ROOT, TAKES_WORD};
 
 const P: u32 = 2;
 const L: u32 = 4;

@@ -1,22 +1,20 @@
 //! Block numbers: by hand, on random, hostile and refused lists, and the same of all three calls.
 
 use crate::support::{
-    ample, check_with, every_shape, list_with, mixed_list, needed, refused_ends, run_with, stalls,
-    unnumbered, written,
+    ample, check_known_runs, check_list, check_plans, check_refused, check_with, every_shape,
+    every_stall, list_with, mixed_list, needed, run_with, unnumbered, written, Left,
 };
 use reference::block_numbers::{numbers_hold, written_by};
 use reference::hostile::harm_list;
-use reference::known_runs::{known_runs, m2, m3, m5, m6};
+use reference::known_runs::{m2, m3, m5, m6};
 use reference::lists::List;
 use reference::machine::Machine;
-use reference::process::STEP_NAMES;
 use reference::random::Random;
 use reference::records::{numbered, StepRecord};
 use reference::run::{play, play_record, Room};
 use reference::schedules::{schedule, Pace, Plan};
 use reference::superblocks::all_subblocks;
 use reference::tree::{Shape, Tree, ROOT};
-use std::fmt::Debug;
 
 /// The numbers in a node's blocks from 1 on, as long as they are present.
 fn numbers(tree: &Tree, node: u32) -> Vec<u32> {
@@ -82,8 +80,14 @@ struct Met {
 }
 
 impl Met {
-    /// Checks the claims on what a run of these records left.
-    fn assert_numbers(&mut self, shape: Shape, taken: &[u8], table: &[u32], told: impl Debug) {
+    /// Checks the claims on what a run left.
+    fn assert_left(&mut self, left: Left) {
+        let Left {
+            shape,
+            taken,
+            table,
+            told,
+        } = left;
         assert_eq!(numbers_hold(shape, taken, table), Ok(()), "{told:?}");
         let tree = Tree::from_words(shape, table);
         let most = taken.len() as u32 / 8;
@@ -102,37 +106,17 @@ impl Met {
     }
 }
 
-/// Checks what Run leaves of a list, with so many answer bytes; gives the refusal that ended it.
-fn assert_left(plan: &Plan, list: &[u8], bytes: usize, met: &mut Met) -> u32 {
-    let (p, l) = (plan.p, plan.l);
-    let after = run_with(p, l, list, needed(p, l), bytes);
-    let taken = &list[..8 * after.result.taken as usize];
-    met.assert_numbers(Shape::new(p, l).unwrap(), taken, &after.table, plan);
-    after.result.refusal
-}
-
-/// Checks what the plans' lists leave, played whole.
+/// Checks what the plans' lists leave.
 fn assert_plans(plans: &[Plan]) {
     let mut met = Met::default();
-    for plan in plans {
-        let refusal = assert_left(plan, &schedule(plan), ample(plan), &mut met);
-        assert_eq!(refusal, 0, "{plan:?}");
-    }
+    check_plans(plans, |left| met.assert_left(left));
     met.assert_every_height();
 }
 
 #[test]
 fn known_runs_and_their_refusals() {
     let mut met = Met::default();
-    for known in known_runs() {
-        let (p, l) = (known.p, known.l);
-        let after = run_with(p, l, &known.list, known.words, known.bytes);
-        // The claim is not of a call that is turned down: it leaves the words that it was lent.
-        if after.result.refusal != 3 {
-            let taken = &known.list[..8 * after.result.taken as usize];
-            met.assert_numbers(Shape::new(p, l).unwrap(), taken, &after.table, known.name);
-        }
-    }
+    check_known_runs(|left| met.assert_left(left));
     assert_eq!(met.blocks, [14, 12, 4, 0]);
 }
 
@@ -155,11 +139,7 @@ fn in_turn() {
 
 #[test]
 fn stops_at_each_step() {
-    let mut plans = Vec::new();
-    for p in [2, 4, 8] {
-        plans.extend(STEP_NAMES.into_iter().flat_map(|step| stalls(p, step)));
-    }
-    assert_plans(&plans);
+    assert_plans(&every_stall());
 }
 
 #[test]
@@ -169,18 +149,8 @@ fn the_largest_shape() {
 
 #[test]
 fn lists_that_end_with_a_refusal() {
-    let (mut met, mut seen) = (Met::default(), [0; 10]);
-    for plan in every_shape(Pace::Bursts(9), 2) {
-        let list = schedule(&plan);
-        for end in refused_ends(&plan) {
-            // What comes after the refused record writes nothing.
-            let list = [&list[..], &end, &list].concat();
-            seen[assert_left(&plan, &list, ample(&plan), &mut met) as usize] += 1;
-        }
-        let fewer = ample(&plan) / 2;
-        seen[assert_left(&plan, &list, fewer, &mut met) as usize] += 1;
-    }
-    assert!(seen[5..].iter().all(|&count| count > 0), "{seen:?}");
+    let mut met = Met::default();
+    check_refused(|left| met.assert_left(left));
     met.assert_every_height();
 }
 
@@ -192,7 +162,8 @@ fn lists_with_something_wrong() {
         harm_list(&mut random, plan.p, &mut list);
         // The claim is not of a torn list, which leaves the words that it was lent.
         list.truncate(list.len() / 8 * 8);
-        refused += u32::from(assert_left(&plan, &list, ample(&plan), &mut met) != 0);
+        let mut check = |left: Left| met.assert_left(left);
+        refused += u32::from(check_list(&plan, &list, ample(&plan), &mut check) != 0);
     }
     assert!(refused > 20, "{refused} refused");
     met.assert_every_height();
@@ -242,10 +213,10 @@ fn no_step_goes_by_them() {
             assert_eq!(play_record(&mut other, any, record), answer, "{plan:?}");
         }
         assert_ne!(right.memory.tree, other.memory.tree, "{plan:?}");
-        for machine in [&mut right, &mut other] {
-            machine.memory.tree = unnumbered(&machine.memory.tree);
-        }
-        assert_eq!(right, other, "{plan:?}");
+        let [blocks, others] = [&right, &other].map(|machine| unnumbered(&machine.memory.tree));
+        assert!(blocks.eq(others), "{plan:?}");
+        assert_eq!(right.memory.heads, other.memory.heads, "{plan:?}");
+        assert_eq!(right.processes, other.processes, "{plan:?}");
     }
 }
 

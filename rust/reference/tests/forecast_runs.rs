@@ -1,14 +1,13 @@
 //! What the forecast says of runs: every list stays within it, whether or not a record is refused.
 
 use crate::support::{
-    every_shape, mixed_list, needed, run_amply, run_with, stalls, written, SPARE,
+    every_shape, every_stall, mixed_list, needed, run_amply, run_with, written, SPARE,
 };
 use reference::forecast::{begins_of, forecast, ForecastResult};
 use reference::hostile::harm_list;
 use reference::known_runs::known_runs;
 use reference::lists::List;
 use reference::machine::Machine;
-use reference::process::STEP_NAMES;
 use reference::random::Random;
 use reference::run::{play, Room};
 use reference::schedules::{schedule, Pace};
@@ -106,12 +105,8 @@ fn schedules_of_every_pace() {
 #[test]
 fn stalls_at_every_step() {
     let mut ends = Ends::default();
-    for p in [2, 4, 8] {
-        for step in STEP_NAMES {
-            for plan in stalls(p, step) {
-                ends.assert_within(plan.p, plan.l, &schedule(&plan));
-            }
-        }
+    for plan in every_stall() {
+        ends.assert_within(plan.p, plan.l, &schedule(&plan));
     }
     assert!(ends.finished > 0 && ends.unfinished > 0, "{ends:?}");
 }

@@ -1,13 +1,15 @@
-//! Helpers of the tests: buffers with a pattern, calls on them, mixed and hostile lists.
+//! Helpers of the tests: buffers with a pattern, calls on them, mixed and hostile lists, and what runs
+//! of them leave.
 
 use reference::block_numbers::At;
 use reference::check::{check_log, CheckResult};
 use reference::demand3::step_limit;
 use reference::growth::Past;
+use reference::known_runs::known_runs;
 use reference::list::{list_order, ListResult};
 use reference::lists::List;
 use reference::machine::Machine;
-use reference::process::StepName;
+use reference::process::{StepName, STEP_NAMES};
 use reference::run::{run, RunResult};
 use reference::schedules::{schedule, Ending, Pace, Plan};
 use reference::superblocks::{all_subblocks, supers_near, Subblock};
@@ -109,18 +111,16 @@ pub fn places(shape: Shape) -> impl Iterator<Item = (u32, u32)> {
     nodes.flat_map(move |node| (0..=shape.last_place(node)).map(move |place| (node, place)))
 }
 
-/// The blocks without their numbers.
-pub fn unnumbered(tree: &Tree) -> Tree {
-    let mut unnumbered = tree.clone();
-    for (node, place) in places(tree.shape()) {
-        let block = Block {
-            number: 0,
-            ..tree.block(node, place)
-        };
-        unnumbered.write(node, place, block);
-    }
-    unnumbered
+/// The blocks by node and place, without their numbers.
+pub fn unnumbered(tree: &Tree) -> impl Iterator<Item = Block> + '_ {
+    places(tree.shape()).map(|(node, place)| Block {
+        number: 0,
+        ..tree.block(node, place)
+    })
 }
+
+/// Where the number stands among the words of a block.
+pub const NUMBER_WORD: usize = 6;
 
 /// The words of a place that is absent, and of block 0.
 pub const ZERO: [u32; BLOCK_WORDS] = [0; BLOCK_WORDS];
@@ -172,6 +172,11 @@ impl Met {
                 self.one_later[height] += 1;
             }
         }
+    }
+
+    /// The same of what a run left.
+    pub fn assert_left(&mut self, left: Left) {
+        self.assert_near(left.shape, left.table, left.told);
     }
 
     /// Both cases came at each of these heights.
@@ -232,6 +237,86 @@ pub fn refused_ends(plan: &Plan) -> [Vec<u8>; 3] {
         List::new().take(0).take(0).bytes(),
         List::new().steps(0, most + 1).bytes(),
     ]
+}
+
+/// What Run took of a list and left.
+pub struct Left<'a> {
+    pub shape: Shape,
+    /// The records taken.
+    pub taken: &'a [u8],
+    pub table: &'a [u32],
+    /// What the list is of.
+    pub told: &'a dyn Debug,
+}
+
+impl<'a> Left<'a> {
+    fn of(
+        shape: Shape,
+        list: &'a [u8],
+        after: &'a After<RunResult>,
+        told: &'a dyn Debug,
+    ) -> Left<'a> {
+        Left {
+            shape,
+            taken: &list[..8 * after.result.taken as usize],
+            table: &after.table,
+            told,
+        }
+    }
+}
+
+/// Gives a checker what Run leaves of a list, with so many answer bytes; returns the refusal that
+/// ended it.
+pub fn check_list(plan: &Plan, list: &[u8], bytes: usize, check: &mut impl FnMut(Left)) -> u32 {
+    let shape = Shape::new(plan.p, plan.l).unwrap();
+    let after = run_with(plan.p, plan.l, list, shape.words_needed(), bytes);
+    check(Left::of(shape, list, &after, plan));
+    after.result.refusal
+}
+
+/// The same of the plans' lists, each played whole.
+pub fn check_plans(plans: &[Plan], mut check: impl FnMut(Left)) {
+    for plan in plans {
+        let refusal = check_list(plan, &schedule(plan), ample(plan), &mut check);
+        assert_eq!(refusal, 0, "{plan:?}");
+    }
+}
+
+/// The same of the known runs, but for the one whose call is turned down: it leaves the words that it
+/// was lent.
+pub fn check_known_runs(mut check: impl FnMut(Left)) {
+    for known in known_runs() {
+        let (p, l, list) = (known.p, known.l, &known.list);
+        let after = run_with(p, l, list, known.words, known.bytes);
+        let shape = Shape::new(p, l).unwrap();
+        if after.result.refusal != 3 {
+            check(Left::of(shape, list, &after, &known.name));
+        }
+    }
+}
+
+/// The same of lists that end with each refusal of a record.
+pub fn check_refused(mut check: impl FnMut(Left)) {
+    let mut seen = [0; 10];
+    for plan in every_shape(Pace::Bursts(9), 2) {
+        let list = schedule(&plan);
+        for end in refused_ends(&plan) {
+            // What comes after the refused record plays no part.
+            let list = [&list[..], &end, &list].concat();
+            let refusal = check_list(&plan, &list, ample(&plan), &mut check);
+            assert_ne!(refusal, 0, "{plan:?}");
+            seen[refusal as usize] += 1;
+        }
+        let fewer = ample(&plan) / 2;
+        seen[check_list(&plan, &list, fewer, &mut check) as usize] += 1;
+    }
+    assert!(seen[5..].iter().all(|&count| count > 0), "{seen:?}");
+}
+
+/// Plans that stop at each step, for every p.
+pub fn every_stall() -> Vec<Plan> {
+    let of_p = |p| STEP_NAMES.into_iter().flat_map(move |step| stalls(p, step));
+    [2, 4, 8].into_iter().flat_map(of_p).collect()
 }
 
 /// Plans that stop at one named step, before and after it, with each ending.

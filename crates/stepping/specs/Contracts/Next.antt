@@ -82,8 +82,8 @@ abbrev pub NextTelling : List ℕ → List ℕ → Process → Process → Type 
 NextTelling heads heads' q r = (s : Shape) (number k : ℕ) (table : List ℕ)
     → let z = step s number k (operationIn (q .status)) (memoryOf table heads) (stepIn (q .status)) in (r ≡ stepped q z) × (z .memory ≡ memoryOf table heads')
 
--- q becomes r by a step that looks at this table alone, by the starts of its parts, and leaves table'; number is that of
--- its record
+-- q becomes r by a step that looks at this table alone, by the starts of its parts, and leaves table'; number is that
+-- of its record
 abbrev pub NextByTable : ℕ → List ℕ → List ℕ → List ℕ → Process → Process → Type 0
 NextByTable number starts table table' q r = Moves q r × ((s : Shape) (k : ℕ) (o : Operation) (heads : List ℕ) → PartsBegin s starts (stepIn (q .status))
     → step s number k o (memoryOf table heads) (stepIn (q .status))

@@ -116,6 +116,8 @@ const COMMANDS: [Command; 11] = [
         more: "By node, a line a block: its place, the puts and takes up to it, super (`-` if it is not set), its\n\
                ends in the children or in a leaf its operation, in the root the size of the queue after it,\n\
                and the record that wrote it with that record's process. `otq trace` tells what the record did.\n\
+               A line leaves out words that are always 0 in its node; --json has all seven, and 0 for a super\n\
+               that is not set.\n\
                Of a refused list it shows what the records before the refused one left.",
         choices: &[&P, &L, &tabling::NODE, &WHOLE, &JSON],
         files: (1, 1),
@@ -282,8 +284,8 @@ fn help(tool: &mut Tool, words: &[OsString]) -> Result<Status, Failure> {
 
 fn overview() -> String {
     let mut text =
-        "otq plays the steps of a shared queue, lists their order, checks a log, and forecasts what a \
-         list will need.\n"
+        "otq plays the steps of a shared queue, lists their order, shows what each step did and which blocks\n\
+         it left, checks a log, and forecasts what a list will need.\n"
             .to_string();
     for Command {
         name, usage, about, ..

@@ -21,9 +21,9 @@ pub fn table(tool: &mut Tool, given: &Given) -> Result<Status, Failure> {
     let played = list.run()?;
     let refused = Refused::of_run(&list, &played.run);
     let nodes = match &refused {
-        // A call that is turned down before its records leaves no blocks.
+        // A call that is turned down before its records writes no table.
         Some(refused) if refused.record.is_none() => Vec::new(),
-        _ => shown(&list, &played.table, asked)?,
+        _ => nodes(&list, &played.table, asked)?,
     };
     match given.has("--json") {
         true => tool.line(json(&nodes, played.run.taken, refused.as_ref()))?,
@@ -36,24 +36,15 @@ pub fn table(tool: &mut Tool, given: &Given) -> Result<Status, Failure> {
 struct Node {
     number: u32,
     name: String,
+    /// Its name, and its number where the name does not have it.
+    heading: String,
     /// What its blocks have to show.
     columns: &'static [Column],
-    blocks: Vec<Shown>,
-}
-
-impl Node {
-    /// Its name, and its number where the name does not have it.
-    fn heading(&self) -> String {
-        let number = format!("node {}", self.number);
-        match self.name == number {
-            true => number,
-            false => format!("{}, {number}", self.name),
-        }
-    }
+    blocks: Vec<Written>,
 }
 
 /// A present block.
-struct Shown {
+struct Written {
     place: u32,
     block: Block,
     /// The block before it in its node.
@@ -62,8 +53,8 @@ struct Shown {
     process: u8,
 }
 
-impl Shown {
-    /// What a block of a leaf is of. The end left of a put is its value.
+impl Written {
+    /// The operation of a leaf's block. The end left of a put is its value.
     fn operation(&self) -> String {
         match self.block.puts > self.before.puts {
             true => format!("put {}", self.block.end_left),
@@ -73,7 +64,7 @@ impl Shown {
 }
 
 /// The nodes asked for, all or one, of the table that the list left.
-fn shown(list: &List, words: &[u32], asked: Option<u32>) -> Result<Vec<Node>, Failure> {
+fn nodes(list: &List, words: &[u32], asked: Option<u32>) -> Result<Vec<Node>, Failure> {
     let p = list.p();
     let table = Table::new(p, list.l(), words).expect("a table that the library has filled");
     let nodes = match asked {
@@ -91,20 +82,28 @@ fn shown(list: &List, words: &[u32], asked: Option<u32>) -> Result<Vec<Node>, Fa
 }
 
 fn of_node(list: &List, table: Table, node: u32) -> Node {
-    let blocks = table.present(node).map(|(place, block)| Shown {
+    let blocks = table.present(node).map(|(place, block)| Written {
         place,
         block,
-        before: table.block(node, place - 1).unwrap_or_default(),
-        process: list.records()[block.number as usize - 1][0],
+        before: table
+            .block(node, place - 1)
+            .expect("a present block is at place 1 or later"),
+        process: list.process_of(block.number),
     });
+    let leaf_of = table.process_of_leaf(node).map(u32::from);
+    let name = node_name(node, leaf_of);
+    let numbered = format!("{name}, node {node}");
+    let (heading, columns): (_, &[Column]) = match (node, leaf_of) {
+        (ROOT, _) => (numbered, &OF_ROOT),
+        (_, Some(_)) => (numbered, &OF_LEAF),
+        // The name of an inner node is its number.
+        (_, None) => (name.clone(), &OF_INNER),
+    };
     Node {
         number: node,
-        name: node_name(list.p(), node),
-        columns: match (node, table.leaf_of(node)) {
-            (ROOT, _) => &OF_ROOT,
-            (_, Some(_)) => &OF_LEAF,
-            (_, None) => &OF_INNER,
-        },
+        name,
+        heading,
+        columns,
         blocks: blocks.collect(),
     }
 }
@@ -112,12 +111,12 @@ fn of_node(list: &List, table: Table, node: u32) -> Node {
 /// A column: its title, and what it has of a block.
 struct Column {
     title: &'static str,
-    cell: fn(&Shown) -> String,
+    cell: fn(&Written) -> String,
     /// Words stand at the left, numbers at the right.
     is_number: bool,
 }
 
-const fn number(title: &'static str, cell: fn(&Shown) -> String) -> Column {
+const fn number(title: &'static str, cell: fn(&Written) -> String) -> Column {
     Column {
         title,
         cell,
@@ -125,7 +124,7 @@ const fn number(title: &'static str, cell: fn(&Shown) -> String) -> Column {
     }
 }
 
-const fn words(title: &'static str, cell: fn(&Shown) -> String) -> Column {
+const fn words(title: &'static str, cell: fn(&Written) -> String) -> Column {
     Column {
         title,
         cell,
@@ -133,19 +132,22 @@ const fn words(title: &'static str, cell: fn(&Shown) -> String) -> Column {
     }
 }
 
-const PLACE: Column = number("block", |shown| shown.place.to_string());
-const PUTS: Column = number("puts", |shown| shown.block.puts.to_string());
-const TAKES: Column = number("takes", |shown| shown.block.takes.to_string());
-const SUPER: Column = number("super", |shown| match shown.block.superblock {
+const PLACE: Column = number("block", |written| written.place.to_string());
+const PUTS: Column = number("puts", |written| written.block.puts.to_string());
+const TAKES: Column = number("takes", |written| written.block.takes.to_string());
+const SUPER: Column = number("super", |written| match written.block.superblock {
     0 => "-".to_string(),
     place => place.to_string(),
 });
-const LEFT: Column = number("end left", |shown| shown.block.end_left.to_string());
-const RIGHT: Column = number("end right", |shown| shown.block.end_right.to_string());
-const SIZE: Column = number("size", |shown| shown.block.size.to_string());
-const OPERATION: Column = words("operation", Shown::operation);
-const WRITTEN: Column = words("written by", |shown| {
-    format!("record {}, process {}", shown.block.number, shown.process)
+const LEFT: Column = number("end left", |written| written.block.end_left.to_string());
+const RIGHT: Column = number("end right", |written| written.block.end_right.to_string());
+const SIZE: Column = number("size", |written| written.block.size.to_string());
+const OPERATION: Column = words("operation", Written::operation);
+const WRITTEN: Column = words("written by", |written| {
+    format!(
+        "record {}, process {}",
+        written.block.number, written.process
+    )
 });
 
 /// The root has no parent, so that its blocks have no super.
@@ -156,10 +158,10 @@ const OF_LEAF: [Column; 6] = [PLACE, PUTS, TAKES, SUPER, OPERATION, WRITTEN];
 fn print(tool: &mut Tool, nodes: &[Node]) -> Result<(), Failure> {
     for node in nodes {
         if node.blocks.is_empty() {
-            tool.line(format!("{}: no block", node.heading()))?;
+            tool.line(format!("{}: no block", node.heading))?;
             continue;
         }
-        tool.line(node.heading())?;
+        tool.line(&node.heading)?;
         for line in lines(node) {
             tool.line(line)?;
             if tool.closed() {
@@ -207,7 +209,7 @@ fn json(nodes: &[Node], taken: u64, refused: Option<&Refused>) -> Json {
 }
 
 /// The words of a block by their names, its place, and the process of the record that wrote it.
-fn block(shown: &Shown) -> Json {
+fn block(written: &Written) -> Json {
     let Block {
         puts,
         takes,
@@ -216,9 +218,9 @@ fn block(shown: &Shown) -> Json {
         end_right,
         size,
         number,
-    } = shown.block;
+    } = written.block;
     let members = [
-        ("block", shown.place),
+        ("block", written.place),
         ("puts", puts),
         ("takes", takes),
         ("super", superblock),
@@ -226,7 +228,7 @@ fn block(shown: &Shown) -> Json {
         ("end_right", end_right),
         ("size", size),
         ("number", number),
-        ("process", shown.process.into()),
+        ("process", written.process.into()),
     ];
     Json::object(members.map(|(name, word)| (name, Json::Number(word.into()))))
 }

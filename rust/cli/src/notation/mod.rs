@@ -5,7 +5,7 @@
 //! processes 2     # p, 4 if it is not said
 //! operations 24   # L, 24 if it is not said
 //! answers 32      # answer bytes lent, as many as are needed if it is not said
-//! table 906       # table words lent, as many as are needed if it is not said
+//! table 693       # table words lent, as many as are needed if it is not said
 //! put 7 by 0      # process 0 begins a put of 7
 //! step 0 x17      # and does 17 steps
 //! take by 1

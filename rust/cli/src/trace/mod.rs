@@ -48,7 +48,7 @@ impl Traced<'_> {
             name,
             words,
             answer,
-        } = told::play(&mut self.machine, self.list.records(), number, record);
+        } = told::play(&mut self.machine, self.list, number as u32, record);
         self.answers.extend(answer);
         self.played = number;
         let process = record.process;

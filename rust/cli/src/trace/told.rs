@@ -1,6 +1,6 @@
 //! What a record does, in words.
 
-use crate::notation::Record;
+use crate::list::List;
 use crate::words::{count, node_name};
 use reference::helps::{play_watched, ChildV3};
 use reference::machine::Machine;
@@ -19,21 +19,21 @@ pub struct Told {
 }
 
 /// Plays the record with this number, from 1, of a list, and tells what it did.
-pub fn play(machine: &mut Machine, list: &[Record], number: usize, record: StepRecord) -> Told {
+pub fn play(machine: &mut Machine, list: &List, number: u32, record: StepRecord) -> Told {
     let process = record.process;
     let busy = machine.next_step(process);
     let Some(step) = busy.filter(|_| record.act == Act::Step) else {
-        play_record(machine, number as u32, record);
+        play_record(machine, number, record);
         return begun(machine, record);
     };
     let seen = Seen {
         memory: &machine.memory,
         list,
         process,
-        number: number as u32,
+        number,
     };
     let seen = seen.step(step);
-    let (answer, v3) = play_watched(machine, number as u32, record);
+    let (answer, v3) = play_watched(machine, number, record);
     let next = machine.next_step(process);
     let did = match (step, answer, next) {
         (Step::A, ..) => written(machine, process),
@@ -77,23 +77,18 @@ fn written(machine: &Machine, process: u32) -> String {
         } => format!(", value {value}"),
         _ => String::new(),
     };
-    let node = node_name(tree.shape().p(), leaf);
+    let node = name(tree.shape(), leaf);
     let (totals, number) = (block_totals(block), block.number);
     format!("writes block {place} of {node}: {totals}{value}, number {number}")
 }
 
-/// The process of the record that wrote a block.
-fn writer(list: &[Record], block: Block) -> u8 {
-    list[block.number as usize - 1][0]
-}
-
 /// Whom the V3 of a child's block helped; or that it was no help, if the head was moved already.
-fn helped(v3: ChildV3, block: Block, list: &[Record]) -> String {
+fn helped(v3: ChildV3, block: Block, list: &List) -> String {
     let ChildV3 { child, moved } = v3;
     match moved {
         // Never its own block: what a process wrote, it has advanced before it refreshes a node.
         true => {
-            let (writer, record) = (writer(list, block), block.number);
+            let (writer, record) = (list.process_of(block.number), block.number);
             format!(
                 ": a help, moved the head of node {child} for process {writer}'s block of record {record}"
             )
@@ -136,7 +131,7 @@ fn ended(answer: Answer) -> String {
 /// What a process sees before its step.
 struct Seen<'a> {
     memory: &'a Memory,
-    list: &'a [Record],
+    list: &'a List,
     process: u32,
     /// The number of the record that does the step.
     number: u32,
@@ -247,7 +242,7 @@ impl Seen<'_> {
     }
 
     fn node(&self, node: u32) -> String {
-        node_name(self.shape().p(), node)
+        name(self.shape(), node)
     }
 
     fn head(&self, node: u32) -> String {
@@ -265,7 +260,7 @@ impl Seen<'_> {
         match self.memory.tree.block(node, place) {
             Block { number: 0, .. } => told,
             block => {
-                let (number, process) = (block.number, writer(self.list, block));
+                let (number, process) = (block.number, self.list.process_of(block.number));
                 format!("{told} (by record {number}, process {process})")
             }
         }
@@ -292,6 +287,12 @@ impl Seen<'_> {
         let end = self.memory.head(child) - 1;
         format!("reads {}, so the end {side} is {end}", self.head(child))
     }
+}
+
+/// A node by its name.
+fn name(shape: Shape, node: u32) -> String {
+    let is_leaf = shape.height(node) == 0;
+    node_name(node, is_leaf.then(|| shape.process_of_leaf(node)))
 }
 
 fn totals(Totals { puts, takes }: Totals) -> String {
