@@ -76,7 +76,8 @@ module _ (s : Shape) where
         omega (
           arith,
           ap length (begin-records-whole rs (planned-all (λ r. isBegin r ≡ true) (λ n r a. a .begins) [] rs ok)),
-          begins-most (processes s) (s .most) rs (planned-all (λ r. r .process < processes s) (λ n r a. formed-low (processes s) r (a .formed)) [] rs ok) (λ k l. planned-within [] rs ok k (omega arith)),
+          begins-most (processes s) (s .most) rs (planned-all (λ r. r .process < processes s) (λ n r a. formed-low (processes s) r (a .formed)) [] rs ok)
+              (λ k l. planned-within [] rs ok k (omega arith)),
         )
 
   -- one record more

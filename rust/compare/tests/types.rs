@@ -92,6 +92,7 @@ fn orders() {
     }
 }
 
+/// A block of the reference as `rust/otq` has it.
 fn typed(block: tree::Block) -> Block {
     Block {
         puts: block.puts,

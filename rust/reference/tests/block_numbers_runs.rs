@@ -162,8 +162,8 @@ fn lists_with_something_wrong() {
         harm_list(&mut random, plan.p, &mut list);
         // The claim is not of a torn list, which leaves the words that it was lent.
         list.truncate(list.len() / 8 * 8);
-        let mut check = |left: Left| met.assert_left(left);
-        refused += u32::from(check_list(&plan, &list, ample(&plan), &mut check) != 0);
+        let check = &mut |left: Left| met.assert_left(left);
+        refused += u32::from(check_list(&plan, &list, ample(&plan), check) != 0);
     }
     assert!(refused > 20, "{refused} refused");
     met.assert_every_height();

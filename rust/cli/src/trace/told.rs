@@ -289,7 +289,7 @@ impl Seen<'_> {
     }
 }
 
-/// A node by its name.
+/// A node of the tree by its name.
 fn name(shape: Shape, node: u32) -> String {
     let is_leaf = shape.height(node) == 0;
     node_name(node, is_leaf.then(|| shape.process_of_leaf(node)))

@@ -22,9 +22,10 @@ loop-holds c = rw (c .start .ensures) (loop-start _ (c .before .before .before .
 -- a first word below p, and a value
 refused-valued : tie.Need-returns Inv-loop μ-loop
 refused-valued c =
-    let r = c .before .before .before .before .before in
+    let v = c .before .before in
+    let r = v .before .before .before in
     rw (c .ended .ensures)
-    (valued-ill {c = callAt r} {t = stateAt r} (r .before .loop .inv) (r .loop-test .taken) (c .before .before .before .before .word-at .ensures) (c .before .before .word-at2 .ensures) (c .before .before .before .if1 .taken) (c .before .if2 .taken))
+    (valued-ill {c = callAt r} {t = stateAt r} (r .before .loop .inv) (r .loop-test .taken) (v .before .before .word-at .ensures) (v .word-at2 .ensures) (v .before .if1 .taken) (c .before .if2 .taken))
 
 refused-idle : tie.Need-returns-2 Inv-loop μ-loop
 unfolding idle
@@ -277,7 +278,8 @@ play-spec =
     arms.ready-q
     (λ c κs. (omega (arith, few-answers (c .before .before .before .before .before)), c .answer-of .ensures .1 .0, c .answer-of .ensures .1 .1, c .answer-of .ensures .1 .2))
     (λ c κs.
-    (omega (arith, few-answers (c .before .before .before .before .before .before .before)), c .before .before .answer-of .ensures .1 .0, c .before .before .answer-of .ensures .1 .1, c .before .before .answer-of .ensures .1 .2))
+    let a = c .before .before in
+    (omega (arith, few-answers (a .before .before .before .before .before)), a .answer-of .ensures .1 .0, a .answer-of .ensures .1 .1, a .answer-of .ensures .1 .2))
     (λ c. record { fits = omega (arith, few-answers (c .before .before .before .before .before .before .before .before .before .before)) })
     (λ c κs. few-steps (c .before .before .before .before .before .before .before .before .before .before .before .before .before))
     (λ c. record { fits = omega (arith, slot (c .before .before .before .before .before .before .before .before .before .before .before .before .before .before)) })

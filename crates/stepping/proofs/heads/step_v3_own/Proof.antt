@@ -9,7 +9,8 @@ use borrow.Author.Needs.{needs}
 use Rattle.stepping.proofs.heads.step_v3_own.Statement.{statement}
 use Rattle.stepping.proofs.heads.step_v3_own.Tie as tie
 
-at : (c : tie.After-after) → let x = c .after .given .0 in stepIn (c .before .before .before .before .before .before .before .before .args .q .status) ≡ V3 (x .0) (x .1 .0) (x .1 .1 .0) (x .1 .1 .1 .0)
+at : (c : tie.After-after) → let x = c .after .given .0 in
+    stepIn (c .before .before .before .before .before .before .before .before .args .q .status) ≡ V3 (x .0) (x .1 .0) (x .1 .1 .0) (x .1 .1 .1 .0)
 at c = sym (c .before .before .step-in .ensures) ∙ c .after .given .1
 
 raise-in-requires : tie.Need-raise-in-requires

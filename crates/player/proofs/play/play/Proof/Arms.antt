@@ -5,7 +5,8 @@ use mathlib.Core.Bool.{true, false}
 use Rattle.steps.specs.Process.{idle}
 use Rattle.steps.specs.Machine.{isIdle, isQ}
 use Rattle.block_steps.proofs.Decision.{decided-next}
-use Rattle.player.proofs.StepLoop.{q, step-named, step-busy, step-leaf, step-begins, step-playing, step-same, step-ready, step-fits, step-fits-leaf, telling-moves, step-moves, finish-full, finish-moves}
+use Rattle.player.proofs.StepLoop.{q, step-named, step-busy, step-leaf, step-begins, step-playing, step-same, step-ready, step-fits, step-fits-leaf}
+use Rattle.player.proofs.StepLoop.{telling-moves, step-moves, finish-full, finish-moves}
 use Rattle.player.proofs.play.play.Proof.Places.{Inv-loop, μ-loop, found, few-steps, few-helps}
 use Rattle.player.proofs.play.play.Tie as tie
 
