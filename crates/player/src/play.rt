@@ -3,7 +3,6 @@
 use crate::Outcome;
 use answer::answers::answer_of;
 use base::as_index;
-use base::as_word;
 use block_steps::blocks::adds_nothing;
 use block_steps::blocks::step_a;
 use block_steps::blocks::step_c3l;
@@ -17,6 +16,7 @@ use block_steps::blocks::step_v2;
 use calls::Refusal;
 use decode::Begin;
 use decode::begins::begin_of;
+use decode::numbers::number_after;
 use log::compare::equal_after;
 use log::write::write_answer;
 use record::bytes::word_at;
@@ -58,7 +58,7 @@ fn ended(refusal: Refusal, taken: usize, answers: usize, equal: usize) -> Outcom
 // if that has any bytes, and compared with the one in the same place of `log`. A record is told by its two words; why,
 // and why Q takes the process modulo p, below which it is, docs/DECISIONS.md says in "Two words tell a record". Each
 // named step has its own arm, which reads the process again and stores it, so that a step loads and stores only the
-// registers that it uses. The number of a record is i + 1; A and C4 write it.
+// registers that it uses.
 pub fn play(
     p: u32,
     l: u32,
@@ -94,7 +94,7 @@ pub fn play(
                 Status::Busy(_, step) => match step {
                     Step::A => {
                         let q = procs[k];
-                        procs[k] = step_a(heads, table, starts, p + first, as_word(i + 1), q);
+                        procs[k] = step_a(heads, table, starts, p + first, number_after(i), q);
                         continue;
                     }
                     Step::V1 { .. } => {
@@ -172,7 +172,7 @@ pub fn play(
                     }
                     Step::C4 { .. } => {
                         let q = procs[k];
-                        procs[k] = step_c4(table, starts, as_word(i + 1), q);
+                        procs[k] = step_c4(table, starts, number_after(i), q);
                         continue;
                     }
                     Step::Q => {

@@ -100,8 +100,7 @@ play-spec =
     (λ c. record { fits = omega (arith, slot (c .before .before)) })
     (λ c. slot (c .before .before))
     (λ c. let f = found (c .before .before .before .before .before) in record { fits = omega (arith, f .low, loop-narrow (f .inv)) })
-    (λ c. record { fits = omega (arith, few (recordOf (c .before .before .before .before .before))) })
-    (λ c κs. omega (arith, loop-number (found (c .before .before .before .before .before) .inv)))
+    (λ c κs. loop-number (found (c .before .before .before .before .before) .inv))
     arms.ready-a
     (λ c. record { fits = omega (arith, slot (c .before .before .before .before .before .before .before .before .before)) })
     (λ c. slot (c .before .before .before .before .before .before .before .before .before))
@@ -256,8 +255,7 @@ play-spec =
     (λ c. search needs)
     (λ c. record { fits = omega (arith, slot (c .before .before)) })
     (λ c. slot (c .before .before))
-    (λ c. record { fits = omega (arith, few (recordOf (c .before .before .before .before))) })
-    (λ c κs. omega (arith, loop-number (found (c .before .before .before .before) .inv)))
+    (λ c κs. loop-number (found (c .before .before .before .before) .inv))
     arms.ready-c4
     (λ c. record { fits = omega (arith, slot (c .before .before .before .before .before .before .before .before)) })
     (λ c. slot (c .before .before .before .before .before .before .before .before))

@@ -26,7 +26,7 @@ again-a c =
     let f = found b in
     step-moves f (b .before .status .given .1) (c .before .before .before .before .before .before .before .enum-told2 .given .1) refl _ _ _ refl (c .before .before .step-a .kept .1 .0)
     (λ is ready _.
-    let e = rw (c .before .before .before .as-word .ensures) at (c .before .before .step-a .ensures) in
+    let e = rw (c .before .before .before .number-after .ensures) at (c .before .before .step-a .ensures) in
     (e .0, rw is (e .1 _ _ (step-leaf f) (step-begins f _ (ready .node)))))
 
 pub ready-v1 : tie.Need-step-v1-requires Inv-loop μ-loop
@@ -257,7 +257,7 @@ again-c4 c =
     let f = found b in
     step-moves f (b .before .status .given .1) (c .before .before .before .before .before .before .enum-told16 .given .1) refl _ _ _ refl (c .before .before .step-c4 .kept .0)
     (λ is _ placed.
-    let e = rw (c .before .before .before .as-word2 .ensures) at (c .before .before .step-c4 .ensures .0 _ _ is) in
+    let e = rw (c .before .before .before .number-after2 .ensures) at (c .before .before .step-c4 .ensures .0 _ _ is) in
     (e .0, e .1 _ _ _ _ placed))
 
 pub full-q : tie.Need-returns-3 Inv-loop μ-loop
