@@ -2,16 +2,16 @@
 -- Assumes nothing.
 mod Places
 mod Arms
+mod Begins
 use native.Mathlib.Omega.{arith}
-use mathlib.Core.Path.{sym, _∙_}
 use borrow.Author.Needs.{needs}
-use borrow.Author.Tests.{not-true, not-false}
 use Rattle.steps.specs.Process.{idle}
 use Rattle.player.proofs.LoopInvariant.{loop-start, loop-number, loop-narrow, loop-ends}
 use Rattle.player.proofs.StepLoop.{step-low, step-idle}
-use Rattle.player.proofs.BeginLoop.{valued-ill, other-ill, begin-few, begin-refused, begin-moves}
-use Rattle.player.proofs.play.play.Proof.Places.{Inv-loop, μ-loop, callAt, stateAt, few, step-at, recordOf, found, slot, few-steps, few-answers, other-at, begin-slot}
+use Rattle.player.proofs.BeginLoop.{valued-ill}
+use Rattle.player.proofs.play.play.Proof.Places.{Inv-loop, μ-loop, callAt, stateAt, few, step-at, recordOf, found, slot, few-steps, few-answers, begin-slot}
 use Rattle.player.proofs.play.play.Proof.Arms as arms
+use Rattle.player.proofs.play.play.Proof.Begins as begins
 use Rattle.player.proofs.play.play.Statement.{statement}
 use Rattle.player.proofs.play.play.Tie as tie
 
@@ -30,34 +30,6 @@ refused-valued c =
 refused-idle : tie.Need-returns-2 Inv-loop μ-loop
 unfolding idle
 refused-idle c = rw (c .ended2 .ensures) (step-idle (step-at (c .before .before .before .before)) (c .before .enum-told .given .1))
-
-begin-narrow : tie.Need-begin-of-requires Inv-loop μ-loop
-begin-narrow c κs = (c .before .if1 .left, omega (arith, loop-narrow (c .before .before .before .before .loop .inv)))
-
-refused-ill : tie.Need-returns-4 Inv-loop μ-loop
-refused-ill c = rw (c .ended4 .ensures) (other-ill (other-at (c .before .before .before)) (c .before .enum-told18 .given .1))
-
-refused-begin : tie.Need-returns-5 Inv-loop μ-loop
-unfolding idle
-refused-begin c =
-    let w = c .before .before .before .before .before in
-    rw (c .ended5 .ensures)
-    (begin-refused (other-at (w .before .before .before .before)) (w .before .before .begin .given .1) (w .as-index2 .ensures) (c .before .before .before .begin-refusal .ensures)
-    (sym (c .before .before .accepted .ensures) ∙ not-true _ (c .before .if6 .taken)))
-
-entered-requires : tie.Need-entered-requires Inv-loop μ-loop
-unfolding idle
-entered-requires c κs =
-    let w = c .before .before .before .before in
-    omega (arith, begin-few (other-at (w .before .before .before .before)) (w .before .before .begin .given .1) (w .as-index2 .ensures))
-
-again-begin : tie.Need-loop-again-19 Inv-loop μ-loop
-unfolding idle
-again-begin c =
-    let w = c .before .before .before .before .before in
-    rw (c .entered .ensures)
-    (begin-moves (other-at (w .before .before .before .before)) (w .before .before .begin .given .1) (w .as-index2 .ensures) (c .before .before .before .begin-refusal .ensures)
-    (sym (c .before .before .accepted .ensures) ∙ not-false _ (c .before .if6 .left)))
 
 ends : tie.Need-returns-6 Inv-loop μ-loop
 ends c = rw (c .ended6 .ensures) (loop-ends (c .before .before .loop .inv) (c .before .loop-test .left))
@@ -288,14 +260,14 @@ play-spec =
     -- another record
     (λ c. search needs)
     (λ c κs. omega (arith, c .before .before .loop-test .taken))
-    begin-narrow
+    begins.narrow
     (λ c. search needs)
     (λ c. search needs)
     (λ c κs. search needs)
     (λ c. search needs)
     (λ c. search needs)
     (λ c. search needs)
-    refused-ill
+    begins.ill
     -- a begin
     (λ c κs. search needs)
     (λ c. search needs)
@@ -306,13 +278,13 @@ play-spec =
     (λ c. search needs)
     (λ c. search needs)
     (λ c. search needs)
-    refused-begin
-    entered-requires
+    begins.refused
+    begins.entered
     (λ c. record { fits = omega (arith, begin-slot (c .before .before .before .before .before)) })
     (λ c. begin-slot (c .before .before .before .before .before))
     (λ c. record { fits = few (c .before .before .before .before .before .before .before .before .before .before .before .before .before) })
     (λ c. search needs)
-    again-begin
+    begins.again
     -- the end
     (λ c κs. search needs)
     (λ c. search needs)
