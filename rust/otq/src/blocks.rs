@@ -28,7 +28,7 @@ pub struct Block {
 
 impl Block {
     /// Words of a block.
-    pub const WORDS: usize = 7;
+    pub const WORDS: usize = settings::BLOCK_WORDS;
 
     /// Whether a block stands at a place from 1 on: it has puts or takes.
     pub fn is_present(self) -> bool {

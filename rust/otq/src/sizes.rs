@@ -1,21 +1,8 @@
 //! How long a caller's buffers have to be.
 
-use crate::blocks::Block;
 use crate::records::{Answer, Order};
-
-/// Words that the work table must have; `None` if p or l is turned down.
-///
-/// ```
-/// assert_eq!(otq::table_words(4, 24), Some(2065));
-/// assert_eq!(otq::table_words(3, 24), None);
-/// assert_eq!(otq::table_words(4, u32::MAX), None);
-/// ```
-pub fn table_words(p: u32, l: u32) -> Option<usize> {
-    let operations = operations(p, l)?;
-    let levels = p.ilog2() as usize + 1;
-    let nodes = 2 * p as usize - 1;
-    Some(Block::WORDS * (levels * operations + nodes))
-}
+use settings::operations;
+pub use settings::table_words;
 
 /// Bytes of the answers of all operations, the most that [`run`](crate::run) writes; `None` if p
 /// or l is turned down.
@@ -37,10 +24,4 @@ pub fn most_answer_bytes(p: u32, l: u32) -> Option<usize> {
 /// ```
 pub fn most_order_bytes(p: u32, l: u32) -> Option<usize> {
     Some(Order::BYTES * operations(p, l)?)
-}
-
-/// The most operations of all processes together.
-fn operations(p: u32, l: u32) -> Option<usize> {
-    let proper = matches!(p, 2 | 4 | 8) && (1..=500).contains(&l);
-    proper.then(|| (p * l) as usize)
 }
