@@ -1,0 +1,4 @@
+pub mod Entries
+pub mod DeskRefusals
+pub mod Desk
+pub mod Deliveries
