@@ -1,7 +1,8 @@
 //! The library part of `otq`: the text notation of exercises, and the commands.
 //!
-//! All that a command tells of a list is computed by the proved library, through `rust/otq`. The trace
-//! alone is the Rust version's, whose table and answers are compared with the library's before.
+//! All that a command tells of a list is computed by the proved libraries, through `rust/otq` and
+//! `rust/dictionary`. The trace alone is the Rust version's, whose table and answers are compared with
+//! the library's before.
 
 mod arguments;
 mod commands;

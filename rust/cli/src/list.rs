@@ -1,4 +1,4 @@
-//! A list of steps with its p and L, and the calls of the proved library on it.
+//! A list of steps with its p and L, and the calls of the proved libraries on it.
 
 use crate::arguments::Given;
 use crate::failure::Failure;
@@ -6,6 +6,7 @@ use crate::files::{Holds, Name, Source};
 use crate::notation::{Exercise, Heading, Mistake, Record};
 use crate::tool::{tell, Tool};
 use crate::words::count;
+use dictionary::{Delivery, TERM_BYTES};
 use otq::{Answer, Forecast, Played, Refusal, Run, Step, Verdict};
 
 /// A list: a text exercise, or binary records with p and L of the command line.
@@ -90,7 +91,7 @@ impl List {
     /// Run, with the buffers that the heading lends.
     pub fn run(&self) -> Result<Played, Failure> {
         let played = self.run_with(self.heading(), self.bytes());
-        self.all_seen(played.run.refusal)?;
+        self.all_seen(played.run.refusal.is_some())?;
         Ok(played)
     }
 
@@ -153,7 +154,7 @@ impl List {
         let mut table = vec![0; self.heading().table_words()];
         let mut output = vec![0; otq::most_order_bytes(p, l).unwrap_or(0)];
         let listed = otq::list_order(p, l, self.bytes(), &mut table, &mut output);
-        self.all_seen(listed.err())?;
+        self.all_seen(listed.is_err())?;
         Ok(listed.map(|length| {
             output.truncate(length as usize);
             output
@@ -164,34 +165,20 @@ impl List {
     pub fn check(&self, log: &[u8]) -> Result<Verdict, Failure> {
         let mut table = vec![0; self.heading().table_words()];
         let verdict = otq::check_log(self.p(), self.l(), self.bytes(), log, &mut table);
-        let refusal = match verdict {
-            Verdict::Refused(refusal) => Some(refusal),
-            Verdict::Same | Verdict::Differs(_) => None,
-        };
-        self.all_seen(refusal)?;
+        self.all_seen(matches!(verdict, Verdict::Refused(_)))?;
         Ok(verdict)
     }
 
     /// Forecast, of a list of begins.
     pub fn forecast(&self) -> Result<Result<Forecast, Refusal>, Failure> {
         let told = otq::forecast(self.p(), self.l(), self.bytes());
-        self.all_seen(told.err())?;
+        self.all_seen(told.is_err())?;
         Ok(told)
     }
 
-    /// The records before the first that a forecast turns down. A beginning of the list is taken just
-    /// if it ends before that record, so that halving finds it.
+    /// The records before the first that a forecast turns down.
     pub fn begins_taken(&self) -> usize {
-        let (mut taken, mut most) = (0, self.records().len());
-        while taken < most {
-            let tried = taken + (most - taken).div_ceil(2);
-            let first = &self.bytes()[..Step::BYTES * tried];
-            match otq::forecast(self.p(), self.l(), first) {
-                Ok(_) => taken = tried,
-                Err(_) => most = tried - 1,
-            }
-        }
-        taken
+        self.taken_by(|first| otq::forecast(self.p(), self.l(), first).is_ok())
     }
 
     /// Whether a forecast takes the whole list with this p and this L.
@@ -199,9 +186,45 @@ impl List {
         !self.exercise.longer && otq::forecast(p, l, self.bytes()).is_ok()
     }
 
+    /// Deliver, with this process licensed: the bytes of the terms.
+    pub fn deliver(&self, licensed: u32) -> Result<Result<Vec<u8>, dictionary::Refusal>, Failure> {
+        let (p, l) = (self.p(), self.l());
+        let mut table = vec![0; self.heading().table_words()];
+        let mut output = vec![0; dictionary::most_output_bytes(p, l).unwrap_or(0)];
+        let Delivery { refusal, count } =
+            dictionary::deliver(p, l, licensed, self.bytes(), &mut table, &mut output);
+        self.all_seen(refusal.is_some())?;
+        output.truncate(TERM_BYTES * count as usize);
+        Ok(refusal.map_or(Ok(output), Err))
+    }
+
+    /// The records before the first that the desk turns down.
+    pub fn deliveries_taken(&self, licensed: u32) -> usize {
+        self.taken_by(|first| dictionary::terms(self.p(), self.l(), licensed, first).is_ok())
+    }
+
+    /// Whether the desk takes the whole list with this p, this L and this licensed process.
+    pub fn is_delivered_with(&self, p: u32, l: u32, licensed: u32) -> bool {
+        !self.exercise.longer && dictionary::terms(p, l, licensed, self.bytes()).is_ok()
+    }
+
+    /// The records before the first that a call turns down. A beginning of the list is taken just if
+    /// it ends before that record, so that halving finds it.
+    fn taken_by(&self, takes: impl Fn(&[u8]) -> bool) -> usize {
+        let (mut taken, mut most) = (0, self.records().len());
+        while taken < most {
+            let tried = taken + (most - taken).div_ceil(2);
+            match takes(&self.bytes()[..Step::BYTES * tried]) {
+                true => taken = tried,
+                false => most = tried - 1,
+            }
+        }
+        taken
+    }
+
     /// Of a longer text than is kept, only a refusal among the records that are kept counts.
-    fn all_seen(&self, refusal: Option<Refusal>) -> Result<(), Failure> {
-        match refusal.is_none() && self.exercise.longer {
+    fn all_seen(&self, refused: bool) -> Result<(), Failure> {
+        match !refused && self.exercise.longer {
             true => Err(Failure::of(
                 &self.name,
                 "it has more records than are played",

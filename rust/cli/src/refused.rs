@@ -6,9 +6,59 @@ use crate::list::List;
 use crate::notation::Record;
 use crate::words::{count, hex, step};
 use otq::{Answer, Refusal, Run, Step};
+use std::fmt::{Debug, Display};
 
-/// What to do about a refusal.
-pub fn advice(refusal: Refusal) -> &'static str {
+/// A refusal as it is told.
+pub struct Reason {
+    pub number: u32,
+    pub meaning: String,
+    name: String,
+}
+
+impl Reason {
+    fn new(number: u32, refusal: impl Debug + Display) -> Reason {
+        Reason {
+            number,
+            meaning: refusal.to_string(),
+            name: format!("{refusal:?}"),
+        }
+    }
+
+    fn of_queue(refusal: Refusal) -> Reason {
+        Reason::new(refusal.number(), refusal)
+    }
+
+    fn of_desk(refusal: dictionary::Refusal) -> Reason {
+        Reason::new(refusal.number(), refusal)
+    }
+}
+
+/// Every refusal in the order of the numbers, and what to do about it.
+pub fn explained() -> impl Iterator<Item = (Reason, &'static str)> {
+    let queue = Refusal::ALL.map(|refusal| (Reason::of_queue(refusal), advice(refusal)));
+    let desk = dictionary::Refusal::ALL.into_iter();
+    let desk = desk.filter_map(|refusal| Some((Reason::of_desk(refusal), desk_advice(refusal)?)));
+    queue.into_iter().chain(desk)
+}
+
+/// What to do about a refusal that the desk alone has.
+fn desk_advice(refusal: dictionary::Refusal) -> Option<&'static str> {
+    match refusal {
+        dictionary::Refusal::Licence => Some(
+            "Give the process that the licence names, with --licensed. Processes are numbered from 0, \
+             so that it is below p.",
+        ),
+        dictionary::Refusal::ForeignEntry => Some(
+            "Values of 2147483648 or more are dictionary entries, and `otq desk` lets the licensed \
+             process alone put them. Give the process that the licence names, with --licensed, or have \
+             the list mended by who made it. Takes of entries are anyone's.",
+        ),
+        _ => None,
+    }
+}
+
+/// What to do about a refusal of the queue; the desk's with the same number has the same advice.
+fn advice(refusal: Refusal) -> &'static str {
     match refusal {
         Refusal::Processes => "Give the p that the list was made for, with -p or `processes`.",
         Refusal::Operations => "Give the L that the list was made for, with -L or `operations`.",
@@ -37,7 +87,10 @@ pub fn advice(refusal: Refusal) -> &'static str {
              at the same record."
         }
         Refusal::AnswersFull => "Take the line `answers` out of the heading, or lend more bytes.",
-        Refusal::OutputShort => "Lend an output of 8 bytes for each operation.",
+        Refusal::OutputShort => {
+            "Lend an output of 8 bytes for each operation; the desk, whose terms are longer than its \
+             output, is enough with 4 for each operation of the licensed process."
+        }
         Refusal::LogTorn => {
             "The log was cut, or is no log. Get it again, or check its whole answers with --whole; \
              `otq show --as log` shows where it is torn."
@@ -49,16 +102,17 @@ pub fn advice(refusal: Refusal) -> &'static str {
     }
 }
 
-/// What a list was given to: to a call that plays it, or to the forecast.
+/// What a list was given to: to a call that plays it, to the forecast, or to the desk.
 #[derive(Clone, Copy, PartialEq, Eq)]
 enum Call {
     Play,
     Forecast,
+    Desk { licensed: u32 },
 }
 
 /// A refused call.
 pub struct Refused<'a> {
-    pub refusal: Refusal,
+    reason: Reason,
     list: &'a List,
     /// The refused record, from 0; `None` if the call was turned down before its records.
     pub record: Option<usize>,
@@ -84,6 +138,39 @@ impl Refused<'_> {
         Refused::new(list, Call::Forecast, refusal, taken)
     }
 
+    /// A refusal of the desk of this licensed process, of a list of which so many records were taken.
+    pub fn of_desk(
+        list: &List,
+        licensed: u32,
+        refusal: dictionary::Refusal,
+        taken: usize,
+    ) -> Refused<'_> {
+        let call = Call::Desk { licensed };
+        let (record, standing, cause) = match refusal {
+            dictionary::Refusal::Licence => {
+                let given = format!("process {licensed} is licensed, and p is {}", list.p());
+                (None, Some(given), other_numbers(list, call))
+            }
+            dictionary::Refusal::ForeignEntry => {
+                let standing = foreign(list.records()[taken], licensed);
+                (Some(taken), standing, other_licence(list))
+            }
+            dictionary::Refusal::OutputShort => (None, None, None),
+            shared => {
+                let of_queue = Refusal::from_number(shared.number());
+                let of_queue = of_queue.expect("the queue has the desk's other refusals");
+                return Refused::new(list, call, of_queue, taken);
+            }
+        };
+        Refused {
+            reason: Reason::of_desk(refusal),
+            list,
+            record,
+            standing,
+            cause,
+        }
+    }
+
     fn new(list: &List, call: Call, refusal: Refusal, taken: usize) -> Refused<'_> {
         let of_record = [
             Refusal::IllFormed,
@@ -95,7 +182,7 @@ impl Refused<'_> {
         ];
         let record = of_record.contains(&refusal).then_some(taken);
         Refused {
-            refusal,
+            reason: Reason::of_queue(refusal),
             list,
             record,
             standing: match record {
@@ -115,8 +202,10 @@ impl Refused<'_> {
     }
 
     pub fn failure(&self) -> Failure {
-        let number = self.refusal.number();
-        let mut lines = vec![format!("otq: refused with {number}: {}", self.refusal)];
+        let Reason {
+            number, meaning, ..
+        } = &self.reason;
+        let mut lines = vec![format!("otq: refused with {number}: {meaning}")];
         if let Some(record) = self.record {
             lines.push(format!("  {}", told(self.list, record)));
         }
@@ -140,9 +229,9 @@ impl Refused<'_> {
         let words = record.map(|record| step(self.list.records()[record]));
         let text = |text: &Option<String>| Json::or_null(text.as_ref().map(Json::text));
         Json::object([
-            ("number", Json::Number(self.refusal.number().into())),
-            ("name", Json::text(format!("{:?}", self.refusal))),
-            ("meaning", Json::text(self.refusal)),
+            ("number", Json::Number(self.reason.number.into())),
+            ("name", Json::text(&self.reason.name)),
+            ("meaning", Json::text(&self.reason.meaning)),
             ("record", Json::number(record.map(|record| record + 1))),
             ("byte", Json::number(byte)),
             ("line", Json::number(line)),
@@ -213,7 +302,7 @@ fn standing(list: &List, call: Call, refusal: Refusal, record: usize) -> Option<
             let begun = count(list.l() as usize, "operation");
             let all = format!("process {process} has begun {begun}, and L is {}", list.l());
             // In a forecast no process is inside anything.
-            let played = call == Call::Play;
+            let played = call != Call::Forecast;
             let inside = last(true).filter(|_| played && list.is_inside(process, record));
             Some(match inside {
                 None => all,
@@ -225,6 +314,14 @@ fn standing(list: &List, call: Call, refusal: Refusal, record: usize) -> Option<
         }
         _ => None,
     }
+}
+
+/// Who puts which entry.
+fn foreign([process, _, _, _, value @ ..]: Record, licensed: u32) -> Option<String> {
+    let term = dictionary::term(u32::from_le_bytes(value))?;
+    Some(format!(
+        "process {process} puts term {term}, and process {licensed} is licensed"
+    ))
 }
 
 /// What is wrong with an ill-formed record.
@@ -244,7 +341,7 @@ fn cause(list: &List, call: Call, refusal: Refusal) -> Option<String> {
     match refusal {
         Refusal::RecordsTorn => {
             let does = match call {
-                Call::Play => "plays",
+                Call::Play | Call::Desk { .. } => "plays",
                 Call::Forecast => "forecasts",
             };
             Some(torn(list.bytes().len(), Step::BYTES, "record", does))
@@ -295,6 +392,7 @@ fn other_numbers(list: &List, call: Call) -> Option<String> {
         let taken = [2, 4, 8].into_iter().filter(move |&p| match call {
             Call::Play => list.is_taken_with(p, l),
             Call::Forecast => list.is_forecast_with(p, l),
+            Call::Desk { licensed } => list.is_delivered_with(p, l, licensed),
         });
         taken.map(move |p| (p, l))
     };
@@ -309,6 +407,14 @@ fn other_numbers(list: &List, call: Call) -> Option<String> {
     let told: Vec<String> = found.iter().map(|&other| numbers(list, other)).collect();
     let told = told.join(" or ");
     (!found.is_empty()).then(|| format!("with {told} the whole list is taken"))
+}
+
+/// Another licensed process with which the whole list is taken. There is at most one, since the list
+/// puts an entry.
+fn other_licence(list: &List) -> Option<String> {
+    let mut processes = 0..list.p();
+    let other = processes.find(|&other| list.is_delivered_with(list.p(), list.l(), other))?;
+    Some(format!("with --licensed {other} the whole list is taken"))
 }
 
 /// What has to be said to have another p and L.

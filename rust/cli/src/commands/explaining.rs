@@ -3,9 +3,8 @@
 use crate::arguments::Given;
 use crate::failure::{Failure, Status};
 use crate::fields::{Sort, ANSWER, ORDER, STEP};
-use crate::refused::advice;
+use crate::refused::explained;
 use crate::tool::Tool;
-use otq::Refusal;
 
 /// What is counted as a help.
 const HELP: &str = "\
@@ -30,16 +29,13 @@ pub fn explain(tool: &mut Tool, given: &Given) -> Result<Status, Failure> {
             )?;
         }
         Some(word) => {
-            let refusal = word.parse().ok().and_then(Refusal::from_number);
-            let last = Refusal::ALL.len();
+            let number = word.parse().ok();
+            let found = explained().find(|(reason, _)| Some(reason.number) == number);
+            let last = explained().count();
             let told =
                 || format!("expected a number from 1 to {last} or `records`, found `{word}`");
-            let refusal = refusal.ok_or_else(|| Failure::mistake(told()))?;
-            tool.line(format!(
-                "{} {refusal}.\n{}",
-                refusal.number(),
-                advice(refusal)
-            ))?;
+            let (reason, advice) = found.ok_or_else(|| Failure::mistake(told()))?;
+            tool.line(format!("{} {}.\n{advice}", reason.number, reason.meaning))?;
         }
     }
     Ok(Status::Done)
@@ -47,13 +43,14 @@ pub fn explain(tool: &mut Tool, given: &Given) -> Result<Status, Failure> {
 
 fn overview(tool: &mut Tool) -> Result<(), Failure> {
     tool.line("0 nothing is refused")?;
-    for refusal in Refusal::ALL {
-        tool.line(format!("{} {refusal}", refusal.number()))?;
+    for (reason, _) in explained() {
+        tool.line(format!("{} {}", reason.number, reason.meaning))?;
     }
     tool.line(
         "\nThe first test that fails is told. Of a call: 1, 2, 3, 4, of a check then 11. Of a begin: \
          5, 8, 6. Of a step: 5, 7, of a run then 9. Of a list of the order, at the end: 10. Of a \
-         forecast: 1, 2, 4, and of each record: 5, 12, 8.",
+         forecast: 1, 2, 4, and of each record: 5, 12, 8. Of the desk: 1, 2, 13, 3, 4, of a begin: 5, 8, \
+         6, 14, of a step: 5, 7, at the end: 10, here that the terms are longer than the output.",
     )?;
     tool.line("\n`otq explain N` says what to do, `otq explain records` how records are laid out.")
 }

@@ -2,6 +2,7 @@
 
 mod checking;
 mod coding;
+mod delivering;
 mod explaining;
 mod forecasting;
 mod listing;
@@ -27,10 +28,26 @@ struct Command {
     choices: &'static [&'static Choice],
     /// The least and the most files.
     files: (usize, usize),
-    /// Whether it calls the proved library.
-    proved: bool,
+    /// The proved libraries that it calls.
+    libraries: &'static [Library],
     call: fn(&mut Tool, &Given) -> Result<Status, Failure>,
 }
+
+/// A proved library, which is linked if its archive was there when this program was built.
+struct Library {
+    built: bool,
+    /// What to do if it was not.
+    not_built: &'static str,
+}
+
+const QUEUE: Library = Library {
+    built: otq::BUILT,
+    not_built: otq::NOT_BUILT,
+};
+const DICTIONARY: Library = Library {
+    built: dictionary::BUILT,
+    not_built: dictionary::NOT_BUILT,
+};
 
 const P: Choice = Choice {
     name: "-p",
@@ -53,7 +70,7 @@ const JSON: Choice = Choice {
     about: "writes the result as JSON",
 };
 
-const COMMANDS: [Command; 11] = [
+const COMMANDS: [Command; 12] = [
     Command {
         name: "run",
         usage: "[-p P -L L] STEPS [--log OUT] [--whole] [--json]",
@@ -63,7 +80,7 @@ const COMMANDS: [Command; 11] = [
                value or `none`. Last `end`, the refusal number (0 for none) and the records taken.",
         choices: &[&P, &L, &playing::LOG, &WHOLE, &JSON],
         files: (1, 1),
-        proved: true,
+        libraries: &[QUEUE],
         call: playing::run,
     },
     Command {
@@ -73,7 +90,7 @@ const COMMANDS: [Command; 11] = [
         more: "A line an operation: put or take, process, serial, root block.",
         choices: &[&P, &L, &listing::RAW, &WHOLE, &JSON],
         files: (1, 1),
-        proved: true,
+        libraries: &[QUEUE],
         call: listing::order,
     },
     Command {
@@ -84,8 +101,22 @@ const COMMANDS: [Command; 11] = [
                differs, and the record of the list that ended the operation.",
         choices: &[&P, &L, &checking::ALL, &WHOLE, &JSON],
         files: (2, 2),
-        proved: true,
+        libraries: &[QUEUE],
         call: checking::check,
+    },
+    Command {
+        name: "desk",
+        usage: "--licensed K [-p P -L L] STEPS [--raw OUT] [--whole] [--json]",
+        about: "delivers the dictionary terms that the takes received",
+        more: "A value of 2147483648 or more is a dictionary entry, and what it is above that its term.\n\
+               Process K alone may put entries. A line a term, in the order in which the takes took effect:\n\
+               the term, process and serial of the take that received it, process and serial of the put\n\
+               that it came from, and which put that is in the order of `otq order`, from 1. Last the count.\n\
+               Takes that did not end deliver nothing.",
+        choices: &[&delivering::LICENSED, &P, &L, &delivering::RAW, &WHOLE, &JSON],
+        files: (1, 1),
+        libraries: &[QUEUE, DICTIONARY],
+        call: delivering::desk,
     },
     Command {
         name: "forecast",
@@ -96,7 +127,7 @@ const COMMANDS: [Command; 11] = [
                played.",
         choices: &[&P, &L, &WHOLE, &JSON],
         files: (1, 1),
-        proved: true,
+        libraries: &[QUEUE],
         call: forecasting::forecast,
     },
     Command {
@@ -106,7 +137,7 @@ const COMMANDS: [Command; 11] = [
         more: "A line a record, with its number; of a torn file the whole records, and where it is torn.",
         choices: &[&showing::AS],
         files: (1, 1),
-        proved: false,
+        libraries: &[],
         call: showing::show,
     },
     Command {
@@ -121,7 +152,7 @@ const COMMANDS: [Command; 11] = [
                Of a refused list it shows what the records before the refused one left.",
         choices: &[&P, &L, &tabling::NODE, &WHOLE, &JSON],
         files: (1, 1),
-        proved: true,
+        libraries: &[QUEUE],
         call: tabling::table,
     },
     Command {
@@ -135,7 +166,7 @@ const COMMANDS: [Command; 11] = [
                proved library before anything is printed.",
         choices: &[&P, &L, &tracing::FROM, &tracing::TO, &WHOLE],
         files: (1, 1),
-        proved: true,
+        libraries: &[QUEUE],
         call: tracing::trace,
     },
     Command {
@@ -145,7 +176,7 @@ const COMMANDS: [Command; 11] = [
         more: "As text, with L operations of each process, about half of them puts; all of them end.",
         choices: &[&P, &L, &making::PACE, &making::SEED, &making::OUT],
         files: (0, 0),
-        proved: true,
+        libraries: &[QUEUE],
         call: making::make,
     },
     Command {
@@ -158,7 +189,7 @@ const COMMANDS: [Command; 11] = [
                # to the end of its line.",
         choices: &[&coding::PRINT],
         files: (1, 1),
-        proved: false,
+        libraries: &[],
         call: coding::encode,
     },
     Command {
@@ -168,7 +199,7 @@ const COMMANDS: [Command; 11] = [
         more: "With p and L in its heading, so that it plays alike.",
         choices: &[&P, &L],
         files: (1, 1),
-        proved: false,
+        libraries: &[],
         call: coding::decode,
     },
     Command {
@@ -178,7 +209,7 @@ const COMMANDS: [Command; 11] = [
         more: "Without a word it lists the refusals.",
         choices: &[],
         files: (0, 1),
-        proved: false,
+        libraries: &[],
         call: explaining::explain,
     },
 ];
@@ -237,8 +268,8 @@ impl Command {
         if given.files.iter().filter(|file| *file == "-").count() > 1 {
             return Err(self.wrong("standard input can be read once"));
         }
-        if self.proved && !otq::BUILT {
-            return Err(Failure::mistake(otq::NOT_BUILT));
+        if let Some(missing) = self.libraries.iter().find(|library| !library.built) {
+            return Err(Failure::mistake(missing.not_built));
         }
         (self.call)(tool, &given)
     }
@@ -261,8 +292,8 @@ impl Command {
         for choice in self.choices {
             let option = format!("{} {}", choice.name, choice.value.unwrap_or(""));
             help += &format!(
-                "\n  {option:<12}{}",
-                choice.about.replace('\n', "\n              ")
+                "\n  {option:<14}{}",
+                choice.about.replace('\n', "\n                ")
             );
         }
         for (file, about) in [("STEPS", STEPS), ("BEGINS", BEGINS)] {
@@ -285,7 +316,7 @@ fn help(tool: &mut Tool, words: &[OsString]) -> Result<Status, Failure> {
 fn overview() -> String {
     let mut text =
         "otq plays the steps of a shared queue, lists their order, shows what each step did and which blocks\n\
-         it left, checks a log, and forecasts what a list will need.\n"
+         it left, checks a log, delivers dictionary terms, and forecasts what a list will need.\n"
             .to_string();
     for Command {
         name, usage, about, ..
@@ -297,10 +328,12 @@ fn overview() -> String {
 }
 
 fn version(tool: &mut Tool) -> Result<Status, Failure> {
-    let library = if otq::BUILT { "with" } else { "without" };
+    let with = |library: &Library| if library.built { "with" } else { "without" };
     tool.line(format!(
-        "otq {}, {library} the proved library",
-        env!("CARGO_PKG_VERSION")
+        "otq {}, {} the proved library, {} the proved dictionary",
+        env!("CARGO_PKG_VERSION"),
+        with(&QUEUE),
+        with(&DICTIONARY)
     ))?;
     Ok(Status::Done)
 }
