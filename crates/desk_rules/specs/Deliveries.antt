@@ -18,8 +18,7 @@ use Rattle.steps.specs.declared.Operation.the-variants.{Put, Take}
 use Rattle.calls.specs.Numbered.{numbered}
 use Rattle.calls.specs.PlainQueue.{fed, answers}
 use Rattle.calls.specs.History.{Event, history, isFinished, does}
-use Rattle.desk_rules.specs.Entries.{firstEntry}
-use Rattle.desk_rules.specs.Desk.{termSize}
+use Rattle.desk_rules.specs.Entries.{firstEntry, termSize}
 
 -- each number is below all that follow it
 unfoldable pub Rising : List ℕ → Type 0

@@ -9,7 +9,6 @@ use Rattle.record.specs.declared.StepRecord.{StepRecord}
 use Rattle.record.specs.declared.Reply.{Reply}
 use Rattle.record.specs.declared.Reply.the-variants.{Done, Value, Nothing}
 use Rattle.record.specs.declared.AnswerRecord.{AnswerRecord}
-use Rattle.record.specs.Bytes.{bytesOf}
 use Rattle.record.specs.StepRecords.{stepRecords}
 use Rattle.record.specs.AnswerRecords.{answerSize}
 use Rattle.tree.specs.Shape.{Shape, shapeFor}
@@ -21,7 +20,7 @@ use Rattle.calls.specs.Run.{Played, atStart, playRecord}
 use Rattle.calls.specs.Linearizable.{response}
 use Rattle.desk_rules.specs.declared.DeskRefusal.{DeskRefusal}
 use Rattle.desk_rules.specs.declared.DeskRefusal.the-variants.{ForeignEntry, OutputShort}
-use Rattle.desk_rules.specs.Entries.{isEntry, termOf, isForeign}
+use Rattle.desk_rules.specs.Entries.{isEntry, termOf, isForeign, termSize, termBytes}
 use Rattle.desk_rules.specs.DeskRefusals.{deskNumber, delivers, byQueue, firstOf, deskCallRefusal}
 
 -- ---- the list
@@ -59,13 +58,6 @@ termIn Nothing = []
 -- the terms received by finished takes, in root order of the takes: an operation that has not finished has no answer
 unfoldable pub terms : Shape → List AnswerRecord → List ℕ → List ℕ
 terms s log t = flatMap (λ x. termIn (response log x)) (rootOperations s t)
-
--- terms as 32-bit numbers, low byte first
-unfoldable pub termSize : ℕ
-termSize = 4
-
-unfoldable pub termBytes : List ℕ → List ℕ
-termBytes ts = flatMap (bytesOf termSize) ts
 
 -- ---- the call
 

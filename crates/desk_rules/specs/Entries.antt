@@ -1,8 +1,10 @@
--- Dictionary entries, and who may put them.
+-- Dictionary entries, who may put them, and the bytes of their terms.
 use Prim.Native.Nat.{ℕ, _-_}
 use mathlib.Core.Bool.{Bool, not, _&&_}
+use mathlib.Core.List.{List, flatMap}
 use lib.Dec.{leb, eqb}
 use Rattle.record.specs.declared.StepRecord.{StepRecord}
+use Rattle.record.specs.Bytes.{bytesOf}
 use Rattle.record.specs.StepRecords.{isBeginPut}
 
 -- 2^31
@@ -20,3 +22,10 @@ termOf v = v - firstEntry
 -- a record that begins a put of an entry by another process than the licensed one
 unfoldable pub isForeign : ℕ → StepRecord → Bool
 isForeign licensed r = isBeginPut r && isEntry (r .value) && not (eqb (r .process) licensed)
+
+-- terms as 32-bit numbers, low byte first
+unfoldable pub termSize : ℕ
+termSize = 4
+
+unfoldable pub termBytes : List ℕ → List ℕ
+termBytes ts = flatMap (bytesOf termSize) ts

@@ -3,4 +3,5 @@ pub mod StepRecords
 pub mod AnswerRecords
 pub mod ReadAnswers
 pub mod OrderRecords
+pub mod ReadOrders
 pub mod All

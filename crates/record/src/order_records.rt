@@ -1,9 +1,10 @@
-// Order records, written as their bytes.
+// Order records, written as their bytes and read from them.
 ghost use mathlib.Core.Path.{_≡_};
 ghost use Prim.Native.Nat.{_+_, _≤_, _<_};
-ghost use lib.ListN.{length};
+ghost use lib.ListN.{length, take, drop};
 ghost use lib.Seq.{sets};
 ghost use Rattle.record.specs.OrderRecords.{orderBytes};
+ghost use Rattle.record.specs.ReadOrders.{readOrder};
 use crate::OrderRecord;
 use crate::bytes;
 
@@ -14,4 +15,17 @@ pub fn put_order(out: &mut [u8], at: usize, x: OrderRecord)
 {
     bytes::put_head(out, at, x.process, x.kind, x.serial);
     bytes::put_word(out, at + 4, x.block);
+}
+
+// The record in the eight bytes from an index on.
+pub fn order_record(order: &[u8], at: usize) -> OrderRecord
+    requires { ⌜ at + 8 ≤ length (now order) ⌝ }
+    ensures { λ r. ⌜ r ≡ readOrder (take 8 (drop at (now (order .entry)))) ⌝ }
+{
+    OrderRecord {
+        process: bytes::byte_at(order, at),
+        kind: bytes::byte_at(order, at + 1),
+        serial: bytes::half_at(order, at + 2),
+        block: bytes::word_at(order, at + 4),
+    }
 }
