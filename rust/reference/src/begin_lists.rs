@@ -1,6 +1,6 @@
 //! Generator of begin lists for the forecast: proper ones, and ones with something wrong.
 
-use crate::hostile::below;
+use crate::hostile::{below, insert, tear, WRONG_L, WRONG_P};
 use crate::random::Random;
 use crate::records::{Act, Operation, StepRecord, STEP_RECORD_BYTES};
 use crate::tree::MOST_OPERATIONS;
@@ -63,28 +63,25 @@ impl BeginList {
 
     fn spoil(&mut self, wrong: Wrong, random: &mut Random) {
         match wrong {
-            Wrong::Processes => self.p = random.pick(&[0, 1, 3, 5, 6, 7, 9, 16, u32::MAX]),
-            Wrong::Operations => self.l = random.pick(&[0, 501, 512, u32::MAX]),
-            Wrong::Torn => {
-                let bytes = [0, 1, 0, 0, 7, 0, 0];
-                self.begins.extend(&bytes[..1 + below(random, 7)]);
-            }
+            Wrong::Processes => self.p = random.pick(&WRONG_P),
+            Wrong::Operations => self.l = random.pick(&WRONG_L),
+            Wrong::Torn => tear(random, &mut self.begins),
             Wrong::IllFormed => self.ill_form(random),
             Wrong::StepAmong => {
                 let process = random.below(self.p.clamp(1, 8)) as u8;
-                self.insert(random, [process, 0, 0, 0, 0, 0, 0, 0]);
+                insert(random, &mut self.begins, [process, 0, 0, 0, 0, 0, 0, 0]);
             }
             Wrong::TooMany => {
                 let process = random.below(self.p.clamp(1, 8));
                 let most = if self.l <= MOST_OPERATIONS { self.l } else { 1 };
                 for _ in self.begun(process)..=most {
                     let begin = begin(random, process);
-                    self.insert(random, begin);
+                    insert(random, &mut self.begins, begin);
                 }
             }
             Wrong::Noise => {
                 let bytes = random.next().to_le_bytes();
-                self.insert(random, bytes);
+                insert(random, &mut self.begins, bytes);
             }
         }
     }
@@ -101,19 +98,13 @@ impl BeginList {
                 record[4 + below(random, 4)] = 1 << random.below(8);
             }
         }
-        self.insert(random, record);
+        insert(random, &mut self.begins, record);
     }
 
     fn begun(&self, process: u32) -> u32 {
         let records = self.begins.chunks_exact(STEP_RECORD_BYTES);
         let own = records.filter(|record| u32::from(record[0]) == process && record[1] != 0);
         own.count() as u32
-    }
-
-    fn insert(&mut self, random: &mut Random, record: [u8; STEP_RECORD_BYTES]) {
-        let places = self.begins.len() / STEP_RECORD_BYTES + 1;
-        let at = STEP_RECORD_BYTES * below(random, places);
-        self.begins.splice(at..at, record);
     }
 }
 

@@ -1,6 +1,11 @@
 //! Records, lists and logs with something wrong.
 
 use crate::random::Random;
+use crate::records::STEP_RECORD_BYTES;
+
+/// Numbers that p and L may not be.
+pub const WRONG_P: [u32; 9] = [0, 1, 3, 5, 6, 7, 9, 16, u32::MAX];
+pub const WRONG_L: [u32; 4] = [0, 501, 512, u32::MAX];
 
 /// Ill-formed records of each sort, whatever the processes do.
 pub fn ill_formed(p: u32) -> Vec<[u8; 8]> {
@@ -88,6 +93,19 @@ pub fn harm_log(random: &mut Random, log: &mut Vec<u8>) {
         6 => log.extend([0; 16]),
         _ => log.extend(random.next().to_le_bytes()),
     }
+}
+
+/// Puts a record in somewhere between those of a list, first or last.
+pub fn insert(random: &mut Random, list: &mut Vec<u8>, record: [u8; STEP_RECORD_BYTES]) {
+    let places = list.len() / STEP_RECORD_BYTES + 1;
+    let at = STEP_RECORD_BYTES * below(random, places);
+    list.splice(at..at, record);
+}
+
+/// Adds the start of a record, so that the last one is torn.
+pub fn tear(random: &mut Random, list: &mut Vec<u8>) {
+    let put = [0, 1, 0, 0, 7, 0, 0];
+    list.extend(&put[..1 + below(random, 7)]);
 }
 
 /// Changes one bit, if there is one.

@@ -82,7 +82,12 @@ pub fn m2() -> List {
 }
 
 pub fn m3() -> List {
-    let begun = List::new().put(0, 5).take(1);
+    m3_of(5)
+}
+
+/// M3 with this value put.
+pub fn m3_of(value: u32) -> List {
+    let begun = List::new().put(0, value).take(1);
     begun.steps(0, 4).steps(1, 4).steps(0, 13).steps(1, 11)
 }
 

@@ -24,11 +24,11 @@ pub enum Room {
     Unlimited,
 }
 
-/// What playing a list leaves.
+/// What playing a list leaves, where records are refused with an R.
 #[derive(Clone, PartialEq, Eq, Debug)]
-pub struct Played {
+pub struct Played<R = Refusal> {
     pub machine: Machine,
-    pub refusal: Option<Refusal>,
+    pub refusal: Option<R>,
     pub taken: usize,
     pub answers: Vec<Answer>,
 }
@@ -95,6 +95,17 @@ pub fn play_record(machine: &mut Machine, number: u32, record: StepRecord) -> Op
 
 /// Plays whole records from the start state up to the first refused one.
 pub fn play(shape: Shape, records: &[u8], room: Room) -> Played {
+    play_by(shape, records, |machine, bytes, answers| {
+        test_record(machine, bytes, answers, room)
+    })
+}
+
+/// The same by any tests of a record, which are given its bytes and how many answers there are.
+pub fn play_by<R>(
+    shape: Shape,
+    records: &[u8],
+    test: impl Fn(&Machine, &[u8], usize) -> Result<StepRecord, R>,
+) -> Played<R> {
     let mut played = Played {
         machine: Machine::start(shape),
         refusal: None,
@@ -102,7 +113,7 @@ pub fn play(shape: Shape, records: &[u8], room: Room) -> Played {
         answers: Vec::new(),
     };
     for (number, bytes) in numbered(records) {
-        match test_record(&played.machine, bytes, played.answers.len(), room) {
+        match test(&played.machine, bytes, played.answers.len()) {
             Ok(record) => {
                 let answer = play_record(&mut played.machine, number, record);
                 played.answers.extend(answer);

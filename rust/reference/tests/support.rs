@@ -4,6 +4,8 @@
 use reference::block_numbers::At;
 use reference::check::{check_log, CheckResult};
 use reference::demand3::step_limit;
+use reference::desk::{deliver, DeskResult, TERM_BYTES};
+use reference::desk_calls::DeskCall;
 use reference::growth::Past;
 use reference::known_runs::known_runs;
 use reference::list::{list_order, ListResult};
@@ -73,6 +75,20 @@ pub fn list_with(p: u32, l: u32, records: &[u8], words: usize, bytes: usize) -> 
 
 pub fn check_with(p: u32, l: u32, records: &[u8], log: &[u8], words: usize) -> After<CheckResult> {
     on_pattern(words, 0, |table, _| check_log(p, l, records, log, table))
+}
+
+pub fn desk_with(call: &DeskCall, words: usize, bytes: usize) -> After<DeskResult> {
+    let (p, l, licensed) = (call.p, call.l, call.licensed);
+    on_pattern(words, bytes, |table, output| {
+        deliver(p, l, licensed, &call.records, table, output)
+    })
+}
+
+/// The desk with room for every term and some more, or some room where p or L is turned down.
+pub fn deliver_amply(call: &DeskCall) -> After<DeskResult> {
+    let words = Shape::new(call.p, call.l).map_or(0, Shape::words_needed);
+    let terms = call.records.len() / 8;
+    desk_with(call, words + SPARE, TERM_BYTES * terms + SPARE)
 }
 
 /// Run with room for everything and some more.
