@@ -5,7 +5,7 @@ use crate::support::{assert_fails, written};
 #[test]
 fn every_refusal() {
     let all = written(&["explain"]);
-    for number in 1..=12 {
+    for number in 1..=14 {
         let one = written(&["explain", &number.to_string()]);
         let (meaning, advice) = one.split_once(".\n").unwrap();
         assert!(meaning.starts_with(&format!("{number} ")), "{one}");
@@ -21,6 +21,7 @@ fn the_order_of_the_tests() {
         "Of a begin: 5, 8, 6.",
         "Of a step: 5, 7, of a run then 9.",
         "Of a forecast: 1, 2, 4, and of each record: 5, 12, 8.",
+        "Of the desk: 1, 2, 13, 3, 4, of a begin: 5, 8, 6, 14, of a step: 5, 7, at the end: 10, ",
     ] {
         assert!(all.contains(order), "{all}");
     }
@@ -50,8 +51,8 @@ fn records() {
 
 #[test]
 fn unknown_numbers() {
-    for word in ["0", "13", "-", "six", "4294967296", ""] {
-        let message = format!("otq: expected a number from 1 to 12 or `records`, found `{word}`\n");
+    for word in ["0", "15", "-", "six", "4294967296", ""] {
+        let message = format!("otq: expected a number from 1 to 14 or `records`, found `{word}`\n");
         assert_fails(&["explain", word], 2, &message);
     }
 }

@@ -10,6 +10,7 @@ fn commands(file: &str) -> Vec<Vec<&str>> {
         vec!["run", file],
         with_numbers("run", &[file]),
         with_numbers("order", &[file]),
+        with_numbers("desk", &["--licensed", "1", file]),
         with_numbers("table", &[file]),
         with_numbers("trace", &[file]),
         with_numbers("check", &[file, LOG]),
@@ -129,6 +130,7 @@ fn torn_and_changed_lists() {
             otq(&with_numbers(command, &[&changed]));
         }
         otq(&with_numbers("check", &[&changed, LOG]));
+        otq(&with_numbers("desk", &["--licensed", "1", &changed]));
     }
 }
 
@@ -137,9 +139,17 @@ fn torn_and_changed_lists() {
 fn hostile_texts() {
     let long = file("long-line.txt", &b"step 0 ".repeat(10_000));
     let message = format!("{long}:1: expected a line of at most 10000 bytes\n");
-    for command in ["run", "order", "table", "trace", "forecast", "encode"] {
+    for words in [
+        &["run", &long][..],
+        &["order", &long],
+        &["desk", "--licensed", "0", &long],
+        &["table", &long],
+        &["trace", &long],
+        &["forecast", &long],
+        &["encode", &long],
+    ] {
         assert_eq!(
-            otq(&[command, &long]),
+            otq(words),
             Said {
                 status: 2,
                 out: String::new(),

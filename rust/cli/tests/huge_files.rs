@@ -38,6 +38,7 @@ fn a_huge_list_of_records() {
     for (words, number) in [
         (with_numbers("run", &[&huge]), 7),
         (with_numbers("order", &[&huge]), 7),
+        (with_numbers("desk", &["--licensed", "0", &huge]), 7),
         (with_numbers("trace", &[&huge]), 7),
         (with_numbers("table", &[&huge, "--json"]), 7),
         (with_numbers("check", &[&huge, LOG]), 7),
@@ -131,8 +132,15 @@ fn huge_texts() {
             "{list}"
         );
         assert!(said.err.contains(&format!(", {list}:{line}\n")), "{said:?}");
-        for command in ["order", "table", "trace", "forecast"] {
-            assert_eq!(otq_limited(&[command, list]).status, 3, "{command} {list}");
+        for words in [
+            &["order"][..],
+            &["desk", "--licensed", "0"],
+            &["table"],
+            &["trace"],
+            &["forecast"],
+        ] {
+            let words = [words, &[list]].concat();
+            assert_eq!(otq_limited(&words).status, 3, "{words:?}");
         }
     }
     // Its reader is gone after some lines.

@@ -5,10 +5,29 @@
 #[allow(dead_code)]
 mod support;
 
-use support::{bytes, content, otq, with_numbers, written, BEGINS, LOG, STEPS, TEXT};
+use support::{bytes, content, otq, with_numbers, written, BEGINS, LOG, STEPS, TERMS, TEXT};
+
+/// The command does what it should if its library is built, and else says this alone.
+fn assert_needs(words: &[&str], built: bool, not_built: &str) {
+    let said = otq(words);
+    match built {
+        true => assert_eq!((said.status, said.err.as_str()), (0, ""), "{words:?}"),
+        false => {
+            assert_eq!((said.status, said.out.as_str()), (2, ""), "{words:?}");
+            assert_eq!(said.err, not_built, "{words:?}");
+        }
+    }
+}
+
+const NO_QUEUE: &str =
+    "otq: the proved library is not built: run `rt staticlib queue` in the repository \
+     (about 3 minutes, it proves it), then build this program again\n";
+const NO_DICTIONARY: &str =
+    "otq: the proved dictionary is not built: run `rt staticlib desk` in the repository \
+     (some minutes, it proves it), then build this program again\n";
 
 #[test]
-fn commands_that_call_the_library() {
+fn commands_that_call_the_queue() {
     for words in [
         vec!["run", TEXT],
         vec!["order", TEXT],
@@ -18,17 +37,16 @@ fn commands_that_call_the_library() {
         vec!["trace", TEXT],
         vec!["make", "-p", "2", "-L", "1", "--pace", "one", "--seed", "1"],
     ] {
-        let said = otq(&words);
-        if otq::BUILT {
-            assert_eq!((said.status, said.err.as_str()), (0, ""), "{words:?}");
-            continue;
-        }
-        assert_eq!((said.status, said.out.as_str()), (2, ""), "{words:?}");
-        let line =
-            "otq: the proved library is not built: run `rt staticlib queue` in the repository \
-                    (about 3 minutes, it proves it), then build this program again\n";
-        assert_eq!(said.err, line, "{words:?}");
+        assert_needs(&words, otq::BUILT, NO_QUEUE);
     }
+}
+
+/// The desk's terms are told with their takes and puts, for which the queue is asked.
+#[test]
+fn the_command_that_calls_both() {
+    let words = ["desk", "--licensed", "0", TERMS];
+    let not_built = if otq::BUILT { NO_DICTIONARY } else { NO_QUEUE };
+    assert_needs(&words, otq::BUILT && dictionary::BUILT, not_built);
 }
 
 #[test]
@@ -38,9 +56,13 @@ fn commands_that_do_without_it() {
     assert!(written(&["show", "--as", "log", LOG]).starts_with("1 put 0 1 17 0 1\n"));
     assert!(written(&["explain", "6"]).starts_with("6 "));
     assert!(written(&["run", "--help"]).starts_with("otq run "));
-    let with = if otq::BUILT { "with" } else { "without" };
+    let with = |built| if built { "with" } else { "without" };
     assert_eq!(
         written(&["--version"]),
-        format!("otq 0.1.0, {with} the proved library\n")
+        format!(
+            "otq 0.1.0, {} the proved library, {} the proved dictionary\n",
+            with(otq::BUILT),
+            with(dictionary::BUILT)
+        )
     );
 }

@@ -1,8 +1,8 @@
 //! Outputs that fail: a reader that has gone, a full disk, files that may not be written.
 
 use crate::support::{
-    assert_fails, command, content, file, otq, path, with_numbers, Said, BEGINS, LOG, STEPS, TEXT,
-    WRONG,
+    assert_fails, command, content, file, otq, path, with_numbers, Said, BEGINS, LOG, STEPS, TERMS,
+    TEXT, WRONG,
 };
 use std::fs::{self, File};
 use std::process::Stdio;
@@ -18,6 +18,8 @@ fn commands() -> Vec<(Vec<&'static str>, i32)> {
         (vec!["order", TEXT], 0),
         (vec!["check", TEXT, LOG], 0),
         (vec!["check", TEXT, WRONG, "--all"], 1),
+        (vec!["desk", "--licensed", "0", TERMS], 0),
+        (vec!["desk", "--licensed", "1", TERMS, "--json"], 3),
         (vec!["forecast", BEGINS], 0),
         (vec!["forecast", TEXT, "--json"], 3),
         (vec!["show", "--as", "log", LOG], 0),
@@ -79,6 +81,7 @@ fn files_that_cannot_be_written() {
     for (words, option) in [
         (vec!["run", TEXT], "--log"),
         (vec!["order", TEXT], "--raw"),
+        (vec!["desk", "--licensed", "0", TERMS], "--raw"),
         (
             vec!["make", "-p", "2", "-L", "1", "--pace", "one", "--seed", "1"],
             "-o",
@@ -112,8 +115,11 @@ fn what_was_read_is_not_written_over() {
     let _ = fs::remove_file(&link);
     fs::hard_link(&steps, &link).expect("a link");
     for out in [&steps, &link] {
-        for (command, option) in [("run", "--log"), ("order", "--raw")] {
-            let words = with_numbers(command, &[&steps, option, out]);
+        for words in [
+            with_numbers("run", &[&steps, "--log", out]),
+            with_numbers("order", &[&steps, "--raw", out]),
+            with_numbers("desk", &["--licensed", "0", &steps, "--raw", out]),
+        ] {
             let message = format!("otq: {out}: it was read, and is not written over\n");
             assert_fails(&words, 2, &message);
         }

@@ -2,6 +2,7 @@
 
 mod checking;
 mod coding;
+mod delivering;
 mod errors;
 mod explaining;
 mod forecasting;

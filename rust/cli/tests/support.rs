@@ -125,6 +125,9 @@ pub const NUMBERS: [&str; 4] = ["-p", "2", "-L", "3"];
 /// Begins alone, of four processes.
 pub const BEGINS: &str = "examples/forecast/begins.txt";
 
+/// A list of the dictionary, of two processes, of which the first is licensed.
+pub const TERMS: &str = "examples/dictionary/deliveries.txt";
+
 /// The words of a command on binary records of the example.
 pub fn with_numbers<'a>(command: &'a str, words: &[&'a str]) -> Vec<&'a str> {
     [&[command], &NUMBERS[..], words].concat()

@@ -1,12 +1,14 @@
 //! The words of a command line.
 
-use crate::support::{assert_fails, otq, otq_on, with_numbers, written, LOG, NUMBERS, STEPS, TEXT};
+use crate::support::{
+    assert_fails, otq, otq_on, with_numbers, written, LOG, NUMBERS, STEPS, TERMS, TEXT,
+};
 use std::ffi::OsStr;
 use std::os::unix::ffi::OsStrExt;
 
-const COMMANDS: [&str; 11] = [
-    "run", "order", "check", "forecast", "show", "table", "trace", "make", "encode", "decode",
-    "explain",
+const COMMANDS: [&str; 12] = [
+    "run", "order", "check", "desk", "forecast", "show", "table", "trace", "make", "encode",
+    "decode", "explain",
 ];
 
 #[test]
@@ -29,11 +31,14 @@ fn help_and_version() {
     let forecast = written(&["forecast", "--help"]);
     assert!(forecast.contains("with these begins in this order"));
     assert!(forecast.contains("\n\nBEGINS is ") && !forecast.contains("\n\nSTEPS is "));
+    // The longest option has room before its meaning.
+    let desk = written(&["desk", "--help"]);
+    assert!(desk.contains("\n  --licensed K  the process that may put entries, below p\n"));
     assert_eq!(written(&["help"]), help);
     assert_eq!(written(&["-h"]), help);
     assert_eq!(
         written(&["--version"]),
-        "otq 0.1.0, with the proved library\n"
+        "otq 0.1.0, with the proved library, with the proved dictionary\n"
     );
     assert_eq!(written(&["-V"]), written(&["--version"]));
 }
@@ -79,6 +84,11 @@ fn wrong_options() {
         "otq: a file is missing; usage: otq forecast [-p P -L L] BEGINS [--whole] [--json]\n",
     );
     assert_fails(
+        &["desk", "--licensed", "0"],
+        2,
+        "otq: a file is missing; usage: otq desk --licensed K [-p P -L L] STEPS [--raw OUT] ",
+    );
+    assert_fails(
         &["check", "-", "-"],
         2,
         "otq: standard input can be read once; ",
@@ -91,6 +101,11 @@ fn wrong_numbers() {
         let message = format!("otq: -p: expected a number, found `{number}`\n");
         assert_fails(&["run", TEXT, "-p", number], 2, &message);
     }
+    assert_fails(
+        &["desk", TERMS, "--licensed", "one"],
+        2,
+        "otq: --licensed: expected a number, found `one`\n",
+    );
     assert_fails(
         &["run", TEXT, "-L", "4294967296"],
         2,
@@ -120,6 +135,7 @@ fn p_and_l() {
         &["trace", "-L", "3", STEPS],
         &["table", STEPS],
         &["forecast", STEPS],
+        &["desk", "--licensed", "0", STEPS],
     ] {
         assert_fails(words, 2, &message);
     }
