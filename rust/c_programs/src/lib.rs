@@ -1,0 +1,99 @@
+//! For tests of the headers in `include/`: programs in C and C++, compiled with warnings as errors and
+//! linked with archives of the proved libraries.
+
+use std::fs;
+use std::path::{Path, PathBuf};
+use std::process::Command;
+
+/// The standards of both languages that the headers are for.
+pub const STANDARDS: [&str; 2] = ["c99", "c++11"];
+
+/// Warnings of both languages, and of C++ alone.
+const WARNINGS: [&str; 6] = [
+    "-Wall",
+    "-Wextra",
+    "-Wconversion",
+    "-Wsign-conversion",
+    "-Werror",
+    "-pedantic",
+];
+const WARNINGS_CPP: [&str; 1] = ["-Wold-style-cast"];
+
+/// Where a test program has its files, and the libraries whose archives it links.
+pub struct Workshop {
+    pub folder: PathBuf,
+    pub libraries: &'static [&'static str],
+}
+
+impl Workshop {
+    /// The program of a source file, in the language of the standard.
+    pub fn program(&self, standard: &str, source: &Path) -> PathBuf {
+        let name = source.file_stem().expect("a file").to_string_lossy();
+        let program = self.folder.join(format!("{name}-{standard}"));
+        let language = if is_cpp(standard) { "c++" } else { "c" };
+        let mut compile = compiler(standard);
+        compile.args(["-x", language]).arg(source);
+        compile.args(["-x", "none"]);
+        for library in self.libraries {
+            compile.arg(repository().join(format!("target/staticlib/lib{library}.a")));
+        }
+        written(compile.arg("-o").arg(&program));
+        program
+    }
+
+    /// The program of this source writes this, in both languages.
+    pub fn assert_writes(&self, name: &str, source: &str, expected: &str) {
+        let file = self.source(name, source);
+        for standard in STANDARDS {
+            let program = self.program(standard, &file);
+            assert_eq!(written(&mut Command::new(program)), expected, "{standard}");
+        }
+    }
+
+    /// A header says these numbers, each of them a constant.
+    pub fn assert_constants(&self, header: &str, constants: &[(String, usize)]) {
+        // An array of a negative length does not compile.
+        let lines = constants.iter().enumerate().map(|(index, (name, number))| {
+            format!("typedef char equal_{index}[({name}) == {number} ? 1 : -1];\n")
+        });
+        let lines: String = lines.collect();
+        let source = format!("#include \"{header}\"\n{lines}");
+        let file = self.source(&format!("constants_of_{header}.c"), &source);
+        written(compiler("c99").arg("-fsyntax-only").arg(&file));
+    }
+
+    fn source(&self, name: &str, source: &str) -> PathBuf {
+        let file = self.folder.join(name);
+        fs::write(&file, source).expect("the file is written");
+        file
+    }
+}
+
+/// What a program writes; it must succeed.
+pub fn written(command: &mut Command) -> String {
+    let output = command.output().expect("the program starts");
+    let said = String::from_utf8_lossy(&output.stderr);
+    assert!(output.status.success(), "{command:?}\n{said}");
+    String::from_utf8(output.stdout).expect("text")
+}
+
+/// gcc or g++ with the headers, and warnings as errors.
+fn compiler(standard: &str) -> Command {
+    let (name, more) = match is_cpp(standard) {
+        true => ("g++", &WARNINGS_CPP[..]),
+        false => ("gcc", &[][..]),
+    };
+    let mut compiler = Command::new(name);
+    compiler.arg(format!("-std={standard}"));
+    compiler.args(WARNINGS).args(more);
+    compiler.arg("-I").arg(repository().join("include"));
+    compiler
+}
+
+fn is_cpp(standard: &str) -> bool {
+    standard.starts_with("c++")
+}
+
+fn repository() -> PathBuf {
+    Path::new(env!("CARGO_MANIFEST_DIR")).join("../..")
+}
