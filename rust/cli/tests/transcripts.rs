@@ -52,7 +52,7 @@ fn assert_shown(document: &str, block: &str) {
 }
 
 /// The documents, and how many transcripts they have at least.
-const DOCUMENTS: [(&str, usize); 2] = [("README.md", 9), ("examples/supplier/README.md", 8)];
+const DOCUMENTS: [(&str, usize); 2] = [("README.md", 12), ("examples/supplier/README.md", 8)];
 
 #[test]
 fn documents_show_what_is_printed() {
