@@ -29,6 +29,7 @@ pub mod ForecastHolds
 pub mod Foreseen
 pub mod Holds
 pub mod Theorem
+pub mod RecordsFit
 pub mod CountBytes
 pub mod CallAccepted
 pub mod Unrefused

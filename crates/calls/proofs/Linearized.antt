@@ -8,9 +8,11 @@ use lib.Dec.{ltb}
 use borrow.Author.Tests.{lt-ltb, le-leb, lt-leb}
 use Rattle.base.specs.Choice.{if_then_else_}
 use Rattle.base.specs.Between.{between}
+use Rattle.base.proofs.Cases.{or-false}
 use Rattle.base.proofs.Gather.{gather-split}
 use Rattle.record.specs.declared.AnswerRecord.{AnswerRecord}
 use Rattle.record.specs.declared.Reply.{Reply}
+use Rattle.record.specs.declared.Reply.the-variants.{Nothing}
 use Rattle.record.specs.AnswerRecords.{logBytes}
 use Rattle.tree.specs.declared.Kind.{Kind}
 use Rattle.tree.specs.declared.Kind.the-variants.{Puts, Takes}
@@ -43,7 +45,7 @@ precedes-across x y (z ∷ xs) ys p q = on (same x z) p (λ l. precedes-across x
     on true l ih = rw (lt-ltb 0 (times y (xs ++ ys)) (omega (arith, times-append y xs ys)))
     on false l ih = ih l
 
--- ---- a finished operation's response is what its answer record says
+-- ---- a finished operation's response is what its answer record says, and an unfinished one has none
 finishing-some : (x : OpId) (h : List Event) → isFinished x h ≡ true → 1 ≤ times x (finishing h)
 unfolding finishing isFinished isFinish times
 finishing-some x [] e = absurd (false≢true e)
@@ -55,6 +57,26 @@ finishing-some x (finishes y ∷ h) e = on (same x y) e (finishing-some x h)
         → 1 ≤ (if b then suc (times x (finishing h)) else times x (finishing h))
     on true e ih = omega arith
     on false e ih = ih e
+
+finishing-none : (x : OpId) (h : List Event) → isFinished x h ≡ false → times x (finishing h) ≡ 0
+unfolding finishing isFinished isFinish times
+finishing-none x [] e = refl
+finishing-none x (opens y o ∷ h) e = finishing-none x h e
+finishing-none x (moves y helped ∷ h) e = finishing-none x h e
+finishing-none x (finishes y ∷ h) e = let u = or-false (same x y) (isFinished x h) e in rw (u .0) (finishing-none x h (u .1))
+
+response-none : (s : Shape) (t : List ℕ) (h : List Event) (x : OpId) (xs : List OpId) → times x xs ≡ 0 → response (map (queueRecord s t h) xs) x ≡ Nothing
+unfolding response queueRecord operation times
+response-none s t h x [] l = refl
+response-none s t h x (y ∷ xs) l = on (same x y) l (response-none s t h x xs)
+  where
+    r : Reply
+    r = response (map (queueRecord s t h) xs) x
+
+    on : (b : Bool) → (if b then suc (times x xs) else times x xs) ≡ 0 → (times x xs ≡ 0 → r ≡ Nothing)
+        → (if b then queueAnswer h y [] (rootOperations s t) else r) ≡ Nothing
+    on true l ih = absurd (omega arith)
+    on false l ih = ih l
 
 response-of : (s : Shape) (t : List ℕ) (h : List Event) (x : OpId) (xs : List OpId) → 1 ≤ times x xs
     → response (map (queueRecord s t h) xs) x ≡ queueAnswer h x [] (rootOperations s t)
@@ -124,6 +146,12 @@ module _ {s : Shape} {m : Machine} {c : ℕ → ℕ} {h : List Event} {log : Lis
       ∙ precedes-across x y (upTo (e .cut) (e .within)) (past (e .cut) (e .within)) (omega arith)
       (omega (arith, ap (times y) (order-cut (e .cut) (e .within)), times-append y (upTo (e .cut) (e .within)) (past (e .cut) (e .within))))
 
+  pub answered : (x : OpId) → isFinished x h ≡ true → response log x ≡ queueAnswer h x [] (rootOperations s (m .memory .table))
+  answered x e = ap (λ (l : List AnswerRecord). response l x) (ag .answers) ∙ response-of s t h x (finishing h) (finishing-some x h e)
+
+  pub unanswered : (x : OpId) → isFinished x h ≡ false → response log x ≡ Nothing
+  unanswered x e = ap (λ (l : List AnswerRecord). response l x) (ag .answers) ∙ response-none s t h x (finishing h) (finishing-none x h e)
+
   pub linearizable : Linearizable h log
   linearizable =
       record {
@@ -131,6 +159,6 @@ module _ {s : Shape} {m : Machine} {c : ℕ → ℕ} {h : List Event} {log : Lis
         responded = holds .finishedOnce;
         once = holds .atMostOnce;
         invoked = holds .nothingElse;
-        legal = λ x e. ap (λ (l : List AnswerRecord). response l x) (ag .answers) ∙ response-of s t h x (finishing h) (finishing-some x h e);
+        legal = answered;
         keepsOrder = λ x y e. keeps-order x y (ag .before x y e);
       }

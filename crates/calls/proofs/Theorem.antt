@@ -3,7 +3,7 @@
 use Prim.Native.Nat.{ℕ, _*_, _≤_}
 use native.Mathlib.Omega.{arith}
 use native.Mathlib.Nat.{le-refl}
-use mathlib.Core.Path.{_≡_, refl, ap, sym, _∙_, subst}
+use mathlib.Core.Path.{_≡_, refl, sym, subst}
 use mathlib.Core.Bool.{true, false}
 use mathlib.Core.List.{List}
 use lib.ListN.{length, take, drop}
@@ -11,7 +11,6 @@ use lib.Seq.{take-at}
 use lib.Dec.{eqb}
 use Rattle.base.proofs.Cases.{both}
 use Rattle.record.specs.declared.StepRecord.{StepRecord}
-use Rattle.record.specs.declared.AnswerRecord.{AnswerRecord}
 use Rattle.record.specs.StepRecords.{stepRecords}
 use Rattle.record.specs.AnswerRecords.{answerSize, logBytes}
 use Rattle.record.proofs.Lengths.{log-length}
@@ -21,10 +20,11 @@ use Rattle.steps.specs.Machine.{Machine}
 use Rattle.calls.specs.Refusals.{accepted, callRefusal}
 use Rattle.calls.specs.Numbered.{Numbered, numbered}
 use Rattle.calls.specs.Run.{Played, play, runTurnedDown, runPlayed, run}
-use Rattle.calls.specs.History.{machineAfter, history}
+use Rattle.calls.specs.History.{begunBy, machineAfter, history}
 use Rattle.calls.specs.Demand3.{QueuePromises, Demand3, RunKeeps}
 use Rattle.calls.proofs.Played.{played-machine, played-answers, played-legal}
-use Rattle.calls.proofs.Runs.{Run, runs}
+use Rattle.calls.proofs.Agrees.{Agrees}
+use Rattle.calls.proofs.Runs.{runs}
 use Rattle.calls.proofs.Holds.{kept}
 
 -- ---- general H: every list of records, to its end or up to its first refusal
@@ -35,16 +35,18 @@ module _ (s : Shape) (tall : 1 ≤ s .height) (room : ℕ) (rs : List StepRecord
   abbrev took : List Numbered
   took = numbered (take (g .taken) rs)
 
-  agreed : Run s took
-  agreed = runs s tall (played-legal s room rs)
+  -- history, answers and machine agree
+  pub played-agreed : Agrees s (play s room rs .machine) (λ k. begunBy k (history s (numbered (take (play s room rs .taken) rs)))) (history s (numbered (take (play s room rs .taken) rs)))
+      (play s room rs .answers)
+  played-agreed =
+      subst (λ (x : Machine). Agrees s x (λ k. begunBy k (history s took)) (history s took) (g .answers)) (sym (played-machine s room rs))
+      (subst (Agrees s (machineAfter s took) (λ k. begunBy k (history s took)) (history s took)) (sym (played-answers s room rs)) (runs s tall (played-legal s room rs)))
 
   pub played-kept : QueuePromises s (history s took) (logBytes (g .answers)) (g .machine .memory .table)
-  played-kept =
-      subst (λ (x : Machine). QueuePromises s (history s took) (logBytes (g .answers)) (x .memory .table)) (sym (played-machine s room rs))
-      (subst (λ (l : List AnswerRecord). QueuePromises s (history s took) (logBytes l) (machineAfter s took .memory .table)) (sym (played-answers s room rs)) (kept agreed tall))
+  played-kept = kept played-agreed tall
 
   played-words : length (g .machine .memory .table) ≡ wordsNeeded s
-  played-words = ap (λ (x : Machine). length (x .memory .table)) (played-machine s room rs) ∙ agreed .invariant .sized .words
+  played-words = played-agreed .invariant .sized .words
 
 -- ---- p and L
 -- the tree for p processes has a root above its leaves

@@ -60,7 +60,7 @@ module _ {starts table : List ℕ} {h b : ℕ} (p : ℕ) (e : p ≡ 2 ^ h) where
   root-parts = record { first = root-block Puts; second = root-block Takes; joined = root-kinds }
 
 -- ---- how many bytes
-eight-each : (xs : List Placed) → length (flatMap (λ x. orderBytes (orderRecord x)) xs) ≡ 8 * length xs
+pub eight-each : (xs : List Placed) → length (flatMap (λ x. orderBytes (orderRecord x)) xs) ≡ 8 * length xs
 unfolding flatMap
 eight-each [] = refl
 eight-each (x ∷ xs) =
