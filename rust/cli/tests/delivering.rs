@@ -68,6 +68,43 @@ fn the_most_terms() {
     assert_eq!(told.lines().count(), 501);
 }
 
+/// Exercises in which process 0 puts entries and the others do not, whole and cut, so that takes do not
+/// end: the desk and the order list agree, and the numbers of the puts rise.
+#[test]
+fn made_lists() {
+    for pace in ["uniform", "bursts:20", "lockstep", "stall:C4", "stall:Q"] {
+        let numbers = ["-p", "4", "-L", "20", "--seed", "5", "--pace", pace];
+        let made = written(&[&["make"], &numbers[..]].concat());
+        let lines: Vec<String> = made.lines().enumerate().map(with_own_value).collect();
+        for kept in [lines.len(), lines.len() / 2] {
+            let list = file(
+                &format!("desk-made-{pace}-{kept}.txt"),
+                lines[..kept].join("\n").as_bytes(),
+            );
+            let told = written(&["desk", "--licensed", "0", &list]);
+            let terms = told.lines().filter(|line| line.starts_with("term "));
+            let put_number = |line: &str| line.rsplit(' ').next().and_then(|n| n.parse().ok());
+            let puts: Vec<u32> = terms.filter_map(put_number).collect();
+            assert!(
+                told.ends_with(&format!("\n{} terms\n", puts.len())),
+                "{told}"
+            );
+            assert!(puts.is_sorted_by(|one, next| one < next), "{told}");
+        }
+    }
+}
+
+/// A line in which a put has its line's number as its value, and of process 0 as its term.
+fn with_own_value((index, line): (usize, &str)) -> String {
+    match line.split_once(" by ") {
+        Some((put, process)) if put.starts_with("put ") => {
+            let value = index + if process == "0" { 1 << 31 } else { 0 };
+            format!("put {value} by {process}")
+        }
+        _ => line.to_string(),
+    }
+}
+
 #[test]
 fn raw_terms() {
     let raw = path("terms.bin");

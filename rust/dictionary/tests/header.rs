@@ -42,7 +42,8 @@ fn the_example_in_c_and_cpp() {
     }
 }
 
-/// A program that uses both products: a take of an entry, as an answer of the queue and as a term.
+/// A program that uses both products, and so needs both archives: a take of an entry, as an answer of the
+/// queue and as a term.
 const BOTH: &str = "#include \"dictionary.h\"
 #include \"otq.h\"
 #include <inttypes.h>
