@@ -16,7 +16,7 @@
    address of any object, for the table of a uint32_t, and the length 0. A buffer that is written
    (table, output) overlaps no other buffer of the call; during the call no other thread touches it, and
    none writes the records. Table and output are all that the call writes. The library keeps no
-   pointer, allocates nothing and has no state between calls; a call uses about 112,000 bytes of stack.
+   pointer, allocates nothing and has no state between calls; a call uses about 133,000 bytes of stack.
 
    Records and terms, numbers low byte first, without a header:
    - step record, 8 bytes: process; kind (0 step, 1 begin put, 2 begin take); two zero bytes; value,
