@@ -1,8 +1,8 @@
 //! The library part of `otq`: the text notation of exercises, and the commands.
 //!
 //! All that a command tells of a list is computed by the proved libraries, through `rust/otq` and
-//! `rust/dictionary`. The trace alone is the Rust version's, whose table and answers are compared with
-//! the library's before.
+//! `rust/dictionary`, but for two things, which are compared with them before: the trace is the Rust
+//! version's, and a plain queue tells the put that a term of the desk came from.
 
 mod arguments;
 mod commands;

@@ -88,8 +88,8 @@ fn advice(refusal: Refusal) -> &'static str {
         }
         Refusal::AnswersFull => "Take the line `answers` out of the heading, or lend more bytes.",
         Refusal::OutputShort => {
-            "Lend an output of 8 bytes for each operation; the desk, whose terms are longer than its \
-             output, is enough with 4 for each operation of the licensed process."
+            "Lend an output of 8 bytes for each operation, and for the terms of the desk of 4 bytes for each \
+             operation of the licensed process."
         }
         Refusal::LogTorn => {
             "The log was cut, or is no log. Get it again, or check its whole answers with --whole; \
@@ -437,4 +437,27 @@ fn most_begins(list: &List) -> u32 {
         begins[usize::from(record[0])] += 1;
     }
     begins.into_iter().max().unwrap_or(0)
+}
+
+#[cfg(test)]
+mod tests {
+    use super::Reason;
+    use dictionary::Refusal;
+
+    /// A refusal that the desk shares with the queue is told in the queue's words.
+    #[test]
+    fn the_desk_has_the_words_of_the_queue() {
+        let own = [
+            Refusal::OutputShort,
+            Refusal::Licence,
+            Refusal::ForeignEntry,
+        ];
+        for refusal in Refusal::ALL {
+            let desk = Reason::of_desk(refusal);
+            let queue = otq::Refusal::from_number(refusal.number()).map(Reason::of_queue);
+            let told = |reason: Reason| (reason.meaning, reason.name);
+            let is_shared = queue.map(told) == Some(told(desk));
+            assert_eq!(is_shared, !own.contains(&refusal), "{refusal:?}");
+        }
+    }
 }

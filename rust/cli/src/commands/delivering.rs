@@ -52,7 +52,7 @@ pub fn desk(tool: &mut Tool, given: &Given) -> Result<Status, Failure> {
 }
 
 /// A term that the desk delivered, the take that received it, and the put that it came from.
-struct Delivery {
+struct Delivered {
     term: u32,
     take: Order,
     put: Put,
@@ -67,9 +67,9 @@ struct Put {
     value: u32,
 }
 
-/// The terms of the desk, each with its take and its put. These come from the order list and the
-/// answers of the queue library; if they give other terms than the desk, nothing is shown.
-fn deliveries(list: &List, terms: &[u32]) -> Result<Vec<Delivery>, Failure> {
+/// The terms of the desk, each with its take and its put. These are told by a plain queue that is fed
+/// the library's order list; if it gives the takes that ended other terms than the desk, nothing is shown.
+fn deliveries(list: &List, terms: &[u32]) -> Result<Vec<Delivered>, Failure> {
     let order = list.order()?.expect("the queue takes what the desk takes");
     let order: Vec<Order> = otq::records_of(&order).expect("order records");
     let answers: Vec<Answer> = otq::records_of(&list.answers()).expect("answer records");
@@ -87,7 +87,7 @@ fn deliveries(list: &List, terms: &[u32]) -> Result<Vec<Delivery>, Failure> {
         )));
     }
     let pairs = terms.iter().zip(received);
-    let deliveries = pairs.map(|(&term, (take, put))| Delivery { term, take, put });
+    let deliveries = pairs.map(|(&term, (take, put))| Delivered { term, take, put });
     Ok(deliveries.collect())
 }
 
@@ -121,8 +121,8 @@ fn values(list: &List) -> Vec<Vec<u32>> {
     values
 }
 
-fn print(tool: &mut Tool, deliveries: &[Delivery]) -> Result<(), Failure> {
-    for Delivery { term, take, put } in deliveries {
+fn print(tool: &mut Tool, deliveries: &[Delivered]) -> Result<(), Failure> {
+    for Delivered { term, take, put } in deliveries {
         tool.line(format!(
             "term {term} take {} {} put {} {} {}",
             take.process, take.serial, put.order.process, put.order.serial, put.number
@@ -131,9 +131,9 @@ fn print(tool: &mut Tool, deliveries: &[Delivery]) -> Result<(), Failure> {
     tool.line(count(deliveries.len(), "term"))
 }
 
-fn json(deliveries: &[Delivery], refused: Option<&Refused>) -> Json {
+fn json(deliveries: &[Delivered], refused: Option<&Refused>) -> Json {
     let number = |number: usize| Json::Number(number as u64);
-    let delivery = |Delivery { term, take, put }: &Delivery| {
+    let delivery = |Delivered { term, take, put }: &Delivered| {
         Json::object([
             ("term", Json::Number((*term).into())),
             ("take", ORDER.json(&<[u8; Order::BYTES]>::from(*take))),
@@ -153,20 +153,25 @@ fn json(deliveries: &[Delivery], refused: Option<&Refused>) -> Json {
 
 #[cfg(test)]
 mod tests {
-    use super::{deliveries, Delivery};
+    use super::{deliveries, Delivered};
     use crate::failure::{Failure, Status};
     use crate::list::List;
 
     /// The licensed process puts terms 7 and 8, and a take gets the first.
-    const LIST: &str =
-        "processes 2\nput 2147483655 by 0\nstep 0 x17\nput 2147483656 by 0\nstep 0 x17\n\
-                        take by 1\nstep 1 x17\n";
+    const LIST: &str = "processes 2
+put 2147483655 by 0
+step 0 x17
+put 2147483656 by 0
+step 0 x17
+take by 1
+step 1 x17
+";
 
     #[test]
     fn terms_that_are_not_those_of_the_order_list() {
         let list = List::of_text(LIST);
         let told = |terms: &[u32]| deliveries(&list, terms);
-        let shown: Vec<Delivery> = told(&[7]).expect("the term of the take");
+        let shown: Vec<Delivered> = told(&[7]).expect("the term of the take");
         assert_eq!((shown[0].term, shown[0].put.number), (7, 1));
         for wrong in [&[][..], &[8], &[7, 8]] {
             let Err(Failure { status, message }) = told(wrong) else {
