@@ -53,7 +53,9 @@ enum DeskRefusal {
 #define DESK_STEP_BYTES 8
 #define DESK_TERM_BYTES 4
 
-/* Used by the macros below: a number as a size_t, and the levels of the tree in the table. */
+/* Used by the macros below: the words of a block in the table, a number as a size_t, and the levels of
+   the tree that the table holds. */
+#define DESK_BLOCK_WORDS 7
 #ifdef __cplusplus
 #define DESK_SIZE(number) (static_cast<size_t>(number))
 #else
@@ -65,7 +67,7 @@ enum DeskRefusal {
    have so many words. So many output bytes are enough for every list, since each term is that of a put
    by the licensed process, which has at most l. */
 #define DESK_TABLE_WORDS(p, l) \
-    (7 * (DESK_LEVELS(p) * DESK_SIZE(p) * DESK_SIZE(l) + 2 * DESK_SIZE(p) - 1))
+    (DESK_BLOCK_WORDS * (DESK_LEVELS(p) * DESK_SIZE(p) * DESK_SIZE(l) + 2 * DESK_SIZE(p) - 1))
 #define DESK_MOST_OUTPUT_BYTES(l) (DESK_TERM_BYTES * DESK_SIZE(l))
 
 typedef struct DeskDelivery {
@@ -80,8 +82,9 @@ typedef struct DeskDelivery {
 
    Turned down with 1, 2, 13, 3 or 4, it changes nothing. Otherwise it clears the words needed and plays
    until a record is turned down with 5 to 8 or 14; that record changes nothing and ends the list. With
-   10 all records were played. A refusal writes no output. Output bytes past the terms and table words
-   past those needed keep their content. */
+   10 all records were played. The table is left as the records taken leave it; docs/RULES.md, 3, says what
+   it holds. A refusal writes no output. Output bytes past the terms and table words past those needed
+   keep their content. */
 DeskDelivery desk_deliver(uint32_t p, uint32_t l, uint32_t licensed,
                           const uint8_t *records, size_t records_bytes,
                           uint32_t *table, size_t table_words,

@@ -19,13 +19,13 @@ const WARNINGS: [&str; 6] = [
 ];
 const WARNINGS_CPP: [&str; 1] = ["-Wold-style-cast"];
 
-/// Where a test program has its files, and the libraries whose archives it links.
-pub struct Workshop {
+/// The programs of a test: where their files are, and the libraries whose archives they link.
+pub struct Programs {
     pub folder: PathBuf,
     pub libraries: &'static [&'static str],
 }
 
-impl Workshop {
+impl Programs {
     /// The program of a source file, in the language of the standard.
     pub fn program(&self, standard: &str, source: &Path) -> PathBuf {
         let name = source.file_stem().expect("a file").to_string_lossy();

@@ -84,7 +84,7 @@ pub fn most_output_bytes(p: u32, l: u32) -> Option<usize> {
 /// first.
 ///
 /// A call turned down with 1, 2, 13, 3 or 4 changes nothing. A refused record changes nothing and ends
-/// the list: the table is left as the records before it leave it. With
+/// the list: the table is left as the queue's run of the records before it leaves it. With
 /// [`OutputShort`](Refusal::OutputShort) all records are played. A refusal writes no output, and its
 /// count is 0. Table words past [`table_words`] and output bytes past the terms keep their content.
 ///

@@ -1,7 +1,7 @@
 //! The header for C and C++: the example compiled with it and run, linked with the desk's archive alone
 //! and beside that of the queue, and its numbers and sizes against the Rust functions.
 
-use c_programs::{written, Workshop, STANDARDS};
+use c_programs::{written, Programs, STANDARDS};
 use dictionary::{most_output_bytes, table_words, Refusal, FIRST_ENTRY, TERM_BYTES};
 use std::fs;
 use std::path::{Path, PathBuf};
@@ -25,8 +25,8 @@ fn repository() -> PathBuf {
     Path::new(env!("CARGO_MANIFEST_DIR")).join("../..")
 }
 
-fn workshop(libraries: &'static [&'static str]) -> Workshop {
-    Workshop {
+fn programs(libraries: &'static [&'static str]) -> Programs {
+    Programs {
         folder: PathBuf::from(env!("CARGO_TARGET_TMPDIR")),
         libraries,
     }
@@ -37,7 +37,7 @@ fn the_example_in_c_and_cpp() {
     let example = repository().join("examples/dictionary");
     let expected = fs::read_to_string(example.join("deliver.expected")).expect("a text");
     for standard in STANDARDS {
-        let program = workshop(&["desk"]).program(standard, &example.join("deliver.c"));
+        let program = programs(&["desk"]).program(standard, &example.join("deliver.c"));
         assert_eq!(written(&mut Command::new(program)), expected, "{standard}");
     }
 }
@@ -74,7 +74,7 @@ int main(void)
 fn both_products_in_one_program() {
     let expected = "0 2 7 128\n0 1 7 0\n";
     for libraries in [&["desk", "queue"], &["queue", "desk"]] {
-        workshop(libraries).assert_writes("both.c", BOTH, expected);
+        programs(libraries).assert_writes("both.c", BOTH, expected);
     }
 }
 
@@ -119,5 +119,5 @@ fn numbers_and_sizes() {
             ]);
         }
     }
-    workshop(&[]).assert_constants("dictionary.h", &expected);
+    programs(&[]).assert_constants("dictionary.h", &expected);
 }
