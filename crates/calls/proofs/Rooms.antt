@@ -1,6 +1,6 @@
 -- Room for answers. A run with room for an answer to each operation that its list begins is the run with room for all;
 -- so is one with room for p × L answers. For general H.
-use Prim.Native.Nat.{ℕ, _+_, _*_, _-_, _≤_, _<_}
+use Prim.Native.Nat.{ℕ, _*_, _-_, _≤_, _<_}
 use native.Mathlib.Omega.{arith}
 use native.Mathlib.Nat.{le-refl}
 use mathlib.Core.Path.{_≡_, refl, ap, sym, _∙_, subst}
@@ -147,6 +147,11 @@ module _ (s : Shape) (tall : 1 ≤ s .height) (rs : List StepRecord) where
   all-roomy : playAll s rs ≡ playRoomy s rs
   unfolding playAll answerSize
   all-roomy = begins-roomy s tall (answerSize * length rs) rs (omega (arith, begin-records-most rs))
+
+  -- room for an answer to each record
+  pub more-room : (room : ℕ) → answerSize * length rs ≤ room → play s room rs ≡ playAll s rs
+  unfolding answerSize
+  more-room room h = begins-roomy s tall room rs (omega (arith, begin-records-most rs)) ∙ sym all-roomy
 
   -- room for p × L answers
   pub all-room : (room : ℕ) → answerSize * (processes s * s .most) ≤ room → play s room rs ≡ playAll s rs

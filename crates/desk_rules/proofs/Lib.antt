@@ -1,0 +1,5 @@
+pub mod Rises
+pub mod TwoQueues
+pub mod InOrder
+pub mod Serving
+pub mod Lists
