@@ -2,13 +2,15 @@
 //! says of demand 3. Arguments: `HOW-MANY SEED` for random calls and forecasts; `calls` for the
 //! fixed calls that play records, and among them `between` for those in which operations come
 //! between the reads of another, `helps` for those in which a refresh advances a child's block;
-//! `forecast` for the fixed forecasts; `demand3` for its terms; `long` for more of these that take
-//! the prover long; and `tally FILE ..`, which says how often the rows of these files meet each
-//! number and case and fails if one is never met.
+//! `forecast` for the fixed forecasts; `demand3` for its terms; `desk` for calls of the delivery desk;
+//! `long` for more of these that take the prover long; and `tally FILE ..`, which says how often the
+//! rows of these files meet each number and case and fails if one is never met.
 
 mod call;
 mod decimal;
 mod demand3;
+mod desk;
+mod desk_order;
 mod fixed_bytes;
 mod fixed_calls;
 mod fixed_logs;
@@ -38,10 +40,11 @@ fn main() {
         ["helps"] => print(fixed_calls::helps()),
         ["demand3"] => print(demand3::rows()),
         ["forecast"] => print(forecasts::rows()),
+        ["desk"] => print_desk(desk::rows()),
         ["long"] => print(long()),
         [rows, seed] => print(random_calls::rows(number(rows), number(seed))),
         _ => panic!(
-            "arguments: HOW-MANY SEED, calls, between, helps, demand3, forecast, long, \
+            "arguments: HOW-MANY SEED, calls, between, helps, demand3, forecast, desk, long, \
              or tally FILE .."
         ),
     }
@@ -61,7 +64,21 @@ fn number(argument: &str) -> u64 {
 
 /// The file of the rows.
 fn print(rows: Vec<Row>) {
-    print!("{}", include_str!("head.txt"));
+    print_below(include_str!("head.txt"), rows);
+}
+
+/// The file of the desk's rows. Only these know the desk, which is above the queue's calls.
+fn print_desk(rows: Vec<Row>) {
+    let head = concat!(
+        include_str!("desk_uses.txt"),
+        include_str!("head.txt"),
+        include_str!("desk_head.txt")
+    );
+    print_below(head, rows);
+}
+
+fn print_below(head: &str, rows: Vec<Row>) {
+    print!("{head}");
     for (number, row) in rows.iter().enumerate() {
         print!("{}", row.text(number));
     }

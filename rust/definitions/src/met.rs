@@ -1,13 +1,13 @@
-//! What the rows meet: the numbers and verdicts of the calls, their helps, and the cases of demand
-//! 3's terms.
+//! What the rows meet: the numbers and verdicts of the calls, their helps, the cases of demand 3's
+//! terms, and those of the desk.
 
 use reference::helps::ChildV3;
 use std::fmt;
 
 /// Everything that the rows must meet, by what can meet it. The numbers and verdicts of the calls
 /// are those of document 01, "What each call turns down", and of requests a and b; helps are those
-/// of request e.
-const REQUIRED: [(&str, &[&str]); 12] = [
+/// of request e, and the desk is that of request g.
+const REQUIRED: [(&str, &[&str]); 14] = [
     ("run", &["0", "1", "2", "3", "4", "5", "6", "7", "8", "9"]),
     ("list", &["0", "1", "2", "3", "4", "5", "6", "7", "8", "10"]),
     (
@@ -49,6 +49,26 @@ const REQUIRED: [(&str, &[&str]); 12] = [
     ("operation", &["finished", "placed", "begun", "unopened"]),
     ("own helps", &["0", "1", "more"]),
     ("answer", &["done", "value", "none"]),
+    (
+        "desk",
+        &[
+            "0", "1", "2", "3", "4", "5", "6", "7", "8", "10", "13", "14",
+        ],
+    ),
+    (
+        "delivery",
+        &[
+            "a term",
+            "the first entry",
+            "the last entry",
+            "just below the entries",
+            "takes finish in another order",
+            "an entry of an unfinished take",
+            "a term of an unfinished put",
+            "a term taken by another process",
+            "bytes past the terms",
+        ],
+    ),
 ];
 
 /// How a line of the rows' file begins that lists what a row meets.

@@ -104,7 +104,7 @@ fn insert(call: &mut Call, kind: u8, mut some: impl FnMut(usize) -> usize) {
         .splice(at..at, [process, kind, 0, 0, 0, 0, 0, 0]);
 }
 
-fn pace(random: &mut Random, row: u64) -> Pace {
+pub fn pace(random: &mut Random, row: u64) -> Pace {
     match row % 6 {
         0 => Pace::Uniform,
         1 => Pace::Bursts(12),
@@ -117,7 +117,7 @@ fn pace(random: &mut Random, row: u64) -> Pace {
     }
 }
 
-fn ending(random: &mut Random, p: u32, each: u32) -> Ending {
+pub fn ending(random: &mut Random, p: u32, each: u32) -> Ending {
     match random.below(3) {
         0 => Ending::AllFinish,
         1 => Ending::Abandoned,

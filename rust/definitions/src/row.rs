@@ -18,6 +18,8 @@ pub struct Statement {
     name: &'static str,
     /// The type of a value, or what a theorem says.
     says: String,
+    /// Definitions that the prover computes with besides those of the common head.
+    also: &'static str,
     is: Is,
 }
 
@@ -33,6 +35,7 @@ impl Statement {
         Statement {
             name,
             says: of.to_string(),
+            also: "",
             is: Is::Value(value),
         }
     }
@@ -42,16 +45,28 @@ impl Statement {
         Statement {
             name,
             says: format!("{left} ≡ {right}"),
+            also: "",
             is: Is::Theorem,
         }
     }
 
+    /// The theorem with these definitions too.
+    pub fn with(self, also: &'static str) -> Statement {
+        Statement { also, ..self }
+    }
+
     fn text(&self, own_values: &str) -> String {
-        let Statement { name, says, is } = self;
+        let Statement {
+            name,
+            says,
+            also,
+            is,
+        } = self;
         match is {
             Is::Value(value) => format!("\nunfoldable {name}-# : {says}\n{name}-# = {value}\n"),
             Is::Theorem => {
-                format!("\n{name}-# : {says}\nunfolding {UNFOLDED}{own_values}\n{name}-# = refl\n")
+                let unfolded = format!("{UNFOLDED}{also}{own_values}");
+                format!("\n{name}-# : {says}\nunfolding {unfolded}\n{name}-# = refl\n")
             }
         }
     }

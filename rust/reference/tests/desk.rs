@@ -54,6 +54,13 @@ fn lists_that_are_taken() {
 }
 
 #[test]
+fn terms_have_their_low_byte_first() {
+    let put = List::new().put(0, 0x8403_0201).steps(0, 17);
+    let after = deliver_amply(&call(2, 1, 0, &put.take(1).steps(1, 17).bytes()));
+    assert_eq!(after.bytes[..4], [1, 2, 3, 4]);
+}
+
+#[test]
 fn lists_that_are_refused() {
     for list in refused() {
         let whole = list.records.len() / 8;
