@@ -3,3 +3,4 @@ pub mod TwoQueues
 pub mod InOrder
 pub mod Serving
 pub mod Lists
+pub mod Calls

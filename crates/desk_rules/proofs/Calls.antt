@@ -1,0 +1,196 @@
+-- What the desk leaves, told by what list the order leaves: of the whole list where it has no foreign entry, else of
+-- the list up to and with the first. `order` is an output as long as any list.
+use Prim.Native.Nat.{ℕ, _*_, _≤_, _<_}
+use mathlib.Core.Path.{_≡_, refl, ap, sym, _∙_}
+use mathlib.Core.Logic.{_≢_}
+use mathlib.Core.Bool.{Bool, true, false}
+use mathlib.Core.List.{List, [], _∷_, _++_}
+use lib.ListN.{length, drop}
+use lib.Seq.{append-snoc}
+use borrow.Author.Tests.{le-leb, lt-leb}
+use Rattle.base.specs.Choice.{if_then_else_}
+use Rattle.base.specs.Members.{All}
+use Rattle.record.specs.declared.StepRecord.{StepRecord}
+use Rattle.record.specs.StepRecords.{stepSize, stepRecords}
+use Rattle.record.proofs.Cuts.{records-append}
+use Rattle.tree.specs.Shape.{Shape, shapeFor}
+use Rattle.tree.specs.Layout.{wordsNeeded}
+use Rattle.tree.specs.Memory.{Memory}
+use Rattle.calls.specs.declared.Refusal.{Refusal}
+use Rattle.calls.specs.Refusals.{refusalNumber, accepted, torn, firstRefusal, settingsRefusal, bytesRefusal, bufferRefusal, callRefusal}
+use Rattle.calls.specs.Run.{Played}
+use Rattle.calls.specs.ListOrder.{playAll, ListResult, listed, listOrder}
+use Rattle.calls.proofs.Acceptance.{zero-accepted}
+use Rattle.calls.proofs.CallAccepted.{accepted-whole, whole-records}
+use Rattle.calls.proofs.Theorem.{tall-for}
+use Rattle.calls.proofs.ListLimits.{list-is}
+use Rattle.calls.proofs.Unrefused.{list-accepted, list-played}
+use Rattle.desk_rules.specs.declared.DeskRefusal.{DeskRefusal}
+use Rattle.desk_rules.specs.declared.DeskRefusal.the-variants.{ForeignEntry}
+use Rattle.desk_rules.specs.Entries.{isForeign}
+use Rattle.desk_rules.specs.DeskRefusals.{deskNumber, delivers, byQueue, firstOf, licenceRefusal, deskCallRefusal}
+use Rattle.desk_rules.specs.Desk.{Served, served, serve, DeskResult, sent, deskServed, desk}
+use Rattle.desk_rules.proofs.Lists.{serve-all, foreign-memory, serve-at}
+
+-- a refusal by its number, where nothing is sent
+abbrev pub turnedDown : ℕ → List ℕ → List ℕ → DeskResult
+turnedDown n table output = record { refusal = n; count = 0; table = table; output = output }
+
+sent-none : (n : DeskRefusal) (ts table output : List ℕ) → delivers n ≡ false → sent n ts table output ≡ turnedDown (deskNumber n) table output
+unfolding sent
+sent-none n ts table output e = rw e
+
+-- a list that the queue refuses, at the desk
+served-refused : (s : Shape) (g : Played) (table output : List ℕ) → accepted (g .refusal) ≡ false
+    → deskServed s (served g) table output ≡ turnedDown (refusalNumber (g .refusal)) (g .machine .memory .table ++ drop (wordsNeeded s) table) output
+unfolding deskServed served sent firstOf delivers deskNumber byQueue accepted
+served-refused s g table output e = rw (e, e)
+
+refused-number : (n : Refusal) → refusalNumber n ≢ 0 → accepted n ≡ false
+refused-number n h = not-true-is (accepted n) (λ e. h (zero-accepted n e))
+  where
+    not-true-is : (b : Bool) → (b ≡ true → ⊥) → b ≡ false
+    not-true-is true f = absurd (f refl)
+    not-true-is false f = refl
+
+-- what list the order leaves of a call that is turned down
+list-down : (p l : ℕ) (records table order : List ℕ) → accepted (callRefusal p l (length table) (length records)) ≡ false
+    → listOrder p l records table order ≡ listed (callRefusal p l (length table) (length records)) [] table order
+unfolding listOrder
+list-down p l records table order e = rw e
+
+module _ (p l licensed : ℕ) (records table output : List ℕ) where
+  -- ---- before the table is lent
+  pub desk-settings : accepted (settingsRefusal p l) ≡ false → desk p l licensed records table output ≡ turnedDown (refusalNumber (settingsRefusal p l)) table output
+  unfolding desk sent deskCallRefusal firstOf delivers deskNumber byQueue accepted
+  desk-settings e = rw (e, e)
+
+  pub desk-licence : accepted (settingsRefusal p l) ≡ true → p ≤ licensed → desk p l licensed records table output ≡ turnedDown 13 table output
+  unfolding desk sent deskCallRefusal firstOf delivers deskNumber byQueue accepted licenceRefusal
+  desk-licence e h = rw (e, le-leb p licensed h)
+
+  -- ---- then it is the queue's
+  module _ (settings : accepted (settingsRefusal p l) ≡ true) (low : licensed < p) where
+    abbrev s : Shape
+    s = shapeFor p l
+
+    abbrev n : Refusal
+    n = callRefusal p l (length table) (length records)
+
+    call-is : deskCallRefusal p l licensed (length table) (length records) ≡ byQueue n
+    unfolding deskCallRefusal firstOf delivers deskNumber byQueue accepted licenceRefusal callRefusal firstRefusal refusalNumber
+    call-is = rw (settings, lt-leb p licensed low)
+
+    call-delivers : delivers (byQueue n) ≡ accepted n
+    unfolding delivers deskNumber byQueue accepted
+    call-delivers = refl
+
+    desk-down : accepted n ≡ false → desk p l licensed records table output ≡ turnedDown (refusalNumber n) table output
+    unfolding desk byQueue deskNumber
+    desk-down e = rw (call-is, call-delivers, e) (sent-none (byQueue n) [] table output (call-delivers ∙ e))
+
+    desk-on : accepted n ≡ true → desk p l licensed records table output ≡ deskServed s (serve s licensed (stepRecords records)) table output
+    unfolding desk
+    desk-on e = rw (call-is, call-delivers, e)
+
+    -- refused as a list was
+    abbrev as-listed : ListResult → DeskResult
+    as-listed e = turnedDown (e .refusal) (e .table) output
+
+    -- ---- a list without a foreign entry
+    module _ (order : List ℕ) (long : 8 * (p * l) ≤ length order) (plain : torn stepSize (length records) ≡ false → All (λ r. isForeign licensed r ≡ false) (stepRecords records))
+      where
+        abbrev g : Played
+        g = playAll s (stepRecords records)
+
+        desk-plain : accepted n ≡ true → desk p l licensed records table output ≡ deskServed s (served g) table output
+        desk-plain e =
+            desk-on e
+            ∙ ap (λ (d : Served). deskServed s d table output) (serve-all s (tall-for p l) licensed (stepRecords records) (plain (accepted-whole p l (length table) (length records) e)))
+
+        pub plain-refused : listOrder p l records table order .refusal ≢ 0
+            → desk p l licensed records table output ≡ turnedDown (listOrder p l records table order .refusal) (listOrder p l records table order .table) output
+        unfolding listed
+        plain-refused h = on (accepted n) refl
+          where
+            on : (b : Bool) → accepted n ≡ b
+                → desk p l licensed records table output ≡ turnedDown (listOrder p l records table order .refusal) (listOrder p l records table order .table) output
+            on false e = desk-down e ∙ ap as-listed (sym (list-down p l records table order e))
+            on true e =
+                let is = list-is p l records table order e long in
+                desk-plain e
+                ∙ served-refused s g table output (refused-number (g .refusal) (λ z. h (ap (λ (x : ListResult). x .refusal) is ∙ z)))
+                ∙ ap as-listed (sym is)
+
+        pub plain-delivers : listOrder p l records table order .refusal ≡ 0
+            → desk p l licensed records table output ≡ deskServed (shapeFor p l) (served (playAll (shapeFor p l) (stepRecords records))) table output
+        plain-delivers z = desk-plain (list-accepted p l records table order z)
+
+-- ---- a list whose first foreign entry is the last record of xs, where ys are the bytes after it
+module _ (p l licensed : ℕ) (xs ys table output : List ℕ) (settings : accepted (settingsRefusal p l) ≡ true) (low : licensed < p)
+    (order : List ℕ) (long : 8 * (p * l) ≤ length order) (whole : torn stepSize (length (xs ++ ys)) ≡ false) (whole-first : torn stepSize (length xs) ≡ false)
+    (us : List StepRecord) (r : StepRecord) (cut : stepRecords xs ≡ us ++ (r ∷ [])) (plain : All (λ r. isForeign licensed r ≡ false) us) (foreign : isForeign licensed r ≡ true)
+  where
+    abbrev t : Shape
+    t = shapeFor p l
+
+    abbrev n' : Refusal
+    n' = callRefusal p l (length table) (length xs)
+
+    same-call : callRefusal p l (length table) (length (xs ++ ys)) ≡ n'
+    unfolding callRefusal bufferRefusal bytesRefusal
+    same-call = rw (whole, whole-first)
+
+    records-are : stepRecords (xs ++ ys) ≡ us ++ (r ∷ stepRecords ys)
+    records-are =
+        records-append xs ys (whole-records (length xs) whole-first)
+        ∙ ap (λ (l : List StepRecord). l ++ stepRecords ys) cut
+        ∙ append-snoc us r (stepRecords ys)
+
+    abbrev g' : Played
+    g' = playAll t (stepRecords xs)
+
+    -- what it leaves
+    abbrev ended : Served
+    ended = if accepted (g' .refusal) then record { run = playAll t us; refusal = ForeignEntry } else served g'
+
+    desk-at : accepted n' ≡ true → desk p l licensed (xs ++ ys) table output ≡ deskServed t ended table output
+    desk-at e =
+        desk-on p l licensed (xs ++ ys) table output settings low (ap accepted same-call ∙ e)
+        ∙ ap (λ (rs : List StepRecord). deskServed t (serve t licensed rs) table output) records-are
+        ∙ ap (λ (d : Served). deskServed t d table output) (serve-at t (tall-for p l) licensed us r (stepRecords ys) plain foreign)
+        ∙ ap (λ (rs : List StepRecord). deskServed t (if accepted (playAll t rs .refusal) then record { run = playAll t us; refusal = ForeignEntry } else served (playAll t rs)) table output) (sym cut)
+
+    pub foreign-refused : listOrder p l xs table order .refusal ≢ 0
+        → desk p l licensed (xs ++ ys) table output ≡ turnedDown (listOrder p l xs table order .refusal) (listOrder p l xs table order .table) output
+    unfolding listed
+    foreign-refused h = on (accepted n') refl
+      where
+        left : ListResult → DeskResult
+        left e = turnedDown (e .refusal) (e .table) output
+
+        on : (b : Bool) → accepted n' ≡ b
+            → desk p l licensed (xs ++ ys) table output ≡ turnedDown (listOrder p l xs table order .refusal) (listOrder p l xs table order .table) output
+        on false e =
+            desk-down p l licensed (xs ++ ys) table output settings low (ap accepted same-call ∙ e)
+            ∙ ap (λ (k : Refusal). turnedDown (refusalNumber k) table output) same-call
+            ∙ ap left (sym (list-down p l xs table order e))
+        on true e =
+            let is = list-is p l xs table order e long in
+            let no : accepted (g' .refusal) ≡ false = refused-number (g' .refusal) (λ z. h (ap (λ (x : ListResult). x .refusal) is ∙ z)) in
+            desk-at e
+            ∙ ap (λ (d : Served). deskServed t d table output) (rw no)
+            ∙ served-refused t g' table output no
+            ∙ ap left (sym is)
+
+    pub foreign-found : listOrder p l xs table order .refusal ≡ 0 → desk p l licensed (xs ++ ys) table output ≡ turnedDown 14 (listOrder p l xs table order .table) output
+    unfolding listed deskServed sent firstOf delivers deskNumber
+    foreign-found z =
+        let e = list-accepted p l xs table order z in
+        let is = list-is p l xs table order e long in
+        let found : ended ≡ record { run = playAll t us; refusal = ForeignEntry } = rw (list-played p l xs table order z) in
+        let memory = foreign-memory t (tall-for p l) licensed us r (stepRecords ys) plain foreign in
+        desk-at e
+        ∙ ap (λ (d : Served). deskServed t d table output) found
+        ∙ ap (λ (m : Memory). turnedDown 14 (m .table ++ drop (wordsNeeded t) table) output) (sym memory ∙ ap (λ (rs : List StepRecord). playAll t rs .machine .memory) (sym cut))
+        ∙ ap (λ (x : ListResult). turnedDown 14 (x .table) output) (sym is)
