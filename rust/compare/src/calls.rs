@@ -1,10 +1,11 @@
-//! The calls, each made of the library and of the reference on equal buffers.
+//! The calls, each made of a compiled library and of the reference on equal buffers.
 //!
 //! A call returns what both gave; it panics where they differ.
 
 use crate::buffers::{bytes, words, Buffer};
 use otq::{Refusal, Verdict};
 use reference::check::{self, CheckResult};
+use reference::desk::{self, DeskResult, TERM_BYTES};
 use reference::forecast::{self, ForecastResult};
 use reference::list::{self, ListResult};
 use reference::run::{self, RunResult};
@@ -15,6 +16,13 @@ pub struct Input<'a> {
     pub p: u32,
     pub l: u32,
     pub records: &'a [u8],
+}
+
+/// What the desk left of a call: its result, the terms, and the words lent.
+pub struct Delivered {
+    pub result: DeskResult,
+    pub terms: Vec<u32>,
+    pub table: Vec<u32>,
 }
 
 /// What a call left: its result, the work table, and the answer or output bytes.
@@ -111,6 +119,29 @@ impl Input<'_> {
             check::check_log(p, l, records, log, table)
         });
         same(found, expected, told).result
+    }
+
+    /// The desk with this process licensed, on a table and an output of these lengths.
+    pub fn deliver(self, licensed: u32, table: usize, output: usize) -> Delivered {
+        let Input { p, l, records } = self;
+        let told = || self.told(&format!("deliver, {licensed} licensed"), table, output);
+        let found = left_of(table, output, |table, output| {
+            let delivery = dictionary::deliver(p, l, licensed, records, table, output);
+            DeskResult {
+                refusal: delivery.refusal.map_or(0, dictionary::Refusal::number),
+                count: delivery.count,
+            }
+        });
+        let expected = left_of(table, output, |table, output| {
+            desk::deliver(p, l, licensed, records, table, output)
+        });
+        let mut left = same(found, expected, told);
+        let sent = TERM_BYTES * left.result.count as usize;
+        Delivered {
+            result: left.result,
+            terms: desk::terms_sent(&left.bytes.lent()[..sent]),
+            table: left.table.lent().to_vec(),
+        }
     }
 
     /// The forecast; the records are begins.

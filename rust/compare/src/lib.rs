@@ -1,7 +1,8 @@
-//! Compares the compiled library with the reference: results, every table word and every byte, those
+//! Compares the compiled libraries with the reference: results, every table word and every byte, those
 //! that must keep their content included.
 
 pub mod buffers;
 pub mod calls;
+pub mod desk;
 pub mod forecasts;
 pub mod random_calls;

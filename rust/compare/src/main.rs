@@ -1,7 +1,7 @@
-//! compare RECORDS [SEED]: compares the compiled library with the reference on random and hostile
+//! compare RECORDS [SEED]: compares the compiled libraries with the reference on random and hostile
 //! lists until so many records were played. It ends with a panic at the first difference. Last it
 //! tells what was never met, as some numbers and verdicts are not where records are few. If no help
-//! was met, helps were not compared, and it fails.
+//! or no term of the desk was met, these were not compared, and it fails.
 
 use compare::random_calls::{compare, of_each_p};
 use reference::demand3::step_limit;
@@ -15,6 +15,7 @@ fn main() -> ExitCode {
     let numbers: Option<Vec<u64>> = words.iter().map(|word| word.parse().ok()).collect();
     let message = match numbers.as_deref() {
         _ if !otq::BUILT => otq::NOT_BUILT,
+        _ if !dictionary::BUILT => dictionary::NOT_BUILT,
         Some(&[records]) => return compare_records(records, 1),
         Some(&[records, seed]) => return compare_records(records, seed),
         _ => "usage: compare RECORDS [SEED], such as compare 10000000",
@@ -52,13 +53,19 @@ fn compare_records(records: u64, seed: u64) -> ExitCode {
     );
     println!("most helps: {}", of_each_p(tally.most_helps, help_limit));
     println!("{}", tally.forecasts);
+    println!("{}", tally.deliveries);
     let never = tally.never_met();
     if !never.is_empty() {
         println!("never met: {}", never.join(", "));
     }
-    if !tally.helps_met() {
-        eprintln!("no help was met, so helps were not compared: play more records");
-        return ExitCode::FAILURE;
+    for (what, is_met) in [
+        ("help", tally.helps_met()),
+        ("term", tally.deliveries.terms_met()),
+    ] {
+        if !is_met {
+            eprintln!("no {what} was met, so {what}s were not compared: play more records");
+            return ExitCode::FAILURE;
+        }
     }
     ExitCode::SUCCESS
 }

@@ -1,6 +1,7 @@
 //! Random calls, for as many records as one wants.
 
 use crate::calls::Input;
+use crate::desk::Deliveries;
 use crate::forecasts::Forecasts;
 use otq::{most_answer_bytes, most_order_bytes, table_words};
 use reference::hostile::{below, harm_list, harm_log};
@@ -24,6 +25,7 @@ pub struct Tally {
     pub most_steps: [u8; 3],
     pub most_helps: [u8; 3],
     pub forecasts: Forecasts,
+    pub deliveries: Deliveries,
 }
 
 /// Compares calls on random lists until so many records were played. After each list `told` is
@@ -53,6 +55,8 @@ impl Tally {
         self.compare_runs(random, input);
         self.compare_lists(random, input);
         self.forecasts.compare_hostile(random);
+        self.deliveries.compare_list(random, &plan);
+        self.deliveries.compare_short(random);
     }
 
     /// What no call gave, though one can.
@@ -66,6 +70,7 @@ impl Tally {
         let helps = helps.map(|(p, most)| (format!("helps with p = {p}"), most.into()));
         let all = calls.chain(verdicts).chain(helps);
         let all = all.chain(self.forecasts.met());
+        let all = all.chain(self.deliveries.met());
         let never = all.filter(|&(_, times)| times == 0);
         never.map(|(what, _)| what).collect()
     }
@@ -127,13 +132,17 @@ pub fn of_each_p(most: [u8; 3], limit: fn(Shape) -> u32) -> String {
 }
 
 fn random_plan(random: &mut Random) -> Plan {
-    let p = random.pick(&[2, 4, 8]);
     let l = match random.below(8) {
         0..=3 => 1 + random.below(4),
         4 | 5 => 1 + random.below(30),
         6 => 1 + random.below(150),
         _ => random.pick(&[499, 500]),
     };
+    random_plan_of(random, l)
+}
+
+pub fn random_plan_of(random: &mut Random, l: u32) -> Plan {
+    let p = random.pick(&[2, 4, 8]);
     // A whole list at the largest p and L has some 230,000 records, so most are cut.
     let cut = Ending::Cut(1 + random.below(20_000) as usize);
     let ending = match random.below(4) {
@@ -175,12 +184,12 @@ fn or_other(random: &mut Random, number: u32) -> u32 {
 }
 
 /// Words needed, or some number where p or l is turned down.
-fn needed(input: Input) -> usize {
+pub fn needed(input: Input) -> usize {
     table_words(input.p, input.l).unwrap_or(100)
 }
 
 /// The length of a table: what is needed, more, or in few cases less.
-fn table(random: &mut Random, input: Input) -> usize {
+pub fn table(random: &mut Random, input: Input) -> usize {
     let needed = needed(input);
     match random.below(32) {
         0 => needed - 1,
@@ -191,7 +200,7 @@ fn table(random: &mut Random, input: Input) -> usize {
 }
 
 /// A length near the one that is needed, or any below it.
-fn near(random: &mut Random, length: usize) -> usize {
+pub fn near(random: &mut Random, length: usize) -> usize {
     match random.below(4) {
         0 => below(random, length),
         1 => length,

@@ -1,11 +1,12 @@
 //! Runs of the compiled library in which other words stand in the table while a chosen record is
-//! played. All `unsafe` of these tests is here.
+//! played.
 //!
 //! The records stand in pages that may not be read, so that each load of a record faults before
 //! its step is played. The handler restores the table if it was changed for another record, changes
 //! it if this record is a chosen one, opens the pages and sets the processor's trap flag. So a trap
 //! follows the load, and its handler closes the pages again.
 
+use crate::pages::{Access, Pages};
 use compare::calls::Input;
 use reference::records::STEP_RECORD_BYTES;
 use reference::run::RunResult;
@@ -17,12 +18,6 @@ use std::sync::atomic::{AtomicPtr, AtomicUsize, Ordering::SeqCst};
 use std::sync::{Mutex, PoisonError};
 
 // Numbers and layouts of Linux on x86-64 with glibc.
-const PAGE: usize = 4096;
-const PROT_NONE: i32 = 0;
-const PROT_READ: i32 = 1;
-const PROT_WRITE: i32 = 2;
-const MAP_PRIVATE: i32 = 0x02;
-const MAP_ANONYMOUS: i32 = 0x20;
 const SIGTRAP: i32 = 5;
 const SIGSEGV: i32 = 11;
 const SIG_DFL: usize = 0;
@@ -63,9 +58,6 @@ struct Ran {
 }
 
 extern "C" {
-    fn mmap(at: *mut u8, length: usize, prot: i32, flags: i32, file: i32, from: i64) -> *mut u8;
-    fn mprotect(at: *mut u8, length: usize, prot: i32) -> i32;
-    fn munmap(at: *mut u8, length: usize) -> i32;
     fn sigaction(signal: i32, new: *const Action, old: *mut Action) -> i32;
     fn raise(signal: i32) -> i32;
     fn write(file: i32, bytes: *const u8, count: usize) -> isize;
@@ -104,8 +96,7 @@ pub struct Changes {
 
 /// What the handlers need. They allocate nothing, so all room is here from the start.
 struct Guarded {
-    pages: *mut u8,
-    length: usize,
+    pages: Pages,
     table: *mut u32,
     /// By record.
     others: BTreeMap<usize, Other>,
@@ -156,8 +147,8 @@ impl Guarded {
         }
     }
 
-    unsafe fn protect(&self, prot: i32) {
-        if mprotect(self.pages, self.length, prot) != 0 {
+    unsafe fn allow(&self, access: Access) {
+        if !self.pages.allow(access, 0, self.pages.length()) {
             // The same load would fault for ever.
             abort();
         }
@@ -178,7 +169,7 @@ unsafe extern "C" fn on_fault(signal: i32, fault: *const Fault, context: *mut Co
     }
     let run = &mut *RUN.load(SeqCst);
     run.comes((address - start) / STEP_RECORD_BYTES);
-    run.protect(PROT_READ);
+    run.allow(Access::Read);
     (*context).flags |= TRAP_FLAG;
 }
 
@@ -190,7 +181,7 @@ unsafe extern "C" fn on_trap(signal: i32, _: *const Fault, context: *mut Context
         raise(signal);
         return;
     }
-    (*RUN.load(SeqCst)).protect(PROT_NONE);
+    (*RUN.load(SeqCst)).allow(Access::Closed);
     (*context).flags &= !TRAP_FLAG;
 }
 
@@ -210,25 +201,23 @@ unsafe fn handle(signal: i32, handler: usize) -> Action {
 }
 
 /// Pages that hold the records.
-unsafe fn pages_of(records: &[u8], length: usize) -> *mut u8 {
-    let (prot, flags) = (PROT_READ | PROT_WRITE, MAP_PRIVATE | MAP_ANONYMOUS);
-    let pages = mmap(null_mut(), length, prot, flags, -1, 0);
-    assert_ne!(pages as isize, -1, "no memory for the records");
-    copy_nonoverlapping(records.as_ptr(), pages, records.len());
+unsafe fn pages_of(records: &[u8]) -> Pages {
+    let pages = Pages::new(records.len());
+    copy_nonoverlapping(records.as_ptr(), pages.start(), records.len());
     pages
 }
 
 /// A call while the pages are closed; the former handlers are back after it.
 unsafe fn with_closed_pages(run: *mut Guarded, call: impl FnOnce() -> Ran) -> Ran {
-    let start = (*run).pages as usize;
+    let start = (*run).pages.start() as usize;
     START.store(start, SeqCst);
-    END.store(start + (*run).length, SeqCst);
+    END.store(start + (*run).pages.length(), SeqCst);
     RUN.store(run, SeqCst);
     let former = [
         (SIGSEGV, handle(SIGSEGV, on_fault as *const () as usize)),
         (SIGTRAP, handle(SIGTRAP, on_trap as *const () as usize)),
     ];
-    (*run).protect(PROT_NONE);
+    (*run).allow(Access::Closed);
     let ran = call();
     for (signal, action) in former {
         sigaction(signal, &action, null_mut());
@@ -250,17 +239,15 @@ pub fn run(
     let Input { p, l, records } = input;
     let (words, bytes, room) = (table.len(), answers.as_mut_ptr(), answers.len());
     assert!(others.values().all(|other| other.words.len() == words));
-    let length = records.len().next_multiple_of(PAGE).max(PAGE);
     let lock = ONE_AT_A_TIME.lock();
     let _only = lock.unwrap_or_else(PoisonError::into_inner);
     // SAFETY: pages and buffers outlive the call. During it they are used by `otq_run` alone and by
     // the handlers, which interrupt it in this thread.
     unsafe {
-        let pages = pages_of(records, length);
-        let table = table.as_mut_ptr();
+        let pages = pages_of(records);
+        let (first, table) = (pages.start(), table.as_mut_ptr());
         let run = Box::into_raw(Box::new(Guarded {
             pages,
-            length,
             table,
             others,
             under: None,
@@ -269,9 +256,8 @@ pub fn run(
             changes: Changes::default(),
         }));
         let ran = with_closed_pages(run, || {
-            otq_run(p, l, pages, records.len(), table, words, bytes, room)
+            otq_run(p, l, first, records.len(), table, words, bytes, room)
         });
-        munmap(pages, length);
         (result_of(ran), Box::from_raw(run).changes)
     }
 }

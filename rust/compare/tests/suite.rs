@@ -1,8 +1,10 @@
-//! The compiled library, its header and the printing program against the reference, one file for each
-//! topic.
+//! The compiled libraries, the queue's header and the printing program against the reference, one file for
+//! each topic.
 
 mod block_numbers;
 mod c3_words;
+mod desk;
+mod desk_lent;
 mod forecasts;
 mod guarded;
 mod header;
@@ -11,6 +13,7 @@ mod known_runs;
 mod lengths;
 mod logs;
 mod numbers;
+mod pages;
 mod printing;
 mod random;
 mod records;

@@ -2,8 +2,10 @@
 
 use compare::calls::Input;
 use otq::{most_answer_bytes, most_order_bytes, table_words};
+use reference::desk_calls::DeskCall;
 use reference::forecast::begins_of;
 use reference::hostile::ill_formed;
+use reference::random::Random;
 use reference::schedules::{schedule, Pace, Plan};
 use std::path::{Path, PathBuf};
 
@@ -14,6 +16,12 @@ pub fn repository() -> PathBuf {
 /// A list in which all operations of all processes finish, in short bursts.
 pub fn mixed_list(p: u32, l: u32, seed: u64) -> Vec<u8> {
     schedule(&Plan::new(p, l, Pace::Bursts(9), seed))
+}
+
+/// The same with values for the desk, which takes every record.
+pub fn desk_list(p: u32, l: u32, seed: u64) -> DeskCall {
+    let plan = Plan::new(p, l, Pace::Bursts(9), seed);
+    DeskCall::proper(&mut Random::new(seed), &plan)
 }
 
 pub fn needed(p: u32, l: u32) -> usize {
