@@ -1,0 +1,5 @@
+pub mod FirstRecords
+pub mod BeforeForeign
+pub mod Entered
+pub mod Collected
+pub mod Sent

@@ -1,0 +1,3 @@
+-- What contracts of functions say in their own terms. Proofs use it; no exported promise names it.
+pub mod Foreign
+pub mod Slots
