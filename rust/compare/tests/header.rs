@@ -1,12 +1,12 @@
 //! The header for C and C++: the worked example compiled with it and run, and its numbers and sizes
 //! against the Rust functions.
 
+use crate::support::{needed, repository};
+use c_programs::{written, Programs};
 use otq::{most_answer_bytes, most_order_bytes, Block, Refusal};
 use std::fs;
-use std::path::{Path, PathBuf};
+use std::path::PathBuf;
 use std::process::Command;
-
-use crate::support::{needed, repository};
 
 const REFUSALS: [(&str, Refusal); 12] = [
     ("OTQ_PROCESSES", Refusal::Processes),
@@ -35,73 +35,16 @@ const BLOCK: [(&str, usize); 8] = [
     ("OTQ_BLOCK_NUMBER", 6),
 ];
 
-/// A file of these tests.
-fn scratch(name: &str) -> PathBuf {
-    PathBuf::from(env!("CARGO_TARGET_TMPDIR")).join(name)
-}
-
-/// Warnings of both languages, and of C++ alone.
-const WARNINGS: [&str; 6] = [
-    "-Wall",
-    "-Wextra",
-    "-Wconversion",
-    "-Wsign-conversion",
-    "-Werror",
-    "-pedantic",
-];
-const WARNINGS_CPP: [&str; 1] = ["-Wold-style-cast"];
-
-/// gcc or g++ with the header, and warnings as errors.
-fn compiler(standard: &str) -> Command {
-    let (name, more) = match standard.starts_with("c++") {
-        true => ("g++", &WARNINGS_CPP[..]),
-        false => ("gcc", &[][..]),
-    };
-    let mut compiler = Command::new(name);
-    compiler.arg(format!("-std={standard}"));
-    compiler.args(WARNINGS).args(more);
-    compiler.arg("-I").arg(repository().join("include"));
-    compiler
-}
-
-/// What the program writes; it must succeed.
-fn written(command: &mut Command) -> String {
-    let output = command.output().expect("the program starts");
-    let said = String::from_utf8_lossy(&output.stderr);
-    assert!(output.status.success(), "{command:?}\n{said}");
-    String::from_utf8(output.stdout).expect("text")
-}
-
-/// The program of a source that is compiled and linked with the archive.
-fn program(standard: &str, source: &Path) -> PathBuf {
-    let language = if standard.starts_with("c++") {
-        "c++"
-    } else {
-        "c"
-    };
-    let name = source.file_stem().expect("a file").to_string_lossy();
-    let program = scratch(&format!("{name}-{standard}"));
-    let mut compile = compiler(standard);
-    compile.args(["-x", language]).arg(source);
-    compile.args(["-x", "none"]);
-    compile.arg(repository().join("target/staticlib/libqueue.a"));
-    written(compile.arg("-o").arg(&program));
-    program
-}
-
-/// The program of this source writes this, in both languages.
-fn assert_writes(name: &str, source: &str, expected: &str) {
-    let file = scratch(name);
-    fs::write(&file, source).expect("the file is written");
-    for standard in ["c99", "c++11"] {
-        let program = program(standard, &file);
-        assert_eq!(written(&mut Command::new(program)), expected);
+fn programs() -> Programs {
+    Programs {
+        folder: PathBuf::from(env!("CARGO_TARGET_TMPDIR")),
+        libraries: &["queue"],
     }
 }
 
 fn assert_worked(standard: &str) {
     let example = repository().join("examples/c");
-    let program = program(standard, &example.join("worked.c"));
+    let program = programs().program(standard, &example.join("worked.c"));
     let expected = fs::read_to_string(example.join("worked.expected")).expect("a text");
     assert_eq!(written(&mut Command::new(program)), expected);
 }
@@ -137,7 +80,7 @@ fn macros_and_texts() {
     let texts = REFUSALS.map(|(_, refusal)| format!("{refusal}\n"));
     let texts = texts.concat();
     let expected = format!("1 1 1\nnothing is refused\n{texts}no refusal has this number\n");
-    assert_writes("user.c", USER, &expected);
+    programs().assert_writes("user.c", USER, &expected);
 }
 
 /// Each outcome of a forecast, field by field.
@@ -174,7 +117,7 @@ fn forecasts() {
     let foreseen = "0 49 32 84\n0 2065 32 164\n0 112105 0 0\n";
     let refused = [1, 2, 4, 5, 12, 8].map(|number| format!("{number} 0 0 0\n"));
     let expected = format!("{foreseen}{}", refused.concat());
-    assert_writes("forecaster.c", FORECASTER, &expected);
+    programs().assert_writes("forecaster.c", FORECASTER, &expected);
 }
 
 /// A put of 7 by process 0, p = 2 and L = 1: the words of the root's block 1, by name, and of the leaf's.
@@ -202,7 +145,7 @@ int main(void)
 
 #[test]
 fn words_of_a_block() {
-    assert_writes("reader.c", READER, "1 0 0 1 0 1 16\n1 0 1 7 0 0 2\n");
+    programs().assert_writes("reader.c", READER, "1 0 0 1 0 1 16\n1 0 1 7 0 0 2\n");
 }
 
 #[test]
@@ -236,12 +179,5 @@ fn numbers_and_sizes() {
             ]);
         }
     }
-    // An array of a negative length does not compile.
-    let lines = expected.iter().enumerate().map(|(index, (name, number))| {
-        format!("typedef char equal_{index}[({name}) == {number} ? 1 : -1];\n")
-    });
-    let source = format!("#include \"otq.h\"\n{}", lines.collect::<String>());
-    let file = scratch("numbers_and_sizes.c");
-    fs::write(&file, source).expect("the file is written");
-    written(compiler("c99").arg("-fsyntax-only").arg(&file));
+    programs().assert_constants("otq.h", &expected);
 }

@@ -167,8 +167,15 @@ fn assert_refuses(number: u32, call: &DeskCall, words: usize) {
     assert_eq!(after.bytes, pattern_bytes(64), "{told}");
 }
 
-/// What the tests of records find, torn records, and what none finds.
-const LISTS: [&[u8]; 5] = [&[], &[1], &[255; 9], &[255; 8], &[1, 1, 0, 0, 0, 0, 0, 128]];
+/// What the tests of records find, whole and torn, and what none finds.
+const LISTS: [&[u8]; 6] = [
+    &[],
+    &[1],
+    &[255; 9],
+    &[255; 8],
+    &[1, 1, 0, 0, 0, 0, 0, 128],
+    &[1, 1, 0, 0, 0, 0, 0, 128, 0],
+];
 
 #[test]
 fn numbers_1_and_2_before_all_others() {
