@@ -3,7 +3,7 @@
 //! tells what was never met, as some numbers and verdicts are not where records are few. If no help
 //! or no term of the desk was met, these were not compared, and it fails.
 
-use compare::random_calls::{compare, of_each_p};
+use compare::random_calls::{compare, of_each_p, Tally};
 use reference::demand3::step_limit;
 use reference::helps::help_limit;
 use std::io::{stderr, Write};
@@ -45,6 +45,22 @@ fn compare_records(records: u64, seed: u64) -> ExitCode {
         tally.lists,
         began.elapsed().as_secs()
     );
+    tell(&tally);
+    let needed = [
+        ("help", tally.helps_met()),
+        ("term", tally.deliveries.terms_met()),
+    ];
+    for (what, _) in needed.iter().filter(|(_, is_met)| !is_met) {
+        eprintln!("no {what} was met, so {what}s were not compared: play more records");
+    }
+    match needed.iter().all(|&(_, is_met)| is_met) {
+        true => ExitCode::SUCCESS,
+        false => ExitCode::FAILURE,
+    }
+}
+
+/// What was met, and what was not.
+fn tell(tally: &Tally) {
     println!("calls by refusal number, from 0: {:?}", tally.refusals);
     println!("verdicts same, differs, refused: {:?}", tally.verdicts);
     println!(
@@ -58,14 +74,4 @@ fn compare_records(records: u64, seed: u64) -> ExitCode {
     if !never.is_empty() {
         println!("never met: {}", never.join(", "));
     }
-    for (what, is_met) in [
-        ("help", tally.helps_met()),
-        ("term", tally.deliveries.terms_met()),
-    ] {
-        if !is_met {
-            eprintln!("no {what} was met, so {what}s were not compared: play more records");
-            return ExitCode::FAILURE;
-        }
-    }
-    ExitCode::SUCCESS
 }

@@ -107,7 +107,7 @@ fn accept_licensed(
 }
 
 /// Plays up to the first record that the desk refuses, with room for every answer.
-pub fn play_licensed(shape: Shape, licensed: u32, records: &[u8]) -> Played<DeskRefusal> {
+fn play_licensed(shape: Shape, licensed: u32, records: &[u8]) -> Played<DeskRefusal> {
     play_by(shape, records, |machine, bytes, _| {
         test_licensed(machine, licensed, bytes)
     })

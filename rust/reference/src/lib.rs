@@ -9,6 +9,7 @@ pub mod check;
 pub mod demand3;
 pub mod desk;
 pub mod desk_calls;
+pub mod desk_cases;
 pub mod desk_lists;
 pub mod desk_order;
 pub mod forecast;

@@ -6,7 +6,8 @@ use crate::support::{
 };
 use reference::desk::{term_bytes, DeskResult, FIRST_ENTRY};
 use reference::desk_calls::DeskCall;
-use reference::desk_order::{takes_received, terms_in_order, DESK_CASES};
+use reference::desk_cases::DESK_CASES;
+use reference::desk_order::{takes_received, terms_in_order};
 use reference::random::Random;
 use reference::records::{Answer, Outcome, ANSWER_RECORD_BYTES, STEP_RECORD_BYTES};
 use reference::schedules::{Pace, Plan};
