@@ -31,6 +31,17 @@ listed-as n list table output h = on (accepted n) refl
     on true e = rw (e, le-ltb (length output) (length list) h) (ap (λ (k : ℕ). record { refusal = k; length = length list; table = table; output = list ++ drop (length list) output }) (sym (zero-accepted n e)))
     on false e = rw (e, e)
 
+pub list-fits : (p l : ℕ) (records : List ℕ) (words : ℕ) → accepted (callRefusal p l words (length records)) ≡ true
+    → length (orderList (shapeFor p l) (playAll (shapeFor p l) (stepRecords records) .machine .memory .table)) ≤ 8 * (p * l)
+unfolding shapeFor playAll
+list-fits p l records words ok =
+    omega (
+      arith,
+      order-few (played-agreed (shapeFor p l) (tall-for p l) (answerSize * length (stepRecords records)) (stepRecords records)) (tall-for p l),
+      mul-comm l (processes (shapeFor p l)),
+      ap (λ (k : ℕ). k * l) (allowed-width p l (accepted-processes p l words (length records) ok)),
+    )
+
 module _ (p l : ℕ) (records table output : List ℕ) (ok : accepted (callRefusal p l (length table) (length records)) ≡ true) (long : 8 * (p * l) ≤ length output) where
   abbrev s : Shape
   s = shapeFor p l
@@ -41,16 +52,6 @@ module _ (p l : ℕ) (records table output : List ℕ) (ok : accepted (callRefus
   abbrev list : List ℕ
   list = orderList s (g .machine .memory .table)
 
-  pub list-fits : length (orderList (shapeFor p l) (playAll (shapeFor p l) (stepRecords records) .machine .memory .table)) ≤ 8 * (p * l)
-  unfolding shapeFor playAll
-  list-fits =
-      omega (
-        arith,
-        order-few (played-agreed s (tall-for p l) (answerSize * length (stepRecords records)) (stepRecords records)) (tall-for p l),
-        mul-comm l (processes s),
-        ap (λ (k : ℕ). k * l) (allowed-width p l (accepted-processes p l (length table) (length records) ok)),
-      )
-
   pub list-is : listOrder p l records table output ≡ listed (g .refusal) list (g .machine .memory .table ++ drop (wordsNeeded s) table) output
   unfolding listOrder listPlayed
-  list-is = rw ok (listed-as (g .refusal) list (g .machine .memory .table ++ drop (wordsNeeded s) table) output (omega (arith, list-fits, long)))
+  list-is = rw ok (listed-as (g .refusal) list (g .machine .memory .table ++ drop (wordsNeeded s) table) output (omega (arith, list-fits p l records (length table) ok, long)))

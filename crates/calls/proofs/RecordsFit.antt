@@ -5,7 +5,7 @@ use native.Mathlib.Omega.{arith}
 use mathlib.Core.Path.{_≡_, ap, sym, subst}
 use mathlib.Core.Logic.{inr}
 use mathlib.Core.Bool.{true}
-use mathlib.Core.List.{List, [], _∷_, map}
+use mathlib.Core.List.{List, [], _∷_, _++_, map}
 use lib.ListN.{length, getD, take, drop}
 use lib.IntN.{ℤ, pos, negsuc}
 use Rattle.base.specs.Members.{All}
@@ -57,6 +57,12 @@ take-below b zero j t h f = h
 take-below b (suc n) j [] h f = h
 take-below b (suc n) zero (x ∷ t) h f = f 0
 take-below b (suc n) (suc j) (x ∷ t) h f = take-below b n j t h (λ i. f (suc i))
+
+-- the first words of a longer table
+pub first-below : (b : ℕ) (t rest : List ℕ) → 0 < b → ((i : ℕ) → getD (t ++ rest) i 0 < b) → (i : ℕ) → getD t i 0 < b
+first-below b [] rest h f i = h
+first-below b (x ∷ t) rest h f zero = f 0
+first-below b (x ∷ t) rest h f (suc i) = first-below b t rest h (λ j. f (suc j)) i
 
 module _ (s : Shape) (t : List ℕ) (fits : (i : ℕ) → getD t i 0 < 2 ^ 32) where
   value-fits : (x : OpId) → valueOf s t x < 2 ^ 32

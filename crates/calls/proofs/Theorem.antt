@@ -45,7 +45,7 @@ module _ (s : Shape) (tall : 1 ≤ s .height) (room : ℕ) (rs : List StepRecord
   pub played-kept : QueuePromises s (history s took) (logBytes (g .answers)) (g .machine .memory .table)
   played-kept = kept played-agreed tall
 
-  played-words : length (g .machine .memory .table) ≡ wordsNeeded s
+  pub played-words : length (play s room rs .machine .memory .table) ≡ wordsNeeded s
   played-words = played-agreed .invariant .sized .words
 
 -- ---- p and L

@@ -46,7 +46,7 @@ served-refused : (s : Shape) (g : Played) (table output : List ℕ) → accepted
 unfolding deskServed served sent firstOf delivers deskNumber byQueue accepted
 served-refused s g table output e = rw (e, e)
 
-refused-number : (n : Refusal) → refusalNumber n ≢ 0 → accepted n ≡ false
+pub refused-number : (n : Refusal) → refusalNumber n ≢ 0 → accepted n ≡ false
 refused-number n h = not-true-is (accepted n) (λ e. h (zero-accepted n e))
   where
     not-true-is : (b : Bool) → (b ≡ true → ⊥) → b ≡ false

@@ -4,3 +4,5 @@ pub mod InOrder
 pub mod Serving
 pub mod Lists
 pub mod Calls
+pub mod Delivering
+pub mod DeskOrder

@@ -25,7 +25,7 @@ module _ (s : Shape) (room licensed : ℕ) where
   play-over : (g : Played) (r : StepRecord) → accepted (g .refusal) ≡ false → playRecord s room g r ≡ g
   play-over g r e = over-stays s room g e (r ∷ [])
 
-  serve-plain : (g : Played) (r : StepRecord) → isForeign licensed r ≡ false → serveRecord s room licensed (served g) r ≡ served (playRecord s room g r)
+  pub serve-plain : (g : Played) (r : StepRecord) → isForeign licensed r ≡ false → serveRecord s room licensed (served g) r ≡ served (playRecord s room g r)
   unfolding serveRecord served
   serve-plain g r e = on (accepted (g .refusal)) refl
     where

@@ -27,7 +27,7 @@ pub record Fitting (a : AnswerRecord) : Type 0 where
   pub serial : a .serial < 2 ^ 32
   pub block : a .block < 2 ^ 32
 
-number-back : (n x : ℕ) → x < 256 ^ n → numberOf (bytesOf n x) ≡ x
+pub number-back : (n x : ℕ) → x < 256 ^ n → numberOf (bytesOf n x) ≡ x
 unfolding bytesOf numberOf
 number-back zero x h = omega arith
 number-back (suc n) x h = omega (arith, number-back n (x / 256) (omega (arith, pow-succ' 256 n)))
