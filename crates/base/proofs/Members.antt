@@ -1,12 +1,27 @@
--- What holds of every member of two lists holds of those of both; and the members of the list of numbers between two
--- numbers are these numbers.
+-- What holds of every member of a list: of those of two lists, of what they are mapped to, of the i-th; and the members
+-- of the list of numbers between two numbers are these numbers.
 use Prim.Native.Nat.{ℕ, zero, suc, _+_, _≤_, _<_}
+use native.Mathlib.Nat.{not-suc-le-zero}
 use native.Mathlib.Omega.{arith}
 use native.Mathlib.Decide.{ℕ-discrete}
 use mathlib.Core.Path.{_≡_, sym, subst}
-use mathlib.Core.List.{List, [], _∷_, _++_}
+use mathlib.Core.List.{List, [], _∷_, _++_, map}
+use lib.ListN.{length, getD}
 use Rattle.base.specs.Between.{following, between}
 use Rattle.base.specs.Members.{All}
+
+pub all-map : {A : Type 0} {P Q : A → Type 0} (xs : List A) → ((x : A) → P x → Q x) → All P xs → All Q xs
+all-map [] f p = tt
+all-map (x ∷ xs) f p = (f x (p .0), all-map xs f (p .1))
+
+pub all-mapped : {A B : Type 0} (P : B → Type 0) (f : A → B) (xs : List A) → All (λ x. P (f x)) xs → All P (map f xs)
+all-mapped P f [] p = tt
+all-mapped P f (x ∷ xs) p = (p .0, all-mapped P f xs (p .1))
+
+pub all-at : {A : Type 0} (P : A → Type 0) (xs : List A) (i : ℕ) (d : A) → All P xs → i < length xs → P (getD xs i d)
+all-at P [] i d p h = absurd (not-suc-le-zero h)
+all-at P (x ∷ xs) zero d p h = p .0
+all-at P (x ∷ xs) (suc i) d p h = all-at P xs i d (p .1) (omega arith)
 
 pub all-append : {A : Type 0} (P : A → Type 0) (xs ys : List A) → All P xs → All P ys → All P (xs ++ ys)
 all-append P [] ys p q = q

@@ -7,6 +7,7 @@ use mathlib.Core.Bool.{Bool, true, false, _||_}
 use mathlib.Core.List.{List, [], _∷_, _++_, map}
 use Rattle.base.specs.Choice.{if_then_else_}
 use Rattle.base.specs.Members.{All}
+use Rattle.base.proofs.Members.{all-map}
 use Rattle.tree.specs.Order.{OpId}
 use Rattle.tree.specs.Standing.{same, times}
 use Rattle.tree.proofs.Names.{same-refl}
@@ -38,10 +39,6 @@ finish-tail x e h p = on (isFinish x e)
 finish-here : (x : OpId) (h : List Event) → isFinished x (finishes x ∷ h) ≡ true
 unfolding isFinished isFinish
 finish-here x h = or-true (same x x) (isFinished x h) (same-refl x)
-
-pub all-map : {A : Type 0} {P Q : A → Type 0} (xs : List A) → ((x : A) → P x → Q x) → All P xs → All Q xs
-all-map [] f p = tt
-all-map (x ∷ xs) f p = (f x (p .0), all-map xs f (p .1))
 
 pub finishing-all : (h : List Event) → All (λ x. isFinished x h ≡ true) (finishing h)
 unfolding finishing

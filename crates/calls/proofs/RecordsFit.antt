@@ -9,7 +9,7 @@ use mathlib.Core.List.{List, [], _∷_, _++_, map}
 use lib.ListN.{length, getD, take, drop}
 use lib.IntN.{ℤ, pos, negsuc}
 use Rattle.base.specs.Members.{All}
-use Rattle.base.proofs.Members.{all-append}
+use Rattle.base.proofs.Members.{all-map, all-mapped, all-append}
 use Rattle.base.proofs.Gather.{gather-all}
 use Rattle.record.specs.declared.AnswerRecord.{AnswerRecord}
 use Rattle.record.specs.AnswerRecords.{replyValue}
@@ -40,7 +40,7 @@ use Rattle.calls.specs.Answer.{valueOf, byMargin, takeReply, replyOf}
 use Rattle.calls.specs.History.{Event, operation, isFinished, does}
 use Rattle.calls.specs.Demand3.{queueRecord, finishing, stepLimit}
 use Rattle.calls.proofs.OwnCounts.{helps-within}
-use Rattle.calls.proofs.Events.{all-map, all-times, finishing-all}
+use Rattle.calls.proofs.Events.{all-times, finishing-all}
 use Rattle.calls.proofs.RootAnswers.{reply-is}
 use Rattle.calls.proofs.RecordsStay.{finished-stands}
 use Rattle.calls.proofs.Agrees.{Agrees}
@@ -88,10 +88,6 @@ pub record Named (s : Shape) (x : OpId) : Type 0 where
   pub process : x .process < processes s
   pub first : 1 ≤ x .serial
   pub last : x .serial ≤ s .most
-
-all-mapped : {A B : Type 0} (P : B → Type 0) (f : A → B) (xs : List A) → All (λ x. P (f x)) xs → All P (map f xs)
-all-mapped P f [] p = tt
-all-mapped P f (x ∷ xs) p = (p .0, all-mapped P f xs (p .1))
 
 module _ {s : Shape} {m : Machine} {c : ℕ → ℕ} {h : List Event} {log : List AnswerRecord} (ag : Agrees s m c h log) (tall : 1 ≤ s .height) where
   abbrev mem : Memory

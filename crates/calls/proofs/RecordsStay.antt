@@ -5,6 +5,7 @@ use mathlib.Core.Path.{_≡_, ap, _∙_}
 use mathlib.Core.Bool.{true}
 use mathlib.Core.List.{List, [], _++_, map}
 use borrow.Author.Tests.{le-leb}
+use Rattle.base.proofs.Members.{all-map}
 use Rattle.record.specs.declared.AnswerRecord.{AnswerRecord}
 use Rattle.tree.specs.Shape.{Shape, processes, leafOf}
 use Rattle.tree.specs.Memory.{Memory}
@@ -25,7 +26,7 @@ use Rattle.calls.specs.Demand3.{queueAnswer, queueRecord, finishing}
 use Rattle.calls.proofs.Feeding.{answer-in, answer-same}
 use Rattle.calls.proofs.OwnCounts.{countsOf}
 use Rattle.calls.proofs.Agrees.{Agrees}
-use Rattle.calls.proofs.Events.{does-kept, finishing-all, all-times, all-map, map-same}
+use Rattle.calls.proofs.Events.{does-kept, finishing-all, all-times, map-same}
 
 module _ {s : Shape} {m : Machine} {c : ℕ → ℕ} {h : List Event} {log : List AnswerRecord} (ag : Agrees s m c h log) (tall : 1 ≤ s .height) where
   sound : Sound s (m .memory)

@@ -6,6 +6,7 @@ use mathlib.Core.Bool.{true}
 use mathlib.Core.List.{List, [], _∷_, _++_, map, flatMap, append-nil}
 use lib.ListN.{length, take, getD, replicate, length-map}
 use Rattle.base.specs.Members.{All}
+use Rattle.base.proofs.Members.{all-map}
 use Rattle.base.proofs.Gather.{flatMap-map}
 use Rattle.record.specs.declared.AnswerRecord.{AnswerRecord}
 use Rattle.record.specs.declared.OrderRecord.{OrderRecord}
@@ -31,7 +32,6 @@ use Rattle.calls.specs.History.{Event, operation, begunBy, history}
 use Rattle.calls.proofs.CallAccepted.{accepted-processes, accepted-operations}
 use Rattle.calls.proofs.Agrees.{Agrees}
 use Rattle.calls.proofs.Theorem.{tall-for, played-agreed}
-use Rattle.calls.proofs.Events.{all-map}
 use Rattle.calls.proofs.RecordsFit.{Named, order-named, answers-named, answers-fit, orders-fit}
 use Rattle.desk_rules.specs.Desk.{terms}
 use Rattle.desk_terms.specs.Contracts.Slots.{answersIn, ordersIn, HasSlot, entered, collected}

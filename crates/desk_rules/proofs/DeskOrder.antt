@@ -10,7 +10,7 @@ use lib.Seq.{take-at}
 use borrow.Author.Tests.{eqb-true, eq-eqb}
 use Rattle.base.specs.Choice.{if_then_else_}
 use Rattle.base.specs.Members.{All}
-use Rattle.base.proofs.Members.{all-append}
+use Rattle.base.proofs.Members.{all-map, all-append}
 use Rattle.base.proofs.Cases.{both, contradiction}
 use Rattle.record.specs.declared.StepRecord.{StepRecord}
 use Rattle.record.specs.declared.Reply.{Reply}
@@ -33,7 +33,6 @@ use Rattle.calls.specs.ListOrder.{playAll}
 use Rattle.calls.specs.History.{operation, begunBy, history}
 use Rattle.calls.specs.Linearizable.{response}
 use Rattle.calls.proofs.Agrees.{Agrees}
-use Rattle.calls.proofs.Events.{all-map}
 use Rattle.calls.proofs.Played.{took-all}
 use Rattle.calls.proofs.CallAccepted.{settings-operations}
 use Rattle.calls.proofs.Theorem.{tall-for, played-agreed, played-words}

@@ -7,6 +7,7 @@ use mathlib.Core.List.{List, [], _∷_, _++_, map, flatMap}
 use lib.ListN.{getD, List·getD-map}
 use lib.Seq.{append-snoc}
 use Rattle.base.specs.Choice.{if_then_else_}
+use Rattle.base.proofs.Members.{all-map}
 use Rattle.record.specs.declared.AnswerRecord.{AnswerRecord}
 use Rattle.record.specs.declared.Reply.{Reply}
 use Rattle.record.specs.declared.Reply.the-variants.{Nothing}
@@ -23,7 +24,6 @@ use Rattle.calls.specs.Linearizable.{response}
 use Rattle.calls.proofs.Agrees.{Agrees}
 use Rattle.calls.proofs.Feeding.{queue-append, answer-past}
 use Rattle.calls.proofs.Holds.{kept}
-use Rattle.calls.proofs.Events.{all-map}
 use Rattle.calls.proofs.Linearized.{answered, unanswered}
 use Rattle.desk_rules.specs.Entries.{firstEntry}
 use Rattle.desk_rules.specs.Desk.{termIn, terms}

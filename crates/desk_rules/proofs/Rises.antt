@@ -3,7 +3,7 @@ use Prim.Native.Nat.{ℕ, suc, _≤_, _<_}
 use native.Mathlib.Omega.{arith}
 use mathlib.Core.List.{List, [], _∷_, _++_}
 use Rattle.base.specs.Members.{All}
-use Rattle.calls.proofs.Events.{all-map}
+use Rattle.base.proofs.Members.{all-map}
 use Rattle.desk_rules.specs.Deliveries.{Rising}
 
 -- rising, from a number on

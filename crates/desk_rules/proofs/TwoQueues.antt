@@ -10,13 +10,12 @@ use lib.ListN.{length, getD}
 use borrow.Author.Tests.{leb-true}
 use Rattle.base.specs.Choice.{if_then_else_}
 use Rattle.base.specs.Members.{All}
-use Rattle.base.proofs.Members.{all-append}
+use Rattle.base.proofs.Members.{all-map, all-append}
 use Rattle.record.specs.declared.Reply.{Reply}
 use Rattle.record.specs.declared.Reply.the-variants.{Value, Nothing}
 use Rattle.steps.specs.declared.Operation.{Operation}
 use Rattle.steps.specs.declared.Operation.the-variants.{Put, Take}
 use Rattle.calls.specs.PlainQueue.{fed, answers}
-use Rattle.calls.proofs.Events.{all-map}
 use Rattle.desk_rules.specs.Entries.{firstEntry, isEntry, termOf}
 use Rattle.desk_rules.specs.Desk.{termIn}
 use Rattle.desk_rules.specs.Deliveries.{valuesPut, withNumbers, replies, Delivery}

@@ -10,9 +10,9 @@ use lib.Seq.{take-all, take-suc, take-suc-set}
 use Rattle.base.proofs.Gather.{flatMap-append}
 use Rattle.record.specs.declared.OrderRecord.{OrderRecord}
 use Rattle.record.specs.ReadOrders.{readOrder}
+use Rattle.record.proofs.Cuts.{read-length, read-at}
 use Rattle.desk_rules.specs.Entries.{isEntry, termOf}
 use Rattle.desk_terms.specs.Contracts.Slots.{ordersIn, slotOf, termAt, collected}
-use Rattle.desk_terms.proofs.FirstRecords.{read-length, read-at}
 
 -- the first `count` terms are those of the first i of n orders
 pub record CollectedFirst (l n : ℕ) (order received terms : List ℕ) (count i : ℕ) : Type 0 where

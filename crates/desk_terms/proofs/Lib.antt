@@ -1,4 +1,3 @@
-pub mod FirstRecords
 pub mod BeforeForeign
 pub mod Entered
 pub mod Collected

@@ -1,11 +1,13 @@
--- The records that bytes are cut into: how many they are, and which bytes each has.
+-- The records that bytes are cut into: how many they are, which bytes each has, and what holds of each.
 use Prim.Native.Nat.{ℕ, zero, suc, _+_, _*_, _/_, _%_, _≤_, _<_}
 use native.Mathlib.Nat.{mul-zero, zero-add, suc-add, not-suc-le-zero}
 use native.Mathlib.Omega.{arith}
-use mathlib.Core.Path.{_≡_, refl, ap, _∙_}
+use mathlib.Core.Path.{_≡_, refl, ap, sym, _∙_, subst}
 use mathlib.Core.List.{List, [], _∷_, _++_, map, map-append}
 use lib.ListN.{length, getD, take, drop, length-map, length-append, length-drop, List·getD-map}
 use lib.Seq.{drop-drop, take-append-le, drop-append-le}
+use Rattle.base.specs.Members.{All}
+use Rattle.base.proofs.Members.{all-at}
 use Rattle.record.specs.Bytes.{cut}
 use Rattle.record.specs.StepRecords.{stepSize, stepRecord, stepRecords}
 
@@ -33,14 +35,25 @@ cut-append size (suc n) k xs ys e =
     rw (suc-add n k, take-append-le size xs ys within, drop-append-le size xs ys within)
     (ap (λ (l : List (List ℕ)). take size xs ∷ l) (cut-append size n k (drop size xs) ys (simp length-drop (omega arith))))
 
+-- read from their bytes
+module _ {A : Type 0} (read : List ℕ → A) (size n : ℕ) (bs : List ℕ) where
+  pub read-length : length (map read (cut size n bs)) ≡ n
+  read-length = rw (length-map, cut-length size n bs)
+
+  pub read-at : (i : ℕ) → i < n → getD (map read (cut size n bs)) i (read []) ≡ read (take size (drop (size * i) bs))
+  read-at i h = List·getD-map read (cut size n bs) i [] ∙ ap read (cut-at size n i bs h)
+
+  pub read-member : (P : A → Type 0) → All P (map read (cut size n bs)) → (i : ℕ) → i < n → (x : A) → x ≡ read (take size (drop (size * i) bs)) → P x
+  read-member P p i h x is = subst P (read-at i h ∙ sym is) (all-at P (map read (cut size n bs)) i (read []) p (omega (arith, read-length)))
+
 -- of step records
 pub records-length : (bs : List ℕ) → length (stepRecords bs) ≡ length bs / 8
 unfolding stepRecords stepSize
-records-length bs = rw (length-map, cut-length 8 (length bs / 8) bs)
+records-length bs = read-length stepRecord 8 (length bs / 8) bs
 
 pub record-at : (bs : List ℕ) (i : ℕ) → i < length bs / 8 → getD (stepRecords bs) i (stepRecord []) ≡ stepRecord (take 8 (drop (8 * i) bs))
 unfolding stepRecords stepSize
-record-at bs i h = List·getD-map stepRecord (cut 8 (length bs / 8) bs) i [] ∙ ap stepRecord (cut-at 8 (length bs / 8) i bs h)
+record-at bs i h = read-at stepRecord 8 (length bs / 8) bs i h
 
 pub records-append : (xs ys : List ℕ) → length xs % 8 ≡ 0 → stepRecords (xs ++ ys) ≡ stepRecords xs ++ stepRecords ys
 unfolding stepRecords stepSize

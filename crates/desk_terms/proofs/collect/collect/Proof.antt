@@ -9,9 +9,9 @@ use borrow.Author.Needs.{needs}
 use borrow.Author.Tests.{leb-true}
 use Rattle.record.specs.declared.OrderRecord.{OrderRecord}
 use Rattle.record.specs.ReadOrders.{readOrder}
+use Rattle.record.proofs.Cuts.{read-member}
 use Rattle.desk_rules.specs.Entries.{firstEntry, isEntry, termOf}
 use Rattle.desk_terms.specs.Contracts.Slots.{ordersIn, HasSlot}
-use Rattle.desk_terms.proofs.FirstRecords.{read-member}
 use Rattle.desk_terms.proofs.Collected.{CollectedFirst, collected-none, collected-all, collected-entry, collected-other}
 use Rattle.desk_terms.proofs.collect.collect.Statement.{statement}
 use Rattle.desk_terms.proofs.collect.collect.Tie as tie

@@ -8,8 +8,8 @@ use borrow.Author.Needs.{needs}
 use Rattle.record.specs.declared.AnswerRecord.{AnswerRecord}
 use Rattle.record.specs.AnswerRecords.{answerSize}
 use Rattle.record.specs.ReadAnswers.{answerRecord}
+use Rattle.record.proofs.Cuts.{read-member}
 use Rattle.desk_terms.specs.Contracts.Slots.{answersIn, HasSlot}
-use Rattle.desk_terms.proofs.FirstRecords.{read-member}
 use Rattle.desk_terms.proofs.Entered.{enteredLast, entered-length, entered-none, entered-more, entered-all}
 use Rattle.desk_terms.proofs.receive.receive.Statement.{statement}
 use Rattle.desk_terms.proofs.receive.receive.Tie as tie
