@@ -64,8 +64,8 @@ enum DeskRefusal {
 #define DESK_LEVELS(p) DESK_SIZE((p) == 2 ? 2 : (p) == 4 ? 3 : 4)
 
 /* Lengths of buffers for a p and an l that are not turned down; constant if p and l are. The table must
-   have so many words. So many output bytes are enough for every list, since each term is that of a put
-   by the licensed process, which has at most l. */
+   have so many words. So many output bytes are enough, since each term is that of a put by the licensed
+   process, which begins at most l operations: tested and not proved. With too few the call says 10. */
 #define DESK_TABLE_WORDS(p, l) \
     (DESK_BLOCK_WORDS * (DESK_LEVELS(p) * DESK_SIZE(p) * DESK_SIZE(l) + 2 * DESK_SIZE(p) - 1))
 #define DESK_MOST_OUTPUT_BYTES(l) (DESK_TERM_BYTES * DESK_SIZE(l))

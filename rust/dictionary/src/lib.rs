@@ -68,8 +68,8 @@ pub fn term(value: u32) -> Option<u32> {
     value.checked_sub(FIRST_ENTRY)
 }
 
-/// Bytes that are enough for the terms of every list, since each is that of a put by the licensed
-/// process, which has at most l; `None` if p or l is turned down.
+/// Bytes that are enough for the terms of a list, since each is that of a put by the licensed process,
+/// which begins at most l operations: tested and not proved. `None` if p or l is turned down.
 ///
 /// ```
 /// assert_eq!(dictionary::most_output_bytes(4, 24), Some(96));
