@@ -1,8 +1,9 @@
 -- What it says that a test refuses nothing. Used by proofs; no exported promise names it.
 use Prim.Native.Nat.{ℕ}
 use mathlib.Core.Path.{_≡_, refl, sym, _∙_}
+use mathlib.Core.Logic.{_≢_}
 use mathlib.Core.Bool.{Bool, true, false, false≢true}
-use borrow.Author.Tests.{eqb-true, eq-eqb}
+use borrow.Author.Tests.{eqb-true, eq-eqb, ne-eqb}
 use Rattle.base.specs.Choice.{if_then_else_}
 use Rattle.base.proofs.Cases.{contradiction}
 use Rattle.calls.specs.declared.Refusal.{Refusal}
@@ -16,6 +17,10 @@ accepted-zero n e = eq-eqb (refusalNumber n) 0 e
 pub zero-accepted : (n : Refusal) → accepted n ≡ true → refusalNumber n ≡ 0
 unfolding accepted
 zero-accepted n e = eqb-true (refusalNumber n) 0 e
+
+pub nonzero-refused : (n : Refusal) → refusalNumber n ≢ 0 → accepted n ≡ false
+unfolding accepted
+nonzero-refused n h = ne-eqb (refusalNumber n) 0 h
 
 -- a test that would refuse did not fail, and the next ones refuse nothing
 pub passed : (b : Bool) (n rest : Refusal) → accepted n ≡ false → accepted (if b then n else rest) ≡ true → (b ≡ false) × (accepted rest ≡ true)

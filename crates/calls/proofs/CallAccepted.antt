@@ -1,5 +1,5 @@
 -- What is known of a call that is not turned down. Used by proofs; no exported promise names it.
-use Prim.Native.Nat.{ℕ, _%_, _≤_}
+use Prim.Native.Nat.{ℕ, _*_, _%_, _≤_}
 use mathlib.Core.Path.{_≡_, refl}
 use mathlib.Core.Bool.{true, false, not}
 use lib.Dec.{ltb, eqb}
@@ -8,7 +8,9 @@ use Rattle.base.specs.Choice.{if_then_else_}
 use Rattle.record.specs.StepRecords.{stepSize}
 use Rattle.record.specs.AnswerRecords.{answerSize}
 use Rattle.tree.specs.Layout.{wordsNeeded}
+use Rattle.tree.proofs.LayoutSums.{product-most}
 use Rattle.steps.specs.Process.{processesAllowed, operationsAllowed}
+use Rattle.steps.proofs.Limits.{allowed-most, allowed-narrow}
 use Rattle.calls.specs.declared.Refusal.the-variants.{None, Processes, Operations, TableShort, RecordsTorn, LogTorn}
 use Rattle.calls.specs.Refusals.{refusalNumber, accepted, torn, settingsRefusal, bytesRefusal, bufferRefusal, callRefusal}
 use Rattle.tree.specs.Shape.{shapeFor}
@@ -33,6 +35,10 @@ module _ (p l : ℕ) (ok : accepted (settingsRefusal p l) ≡ true) where
   unfolding settingsRefusal accepted refusalNumber
   settings-operations =
       not-false (operationsAllowed l) (passed (not (operationsAllowed l)) Operations None refl (passed (not (processesAllowed p)) Processes _ refl ok .1) .0)
+
+  -- so there are at most 4,000 operations
+  pub settings-few : p * l ≤ 4000
+  settings-few = product-most p l 8 500 (allowed-narrow p l settings-processes) (allowed-most l settings-operations .1)
 
 module _ (p l words bytes : ℕ) (ok : accepted (callRefusal p l words bytes) ≡ true) where
   call-tests : (accepted (settingsRefusal p l) ≡ true) × (accepted (bufferRefusal (shapeFor p l) words bytes) ≡ true)

@@ -1,6 +1,6 @@
 -- The theorem: of all runs, just those change that stopped with 6 at a begin of a process that is not idle and has
 -- begun L; they stop with 8 and leave the same. For every p, L, list of bytes, table and buffer of each call.
-use Prim.Native.Nat.{ℕ, _*_, _-_, _≤_}
+use Prim.Native.Nat.{ℕ, _*_, _≤_}
 use native.Mathlib.Omega.{arith}
 use mathlib.Core.Path.{_≡_, refl, ap, sym, _∙_}
 use mathlib.Core.Logic.{_⊎_, inl, inr, ⊎-elim}

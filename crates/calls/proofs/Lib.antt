@@ -30,6 +30,7 @@ pub mod Foreseen
 pub mod Holds
 pub mod Theorem
 pub mod RecordsFit
+pub mod PlayedRecords
 pub mod ListLimits
 pub mod CountBytes
 pub mod CallAccepted

@@ -3,16 +3,18 @@
 use Prim.Native.Nat.{ℕ, _+_, _*_, _-_, _≤_}
 use native.Mathlib.Omega.{arith}
 use mathlib.Core.Path.{_≡_, refl, ap, sym, _∙_, subst}
-use mathlib.Core.Bool.{true, false, not}
+use mathlib.Core.Bool.{Bool, true, false, not}
 use mathlib.Core.List.{List, [], _∷_, _++_, foldl, append-nil, append-assoc}
 use lib.ListN.{length, take, length-append}
 use lib.Seq.{append-snoc, take-append-seam, take-length}
 use borrow.Author.Tests.{not-true, not-false}
+use Rattle.base.specs.Choice.{if_then_else_}
 use Rattle.base.proofs.Cases.{cases, contradiction}
 use Rattle.record.specs.declared.StepRecord.{StepRecord}
+use Rattle.record.specs.StepRecords.{isStep}
 use Rattle.record.specs.AnswerRecords.{answerSize}
 use Rattle.tree.specs.Shape.{Shape}
-use Rattle.steps.specs.Machine.{Machine, processOf}
+use Rattle.steps.specs.Machine.{Machine, processOf, withProcess, begin}
 use Rattle.calls.specs.declared.Refusal.{Refusal}
 use Rattle.calls.specs.Refusals.{accepted, recordRefusal}
 use Rattle.calls.specs.Numbered.{nextAfter, numberedAfter, numbered}
@@ -173,3 +175,16 @@ module _ (s : Shape) (room : ℕ) where
   pub play-append : (rs ts : List StepRecord) → play s room (rs ++ ts) ≡ foldl (playRecord s room) (play s room rs) ts
   unfolding play playBy playRecord playRecordBy
   play-append = by-append recordRefusal s room
+
+-- a begin, taken or refused, changes no memory
+pub begin-memory : (s : Shape) (room : ℕ) (g : Played) (r : StepRecord) → isStep r ≡ false → playRecord s room g r .machine .memory ≡ g .machine .memory
+unfolding playRecord taking refusing takeRecord begin withProcess
+begin-memory s room g r z = on (not (accepted (g .refusal))) (accepted n)
+  where
+    n : Refusal
+    n = recordRefusal s (room - answerSize * length (g .answers)) (processOf (g .machine) (r .process)) r
+
+    on : (a b : Bool) → (if a then g else if b then taking s g r else refusing g n) .machine .memory ≡ g .machine .memory
+    on true b = refl
+    on false true = rw z
+    on false false = refl

@@ -20,7 +20,6 @@ exported d n table output e number is = (λ i. record { refusal = number i; coun
 module _ (p l licensed : ℕ) (records table output : List ℕ) (r : DeskDelivery) (table' output' : List ℕ)
     (is : deskExported r table' output' ≡ desk p l licensed records table output)
   where
-    -- the fields of what it left
     pub in-order : ((i : ℕ) → getD table' i 0 < 2 ^ 32) → r .refusal ≡ 0 → DeliversInOrder p l (stepRecords records) table' (r .count) output'
     unfolding deskExported
     in-order words none =

@@ -14,15 +14,15 @@ use Rattle.tree.specs.Layout.{wordsNeeded}
 use Rattle.tree.specs.Order.{rootOrder}
 use Rattle.order.specs.OrderList.{orderRecord}
 use Rattle.steps.proofs.Limits.{allowed-most}
-use Rattle.calls.specs.Refusals.{refusalNumber, accepted}
 use Rattle.calls.specs.Run.{Played}
 use Rattle.calls.specs.ListOrder.{playAll}
 use Rattle.calls.proofs.CallAccepted.{accepted-operations}
 use Rattle.calls.proofs.ListLimits.{list-fits}
-use Rattle.desk_rules.specs.declared.DeskRefusal.the-variants.{Queue, OutputShort}
+use Rattle.desk_rules.specs.declared.DeskRefusal.the-variants.{None, OutputShort}
 use Rattle.desk_rules.specs.Entries.{termSize, termBytes}
-use Rattle.desk_rules.specs.DeskRefusals.{deskNumber, delivers, byQueue, firstOf}
+use Rattle.desk_rules.specs.DeskRefusals.{deskNumber, delivers, firstDeskRefusal}
 use Rattle.desk_rules.specs.Desk.{served, terms, sent, outputRefusal, deskServed}
+use Rattle.desk_rules.proofs.Serving.{queue-delivers}
 use Rattle.desk_terms.specs.Contracts.Slots.{ordersIn, HasSlot, entered, collected}
 use Rattle.desk_terms.proofs.Entered.{entered-length}
 use Rattle.desk.specs.declared.Delivered.{Delivered}
@@ -73,8 +73,8 @@ module _ {p l : ℕ} {records : List ℕ} {words : ℕ} {order : List ℕ} (k : 
       many = ap length (sym are) ∙ length-take-le count words' within
 
       served-is : (output : List ℕ) → deskServed s (served g) table output ≡ sent (outputRefusal ts (length output)) ts (t ++ drop (wordsNeeded s) table) output
-      unfolding deskServed served firstOf delivers deskNumber byQueue accepted
-      served-is output = rw (k .taken)
+      unfolding deskServed served firstDeskRefusal
+      served-is output = rw (queue-delivers (g .refusal), k .taken)
 
       pub listed-short : (r : Delivered) → r ≡ record { refusal = OutputShort; count = 0 } → (output : List ℕ) → length output < 4 * count
           → deskLeft r table' output ≡ deskServed (shapeFor p l) (served (playAll (shapeFor p l) (stepRecords records))) table output
@@ -84,7 +84,7 @@ module _ {p l : ℕ} {records : List ℕ} {words : ℕ} {order : List ℕ} (k : 
 
       pub listed-sent : (output output' : List ℕ) → 4 * count ≤ length output
           → output' ≡ termBytes (take count words') ++ drop (termSize * length (take count words')) output
-          → deskLeft (record { refusal = Queue 0; count = count }) table' output' ≡ deskServed (shapeFor p l) (served (playAll (shapeFor p l) (stepRecords records))) table output
-      unfolding deskLeft sent outputRefusal delivers deskNumber byQueue refusalNumber termSize
+          → deskLeft (record { refusal = None; count = count }) table' output' ≡ deskServed (shapeFor p l) (served (playAll (shapeFor p l) (stepRecords records))) table output
+      unfolding deskLeft sent outputRefusal delivers deskNumber termSize
       listed-sent output output' h e =
           rw (all .words, served-is output, le-ltb (length output) (4 * length ts) (omega (arith, many)), e, are, many)

@@ -11,14 +11,12 @@ use Rattle.record.specs.StepRecords.{stepSize, stepRecords}
 use Rattle.record.specs.AnswerRecords.{answerSize}
 use Rattle.tree.specs.Shape.{Shape, shapeFor}
 use Rattle.tree.specs.Layout.{wordsNeeded}
-use Rattle.tree.proofs.LayoutSums.{product-most}
 use Rattle.order.specs.OrderList.{orderList}
-use Rattle.steps.proofs.Limits.{allowed-most, allowed-narrow}
 use Rattle.calls.specs.Refusals.{accepted, torn, callRefusal}
 use Rattle.calls.specs.Run.{Played}
 use Rattle.calls.specs.ListOrder.{ListResult, playAll, listed, listOrder}
 use Rattle.calls.specs.Continuation.{listWritten}
-use Rattle.calls.proofs.CallAccepted.{settings-processes, settings-operations}
+use Rattle.calls.proofs.CallAccepted.{settings-few}
 use Rattle.calls.proofs.Theorem.{tall-for, played-words}
 use Rattle.calls.proofs.ListLimits.{list-is}
 use Rattle.calls.proofs.Unrefused.{list-accepted, list-played, list-bytes}
@@ -49,13 +47,7 @@ module _ {p l licensed : ℕ} {records table order : List ℕ} {r : OtqList} {ta
   e = listOrder p l records table order
 
   long : 8 * (p * l) ≤ length order
-  long =
-      let ok = by .allowed .settings in
-      omega (
-        arith,
-        by .room,
-        product-most p l 8 500 (allowed-narrow p l (settings-processes p l ok)) (allowed-most l (settings-operations p l ok) .1),
-      )
+  long = omega (arith, by .room, settings-few p l (by .allowed .settings))
 
   -- refused as the list was
   as-left : (output : List ℕ) → turnedDown (r .refusal) table' output ≡ turnedDown (e .refusal) (e .table) output

@@ -4,7 +4,7 @@ use native.Mathlib.Omega.{arith}
 use mathlib.Core.Path.{_≡_, ap, sym, _∙_}
 use mathlib.Core.Bool.{true}
 use mathlib.Core.List.{List, [], _∷_, _++_, map, flatMap, append-nil}
-use lib.ListN.{length, take, getD, replicate, length-map}
+use lib.ListN.{length, getD, replicate, length-map}
 use Rattle.base.specs.Members.{All}
 use Rattle.base.proofs.Members.{all-map}
 use Rattle.base.proofs.Gather.{flatMap-map}
@@ -20,19 +20,17 @@ use Rattle.record.proofs.Lengths.{answer-length, order-record-length}
 use Rattle.record.proofs.ReadBack.{record-back, OrderFits, order-back, list-back}
 use Rattle.tree.specs.Shape.{Shape, processes, shapeFor}
 use Rattle.tree.specs.Order.{Placed, rootOrder, rootOperations}
-use Rattle.tree.proofs.LayoutSums.{product-most}
 use Rattle.order.specs.OrderList.{orderRecord, orderList}
 use Rattle.order.proofs.RootRecords.{eight-each}
-use Rattle.steps.proofs.Limits.{allowed-most, allowed-width, allowed-narrow, short-for}
+use Rattle.steps.proofs.Limits.{allowed-most, allowed-width, short-for}
 use Rattle.calls.specs.Refusals.{accepted, callRefusal}
-use Rattle.calls.specs.Numbered.{numbered}
 use Rattle.calls.specs.Run.{Played}
 use Rattle.calls.specs.ListOrder.{playAll}
-use Rattle.calls.specs.History.{Event, operation, begunBy, history}
-use Rattle.calls.proofs.CallAccepted.{accepted-processes, accepted-operations}
-use Rattle.calls.proofs.Agrees.{Agrees}
-use Rattle.calls.proofs.Theorem.{tall-for, played-agreed}
-use Rattle.calls.proofs.RecordsFit.{Named, order-named, answers-named, answers-fit, orders-fit}
+use Rattle.calls.specs.History.{operation}
+use Rattle.calls.proofs.CallAccepted.{settings-few, accepted-settings, accepted-processes, accepted-operations}
+use Rattle.calls.proofs.Theorem.{tall-for}
+use Rattle.calls.proofs.RecordsFit.{Named}
+use Rattle.calls.proofs.PlayedRecords.{played-named, played-answers-named, played-answers-fit, played-orders-fit}
 use Rattle.desk_rules.specs.Desk.{terms}
 use Rattle.desk_terms.specs.Contracts.Slots.{answersIn, ordersIn, HasSlot, entered, collected}
 use Rattle.desk.proofs.Slots.{slot-within, collected-terms}
@@ -50,35 +48,28 @@ module _ (p l : ℕ) (records : List ℕ) (words : ℕ) (call : accepted (callRe
   few : l ≤ 500
   few = allowed-most l (accepted-operations p l words (length records) call) .1
 
-  narrow : p ≤ 8
-  narrow = allowed-narrow p l (accepted-processes p l words (length records) call)
-
   pub all-few : p * l ≤ 4000
-  all-few = product-most p l 8 500 narrow few
+  all-few = settings-few p l (accepted-settings p l words (length records) call)
 
   wide : processes s * s .most ≤ 4000
   unfolding shapeFor
   wide = rw (allowed-width p l (accepted-processes p l words (length records) call)) all-few
 
-  abbrev h : List Event
-  h = history s (numbered (take (g .taken) (stepRecords records)))
-
-  agreed : Agrees s (g .machine) (λ k. begunBy k h) h (g .answers)
-  unfolding playAll
-  agreed = played-agreed s (tall-for p l) (answerSize * length (stepRecords records)) (stepRecords records)
+  abbrev room : ℕ
+  room = answerSize * length (stepRecords records)
 
   -- ---- the answers
   pub answer-slots : All (λ (a : AnswerRecord). HasSlot l 4000 (a .process) (a .serial)) (playAll (shapeFor p l) (stepRecords records) .answers)
-  unfolding shapeFor operation
-  answer-slots = all-map (g .answers) (λ a n. slot-within s 4000 wide (operation (a .process) (a .serial)) n) (answers-named agreed (tall-for p l))
+  unfolding shapeFor operation playAll
+  answer-slots = all-map (g .answers) (λ a n. slot-within s 4000 wide (operation (a .process) (a .serial)) n) (played-answers-named s (tall-for p l) room (stepRecords records))
 
   pub answers-read : (rest : List ℕ) → ((i : ℕ) → getD (playAll (shapeFor p l) (stepRecords records) .machine .memory .table) i 0 < 2 ^ 32)
       → answersIn (length (playAll (shapeFor p l) (stepRecords records) .answers)) (logBytes (playAll (shapeFor p l) (stepRecords records) .answers) ++ rest)
       ≡ playAll (shapeFor p l) (stepRecords records) .answers
-  unfolding answersIn logBytes shapeFor
+  unfolding answersIn logBytes shapeFor playAll
   answers-read rest fits =
       list-back answerSize answerBytes answerRecord answer-length (g .answers) rest
-      (all-map (g .answers) (λ a f. record-back a f) (answers-fit agreed (tall-for p l) (short-for p l) few fits))
+      (all-map (g .answers) (λ a f. record-back a f) (played-answers-fit s (tall-for p l) room (stepRecords records) (short-for p l) few fits))
 
   -- ---- the root order
   abbrev orders : List OrderRecord
@@ -94,12 +85,12 @@ module _ (p l : ℕ) (records : List ℕ) (words : ℕ) (call : accepted (callRe
 
   pub orders-read : (order : List ℕ) → order ≡ orderList (shapeFor p l) (playAll (shapeFor p l) (stepRecords records) .machine .memory .table)
       → ordersIn (length order / 8) order ≡ map orderRecord (rootOrder (shapeFor p l) (playAll (shapeFor p l) (stepRecords records) .machine .memory .table))
-  unfolding ordersIn shapeFor
+  unfolding ordersIn shapeFor playAll
   orders-read order e =
       ap (λ (bytes : List ℕ). map readOrder (cut 8 (length bytes / 8) bytes)) e
       ∙ ap (λ (n : ℕ). map readOrder (cut 8 n (orderList s t))) (sym orders-length)
       ∙ ap (λ (bytes : List ℕ). map readOrder (cut 8 (length orders) bytes)) (list-records ∙ sym (append-nil (flatMap orderBytes orders)))
-      ∙ list-back 8 orderBytes readOrder order-record-length orders [] (back (rootOrder s t) (orders-fit agreed (tall-for p l) (short-for p l) few))
+      ∙ list-back 8 orderBytes readOrder order-record-length orders [] (back (rootOrder s t) (played-orders-fit s (tall-for p l) room (stepRecords records) (short-for p l) few))
     where
       back : (xs : List Placed) → All (λ x. OrderFits (orderRecord x)) xs → All (λ x. readOrder (orderBytes x) ≡ x) (map orderRecord xs)
       back [] f = tt
@@ -112,12 +103,12 @@ module _ (p l : ℕ) (records : List ℕ) (words : ℕ) (call : accepted (callRe
 
   pub order-slots : All (λ (x : OrderRecord). HasSlot l 4000 (x .process) (x .serial))
       (map orderRecord (rootOrder (shapeFor p l) (playAll (shapeFor p l) (stepRecords records) .machine .memory .table)))
-  unfolding rootOperations
-  order-slots = slots-of (rootOrder s t) (order-named agreed (tall-for p l))
+  unfolding rootOperations playAll
+  order-slots = slots-of (rootOrder s t) (played-named s (tall-for p l) room (stepRecords records))
 
   -- ---- the terms
   pub all-collected : collected l (entered l (playAll (shapeFor p l) (stepRecords records) .answers) (replicate 4000 0))
       (map orderRecord (rootOrder (shapeFor p l) (playAll (shapeFor p l) (stepRecords records) .machine .memory .table)))
       ≡ terms (shapeFor p l) (playAll (shapeFor p l) (stepRecords records) .answers) (playAll (shapeFor p l) (stepRecords records) .machine .memory .table)
-  unfolding shapeFor
-  all-collected = collected-terms s 4000 wide (g .answers) (answers-named agreed (tall-for p l)) t (order-named agreed (tall-for p l))
+  unfolding shapeFor playAll
+  all-collected = collected-terms s 4000 wide (g .answers) (played-answers-named s (tall-for p l) room (stepRecords records)) t (played-named s (tall-for p l) room (stepRecords records))

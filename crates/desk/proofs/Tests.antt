@@ -9,13 +9,13 @@ use Rattle.record.specs.Bytes.{cut}
 use Rattle.calls.specs.declared.Refusal.{Refusal}
 use Rattle.calls.specs.Refusals.{refusalNumber, accepted, torn, firstRefusal, settingsRefusal, bytesRefusal}
 use Rattle.calls.specs.Forecast.{ForecastResult, beginsRefusal, forecastRefusal, foreseen, forecast}
-use Rattle.calls.proofs.Acceptance.{accepted-zero, zero-accepted}
+use Rattle.calls.proofs.Acceptance.{accepted-zero, zero-accepted, nonzero-refused}
 use Rattle.queue.specs.declared.OtqForecast.{OtqForecast}
 use Rattle.queue.specs.Exported.{forecastExported}
 use Rattle.desk_rules.specs.declared.DeskRefusal.the-variants.{Queue, Licence}
 use Rattle.desk_rules.specs.DeskRefusals.{deskNumber}
 use Rattle.desk_rules.specs.Desk.{desk}
-use Rattle.desk_rules.proofs.Calls.{refused-number, turnedDown, desk-settings, desk-licence}
+use Rattle.desk_rules.proofs.Calls.{turnedDown, desk-settings, desk-licence}
 use Rattle.desk.specs.declared.Delivered.{Delivered}
 use Rattle.desk.specs.Left.{deskLeft}
 use Rattle.desk.specs.Contracts.Deliverable.{Allowed}
@@ -51,7 +51,7 @@ module _ (p l : ℕ) where
       settings-down refused is =
           left-refused d (Queue (r .refusal)) table output is
           ∙ ap (λ (k : ℕ). turnedDown k table output) number-is
-          ∙ sym (desk-settings p l licensed records table output (refused-number n (λ z. refused (number-is ∙ z))))
+          ∙ sym (desk-settings p l licensed records table output (nonzero-refused n (λ z. refused (number-is ∙ z))))
 
       pub licence-down : r .refusal ≡ 0 → p ≤ licensed → d ≡ record { refusal = Licence; count = 0 } → deskLeft d table output ≡ desk p l licensed records table output
       unfolding deskNumber

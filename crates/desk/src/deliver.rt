@@ -1,4 +1,4 @@
-// Deliver.
+// What the desk does: it plays a list by the calls of the queue and delivers what its finished takes received.
 use crate::Delivered;
 use desk_rules::DeskRefusal;
 use desk_terms::collect::collect;
@@ -43,7 +43,7 @@ fn receive_all(p: u32, l: u32, records: &[u8], table: &mut [u32], received: &mut
     receive(&answers, ran.answers as usize, l, received);
 }
 
-// Delivers the terms of a list without foreign entries, of which nothing is refused; `order` is its root order.
+// Delivers the terms of a list of which the queue refuses nothing; `order` is its root order.
 fn deliver_listed(
     p: u32,
     l: u32,
@@ -65,7 +65,7 @@ fn deliver_listed(
     }
     send(&terms[..count], output);
     Delivered {
-        refusal: DeskRefusal::Queue(0),
+        refusal: DeskRefusal::None,
         count: count,
     }
 }
@@ -92,7 +92,8 @@ fn deliver_plain(
 }
 
 // Plays a list whose last record is a foreign entry: 14, unless the queue refuses it or one before it. Whatever follows
-// it in the whole list plays no part.
+// it in the whole list plays no part. List the order plays without answers, so that none is refused for want of room,
+// and its list always fits.
 fn refuse_foreign(p: u32, l: u32, licensed: u32, records: &[u8], table: &mut [u32]) -> Delivered
     requires { ⌜ Allowed p l licensed × EndsForeign licensed (now records) ⌝ }
     ensures { λ r. ⌜ ((more output : List ℕ) → torn stepSize (length (now (records .entry) ++ more)) ≡ false

@@ -14,6 +14,7 @@ fn number(x: DeskRefusal) -> u32
     ensures { λ r. ⌜ r ≡ deskNumber x ⌝ }
 {
     match x {
+        DeskRefusal::None => 0,
         DeskRefusal::Queue(n) => n,
         DeskRefusal::Licence => 13,
         DeskRefusal::ForeignEntry => 14,
@@ -21,7 +22,7 @@ fn number(x: DeskRefusal) -> u32
     }
 }
 
-// Deliver.
+// The call.
 #[no_mangle]
 pub extern "C" fn desk_deliver(
     p: u32,

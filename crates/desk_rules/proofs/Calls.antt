@@ -20,16 +20,17 @@ use Rattle.calls.specs.declared.Refusal.{Refusal}
 use Rattle.calls.specs.Refusals.{refusalNumber, accepted, torn, firstRefusal, settingsRefusal, bytesRefusal, bufferRefusal, callRefusal}
 use Rattle.calls.specs.Run.{Played}
 use Rattle.calls.specs.ListOrder.{playAll, ListResult, listed, listOrder}
-use Rattle.calls.proofs.Acceptance.{zero-accepted}
+use Rattle.calls.proofs.Acceptance.{nonzero-refused}
 use Rattle.calls.proofs.CallAccepted.{accepted-whole, whole-records}
 use Rattle.calls.proofs.Theorem.{tall-for}
-use Rattle.calls.proofs.ListLimits.{list-is}
+use Rattle.calls.proofs.ListLimits.{list-down, list-is}
 use Rattle.calls.proofs.Unrefused.{list-accepted, list-played}
 use Rattle.desk_rules.specs.declared.DeskRefusal.{DeskRefusal}
-use Rattle.desk_rules.specs.declared.DeskRefusal.the-variants.{ForeignEntry}
+use Rattle.desk_rules.specs.declared.DeskRefusal.the-variants.{Licence, ForeignEntry}
 use Rattle.desk_rules.specs.Entries.{isForeign}
-use Rattle.desk_rules.specs.DeskRefusals.{deskNumber, delivers, byQueue, firstOf, licenceRefusal, deskCallRefusal}
+use Rattle.desk_rules.specs.DeskRefusals.{deskNumber, delivers, byQueue, firstDeskRefusal, licenceRefusal, deskCallRefusal}
 use Rattle.desk_rules.specs.Desk.{Served, served, serve, DeskResult, sent, deskServed, desk}
+use Rattle.desk_rules.proofs.Serving.{queue-number, queue-delivers}
 use Rattle.desk_rules.proofs.Lists.{serve-all, foreign-memory, serve-at}
 
 -- a refusal by its number, where nothing is sent
@@ -40,34 +41,49 @@ sent-none : (n : DeskRefusal) (ts table output : List ℕ) → delivers n ≡ fa
 unfolding sent
 sent-none n ts table output e = rw e
 
+-- of two tests
+first-refused : (a b : DeskRefusal) → delivers a ≡ false → firstDeskRefusal a b ≡ a
+unfolding firstDeskRefusal
+first-refused a b e = rw e
+
+first-passed : (a b : DeskRefusal) → delivers a ≡ true → firstDeskRefusal a b ≡ b
+unfolding firstDeskRefusal
+first-passed a b e = rw e
+
+-- refused by the queue, with nothing sent
+queue-sent : (n : Refusal) (ts table output : List ℕ) → accepted n ≡ false → sent (byQueue n) ts table output ≡ turnedDown (refusalNumber n) table output
+queue-sent n ts table output e = sent-none (byQueue n) ts table output (queue-delivers n ∙ e) ∙ ap (λ (k : ℕ). turnedDown k table output) (queue-number n)
+
 -- a list that the queue refuses, at the desk
 served-refused : (s : Shape) (g : Played) (table output : List ℕ) → accepted (g .refusal) ≡ false
     → deskServed s (served g) table output ≡ turnedDown (refusalNumber (g .refusal)) (g .machine .memory .table ++ drop (wordsNeeded s) table) output
-unfolding deskServed served sent firstOf delivers deskNumber byQueue accepted
-served-refused s g table output e = rw (e, e)
-
-pub refused-number : (n : Refusal) → refusalNumber n ≢ 0 → accepted n ≡ false
-refused-number n h = not-true-is (accepted n) (λ e. h (zero-accepted n e))
-  where
-    not-true-is : (b : Bool) → (b ≡ true → ⊥) → b ≡ false
-    not-true-is true f = absurd (f refl)
-    not-true-is false f = refl
-
--- what list the order leaves of a call that is turned down
-list-down : (p l : ℕ) (records table order : List ℕ) → accepted (callRefusal p l (length table) (length records)) ≡ false
-    → listOrder p l records table order ≡ listed (callRefusal p l (length table) (length records)) [] table order
-unfolding listOrder
-list-down p l records table order e = rw e
+unfolding deskServed served
+served-refused s g table output e = rw (first-refused (byQueue (g .refusal)) _ (queue-delivers (g .refusal) ∙ e)) (queue-sent (g .refusal) _ _ output e)
 
 module _ (p l licensed : ℕ) (records table output : List ℕ) where
+  abbrev tested : DeskRefusal
+  tested = deskCallRefusal p l licensed (length table) (length records)
+
+  desk-refused : (n : DeskRefusal) → tested ≡ n → delivers n ≡ false → desk p l licensed records table output ≡ turnedDown (deskNumber n) table output
+  unfolding desk
+  desk-refused n is e = rw (is, e) (sent-none n [] table output e)
+
   -- ---- before the table is lent
   pub desk-settings : accepted (settingsRefusal p l) ≡ false → desk p l licensed records table output ≡ turnedDown (refusalNumber (settingsRefusal p l)) table output
-  unfolding desk sent deskCallRefusal firstOf delivers deskNumber byQueue accepted
-  desk-settings e = rw (e, e)
+  unfolding deskCallRefusal
+  desk-settings e =
+      let n : DeskRefusal = byQueue (settingsRefusal p l) in
+      let down : delivers n ≡ false = queue-delivers (settingsRefusal p l) ∙ e in
+      desk-refused n (first-refused n _ down) down ∙ ap (λ (k : ℕ). turnedDown k table output) (queue-number (settingsRefusal p l))
 
-  pub desk-licence : accepted (settingsRefusal p l) ≡ true → p ≤ licensed → desk p l licensed records table output ≡ turnedDown 13 table output
-  unfolding desk sent deskCallRefusal firstOf delivers deskNumber byQueue accepted licenceRefusal
-  desk-licence e h = rw (e, le-leb p licensed h)
+  module _ (settings : accepted (settingsRefusal p l) ≡ true) where
+    next-test : tested ≡ firstDeskRefusal (licenceRefusal p licensed) (byQueue (bufferRefusal (shapeFor p l) (length table) (length records)))
+    unfolding deskCallRefusal
+    next-test = first-passed (byQueue (settingsRefusal p l)) _ (queue-delivers (settingsRefusal p l) ∙ settings)
+
+    pub desk-licence : p ≤ licensed → desk p l licensed records table output ≡ turnedDown 13 table output
+    unfolding firstDeskRefusal licenceRefusal delivers deskNumber
+    desk-licence h = desk-refused Licence (next-test ∙ rw (le-leb p licensed h)) refl
 
   -- ---- then it is the queue's
   module _ (settings : accepted (settingsRefusal p l) ≡ true) (low : licensed < p) where
@@ -77,21 +93,16 @@ module _ (p l licensed : ℕ) (records table output : List ℕ) where
     abbrev n : Refusal
     n = callRefusal p l (length table) (length records)
 
-    call-is : deskCallRefusal p l licensed (length table) (length records) ≡ byQueue n
-    unfolding deskCallRefusal firstOf delivers deskNumber byQueue accepted licenceRefusal callRefusal firstRefusal refusalNumber
-    call-is = rw (settings, lt-leb p licensed low)
-
-    call-delivers : delivers (byQueue n) ≡ accepted n
-    unfolding delivers deskNumber byQueue accepted
-    call-delivers = refl
+    call-is : tested ≡ byQueue n
+    unfolding firstDeskRefusal licenceRefusal delivers deskNumber callRefusal firstRefusal
+    call-is = next-test settings ∙ rw (lt-leb p licensed low, settings)
 
     desk-down : accepted n ≡ false → desk p l licensed records table output ≡ turnedDown (refusalNumber n) table output
-    unfolding desk byQueue deskNumber
-    desk-down e = rw (call-is, call-delivers, e) (sent-none (byQueue n) [] table output (call-delivers ∙ e))
+    desk-down e = desk-refused (byQueue n) call-is (queue-delivers n ∙ e) ∙ ap (λ (k : ℕ). turnedDown k table output) (queue-number n)
 
     desk-on : accepted n ≡ true → desk p l licensed records table output ≡ deskServed s (serve s licensed (stepRecords records)) table output
     unfolding desk
-    desk-on e = rw (call-is, call-delivers, e)
+    desk-on e = rw (call-is, queue-delivers n, e)
 
     -- refused as a list was
     abbrev as-listed : ListResult → DeskResult
@@ -119,7 +130,7 @@ module _ (p l licensed : ℕ) (records table output : List ℕ) where
             on true e =
                 let is = list-is p l records table order e long in
                 desk-plain e
-                ∙ served-refused s g table output (refused-number (g .refusal) (λ z. h (ap (λ (x : ListResult). x .refusal) is ∙ z)))
+                ∙ served-refused s g table output (nonzero-refused (g .refusal) (λ z. h (ap (λ (x : ListResult). x .refusal) is ∙ z)))
                 ∙ ap as-listed (sym is)
 
         pub plain-delivers : listOrder p l records table order .refusal ≡ 0
@@ -131,8 +142,8 @@ module _ (p l licensed : ℕ) (xs ys table output : List ℕ) (settings : accept
     (order : List ℕ) (long : 8 * (p * l) ≤ length order) (whole : torn stepSize (length (xs ++ ys)) ≡ false) (whole-first : torn stepSize (length xs) ≡ false)
     (us : List StepRecord) (r : StepRecord) (cut : stepRecords xs ≡ us ++ (r ∷ [])) (plain : All (λ r. isForeign licensed r ≡ false) us) (foreign : isForeign licensed r ≡ true)
   where
-    abbrev t : Shape
-    t = shapeFor p l
+    abbrev shape : Shape
+    shape = shapeFor p l
 
     abbrev n' : Refusal
     n' = callRefusal p l (length table) (length xs)
@@ -148,18 +159,18 @@ module _ (p l licensed : ℕ) (xs ys table output : List ℕ) (settings : accept
         ∙ append-snoc us r (stepRecords ys)
 
     abbrev g' : Played
-    g' = playAll t (stepRecords xs)
+    g' = playAll shape (stepRecords xs)
 
     -- what it leaves
     abbrev ended : Served
-    ended = if accepted (g' .refusal) then record { run = playAll t us; refusal = ForeignEntry } else served g'
+    ended = if accepted (g' .refusal) then record { run = playAll shape us; refusal = ForeignEntry } else served g'
 
-    desk-at : accepted n' ≡ true → desk p l licensed (xs ++ ys) table output ≡ deskServed t ended table output
+    desk-at : accepted n' ≡ true → desk p l licensed (xs ++ ys) table output ≡ deskServed shape ended table output
     desk-at e =
         desk-on p l licensed (xs ++ ys) table output settings low (ap accepted same-call ∙ e)
-        ∙ ap (λ (rs : List StepRecord). deskServed t (serve t licensed rs) table output) records-are
-        ∙ ap (λ (d : Served). deskServed t d table output) (serve-at t (tall-for p l) licensed us r (stepRecords ys) plain foreign)
-        ∙ ap (λ (rs : List StepRecord). deskServed t (if accepted (playAll t rs .refusal) then record { run = playAll t us; refusal = ForeignEntry } else served (playAll t rs)) table output) (sym cut)
+        ∙ ap (λ (rs : List StepRecord). deskServed shape (serve shape licensed rs) table output) records-are
+        ∙ ap (λ (d : Served). deskServed shape d table output) (serve-at shape (tall-for p l) licensed us r (stepRecords ys) plain foreign)
+        ∙ ap (λ (rs : List StepRecord). deskServed shape (if accepted (playAll shape rs .refusal) then record { run = playAll shape us; refusal = ForeignEntry } else served (playAll shape rs)) table output) (sym cut)
 
     pub foreign-refused : listOrder p l xs table order .refusal ≢ 0
         → desk p l licensed (xs ++ ys) table output ≡ turnedDown (listOrder p l xs table order .refusal) (listOrder p l xs table order .table) output
@@ -177,20 +188,20 @@ module _ (p l licensed : ℕ) (xs ys table output : List ℕ) (settings : accept
             ∙ ap left (sym (list-down p l xs table order e))
         on true e =
             let is = list-is p l xs table order e long in
-            let no : accepted (g' .refusal) ≡ false = refused-number (g' .refusal) (λ z. h (ap (λ (x : ListResult). x .refusal) is ∙ z)) in
+            let no : accepted (g' .refusal) ≡ false = nonzero-refused (g' .refusal) (λ z. h (ap (λ (x : ListResult). x .refusal) is ∙ z)) in
             desk-at e
-            ∙ ap (λ (d : Served). deskServed t d table output) (rw no)
-            ∙ served-refused t g' table output no
+            ∙ ap (λ (d : Served). deskServed shape d table output) (rw no)
+            ∙ served-refused shape g' table output no
             ∙ ap left (sym is)
 
     pub foreign-found : listOrder p l xs table order .refusal ≡ 0 → desk p l licensed (xs ++ ys) table output ≡ turnedDown 14 (listOrder p l xs table order .table) output
-    unfolding listed deskServed sent firstOf delivers deskNumber
+    unfolding listed deskServed sent firstDeskRefusal delivers deskNumber
     foreign-found z =
         let e = list-accepted p l xs table order z in
         let is = list-is p l xs table order e long in
-        let found : ended ≡ record { run = playAll t us; refusal = ForeignEntry } = rw (list-played p l xs table order z) in
-        let memory = foreign-memory t (tall-for p l) licensed us r (stepRecords ys) plain foreign in
+        let found : ended ≡ record { run = playAll shape us; refusal = ForeignEntry } = rw (list-played p l xs table order z) in
+        let memory = foreign-memory shape (tall-for p l) licensed us r (stepRecords ys) plain foreign in
         desk-at e
-        ∙ ap (λ (d : Served). deskServed t d table output) found
-        ∙ ap (λ (m : Memory). turnedDown 14 (m .table ++ drop (wordsNeeded t) table) output) (sym memory ∙ ap (λ (rs : List StepRecord). playAll t rs .machine .memory) (sym cut))
+        ∙ ap (λ (d : Served). deskServed shape d table output) found
+        ∙ ap (λ (m : Memory). turnedDown 14 (m .table ++ drop (wordsNeeded shape) table) output) (sym memory ∙ ap (λ (rs : List StepRecord). playAll shape rs .machine .memory) (sym cut))
         ∙ ap (λ (x : ListResult). turnedDown 14 (x .table) output) (sym is)

@@ -28,21 +28,21 @@ use Rattle.tree.specs.Standing.{same}
 use Rattle.steps.proofs.Limits.{allowed-most, short-for}
 use Rattle.calls.specs.Refusals.{accepted, settingsRefusal}
 use Rattle.calls.specs.Numbered.{numbered}
-use Rattle.calls.specs.Run.{Played}
+use Rattle.calls.specs.Run.{Played, play}
 use Rattle.calls.specs.ListOrder.{playAll}
-use Rattle.calls.specs.History.{operation, begunBy, history}
+use Rattle.calls.specs.History.{operation, history}
 use Rattle.calls.specs.Linearizable.{response}
-use Rattle.calls.proofs.Agrees.{Agrees}
 use Rattle.calls.proofs.Played.{took-all}
 use Rattle.calls.proofs.CallAccepted.{settings-operations}
-use Rattle.calls.proofs.Theorem.{tall-for, played-agreed, played-words}
-use Rattle.calls.proofs.RecordsFit.{first-below, answers-fit}
+use Rattle.calls.proofs.Theorem.{tall-for, played-words}
+use Rattle.calls.proofs.RecordsFit.{first-below}
+use Rattle.calls.proofs.PlayedRecords.{played-answered, played-unanswered, played-once, played-answers-fit}
 use Rattle.desk_rules.specs.Entries.{isEntry, termOf, termSize, termBytes}
 use Rattle.desk_rules.specs.declared.DeskRefusal.{DeskRefusal}
-use Rattle.desk_rules.specs.DeskRefusals.{deskNumber, delivers, byQueue, firstOf, deskCallRefusal}
+use Rattle.desk_rules.specs.DeskRefusals.{deskNumber, delivers, byQueue, firstDeskRefusal, deskCallRefusal}
 use Rattle.desk_rules.specs.Desk.{Served, served, serve, termIn, terms, DeskResult, sent, deskServed, desk}
-use Rattle.desk_rules.specs.Deliveries.{DeliversInOrder}
-use Rattle.desk_rules.proofs.Serving.{served-delivers}
+use Rattle.desk_rules.specs.Deliveries.{InPutOrder, DeliversInOrder}
+use Rattle.desk_rules.proofs.Serving.{queue-delivers, served-delivers}
 use Rattle.desk_rules.proofs.Delivering.{serve-delivers}
 use Rattle.desk_rules.proofs.InOrder.{in-put-order}
 
@@ -73,8 +73,8 @@ sent-back ts rest f = list-back 4 (bytesOf 4) numberOf (bytes-length 4) ts rest 
 
 -- ---- a call that is not refused
 -- its tests passed, one after the other
-passed-all : (a b : DeskRefusal) → delivers (firstOf a b) ≡ true → (delivers a ≡ true) × (delivers b ≡ true)
-unfolding firstOf
+passed-all : (a b : DeskRefusal) → delivers (firstDeskRefusal a b) ≡ true → (delivers a ≡ true) × (delivers b ≡ true)
+unfolding firstDeskRefusal
 passed-all a b h = on (delivers a) refl h
   where
     on : (x : Bool) → delivers a ≡ x → delivers (if x then b else a) ≡ true → (delivers a ≡ true) × (delivers b ≡ true)
@@ -109,8 +109,8 @@ module _ (p l licensed : ℕ) (records table output : List ℕ) (none : desk p l
       on false z h = sent-delivers n [] table output h
 
   settings : accepted (settingsRefusal p l) ≡ true
-  unfolding deskCallRefusal byQueue delivers deskNumber accepted
-  settings = passed-all (byQueue (settingsRefusal p l)) _ call-delivers .0
+  unfolding deskCallRefusal
+  settings = sym (queue-delivers (settingsRefusal p l)) ∙ passed-all (byQueue (settingsRefusal p l)) _ call-delivers .0
 
   desk-is : desk p l licensed records table output ≡ deskServed s (serve s licensed rs) table output
   unfolding desk
@@ -146,11 +146,17 @@ module _ (p l licensed : ℕ) (records table output : List ℕ) (none : desk p l
   abbrev room : ℕ
   room = answerSize * length rs
 
-  agreed : Agrees s (g .machine) (λ k. begunBy k (history s (numbered rs))) (history s (numbered rs)) (g .answers)
+  -- what is said of the run's records taken is said of all
+  all-taken : take (play s room rs .taken) rs ≡ rs
   unfolding playAll
-  agreed =
-      subst (λ (l : List StepRecord). Agrees s (g .machine) (λ k. begunBy k (history s (numbered l))) (history s (numbered l)) (g .answers)) (took-all s room rs taken)
-      (played-agreed s (tall-for p l) room rs)
+  all-taken = took-all s room rs taken
+
+  in-order : InPutOrder (history s (numbered rs)) (rootOperations s t) ts
+  unfolding playAll
+  in-order =
+      subst (λ (l : List StepRecord). InPutOrder (history s (numbered l)) (rootOperations s t) ts) all-taken
+      (in-put-order s t (history s (numbered (take (play s room rs .taken) rs))) (g .answers) (played-once s (tall-for p l) room rs) (played-answered s (tall-for p l) room rs)
+      (played-unanswered s (tall-for p l) room rs))
 
   words-back : take (wordsNeeded s) (t ++ drop (wordsNeeded s) table) ≡ t
   unfolding playAll
@@ -161,15 +167,15 @@ module _ (p l licensed : ℕ) (records table output : List ℕ) (none : desk p l
   few = allowed-most l (settings-operations p l settings) .1
 
   terms-fit : ((i : ℕ) → getD (t ++ drop (wordsNeeded s) table) i 0 < 2 ^ 32) → All Fits ts
-  unfolding terms
+  unfolding terms playAll
   terms-fit words =
       gathered (g .answers)
       (all-map (g .answers) (λ a f. f .value)
-      (answers-fit agreed (tall-for p l) (short-for p l) few (first-below (2 ^ 32) t (drop (wordsNeeded s) table) (omega arith) words)))
+      (played-answers-fit s (tall-for p l) room rs (short-for p l) few (first-below (2 ^ 32) t (drop (wordsNeeded s) table) (omega arith) words)))
       (rootOperations s t)
 
   pub desk-order : ((i : ℕ) → getD (desk p l licensed records table output .table) i 0 < 2 ^ 32)
       → DeliversInOrder p l (stepRecords records) (desk p l licensed records table output .table) (desk p l licensed records table output .count) (desk p l licensed records table output .output)
   desk-order words =
       rw (all-sent, words-back, sent-back ts (drop (termSize * length ts) output) (terms-fit (subst (λ (x : DeskResult). (i : ℕ) → getD (x .table) i 0 < 2 ^ 32) all-sent words)))
-      (in-put-order agreed (tall-for p l))
+      in-order

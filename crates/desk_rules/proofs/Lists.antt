@@ -1,8 +1,8 @@
 -- What a list leaves at the desk, by whether it has a foreign entry. For general H.
-use Prim.Native.Nat.{ℕ, _*_, _-_, _≤_}
+use Prim.Native.Nat.{ℕ, _*_, _≤_}
 use native.Mathlib.Omega.{arith}
 use mathlib.Core.Path.{_≡_, refl, ap, sym, _∙_}
-use mathlib.Core.Bool.{Bool, true, false, _&&_, not}
+use mathlib.Core.Bool.{true, false, _&&_}
 use mathlib.Core.List.{List, [], _∷_, _++_, foldl, foldl-append}
 use lib.ListN.{length, length-append}
 use lib.Dec.{eqb}
@@ -14,12 +14,10 @@ use Rattle.record.specs.declared.StepRecord.{StepRecord}
 use Rattle.record.specs.StepRecords.{isStep, isBeginPut}
 use Rattle.record.specs.AnswerRecords.{answerSize}
 use Rattle.tree.specs.Shape.{Shape}
-use Rattle.steps.specs.Machine.{processOf, withProcess, begin}
-use Rattle.calls.specs.declared.Refusal.{Refusal}
-use Rattle.calls.specs.Refusals.{accepted, recordRefusal}
-use Rattle.calls.specs.Run.{Played, atStart, takeRecord, taking, refusing, playRecord, play}
+use Rattle.calls.specs.Refusals.{accepted}
+use Rattle.calls.specs.Run.{Played, atStart, playRecord, play}
 use Rattle.calls.specs.ListOrder.{playAll}
-use Rattle.calls.proofs.Played.{play-append}
+use Rattle.calls.proofs.Played.{begin-memory, play-append}
 use Rattle.calls.proofs.Rooms.{more-room}
 use Rattle.desk_rules.specs.declared.DeskRefusal.the-variants.{ForeignEntry}
 use Rattle.desk_rules.specs.Entries.{isEntry, isForeign}
@@ -27,24 +25,12 @@ use Rattle.desk_rules.specs.DeskRefusals.{deskNumber, delivers}
 use Rattle.desk_rules.specs.Desk.{Served, served, serveRecord, serve}
 use Rattle.desk_rules.proofs.Serving.{served-delivers, serve-foreign, served-on, over}
 
--- a foreign entry is a begin, and a begin changes no memory
+-- a foreign entry is a begin
 foreign-begins : (licensed : ℕ) (r : StepRecord) → isForeign licensed r ≡ true → isStep r ≡ false
 unfolding isForeign isBeginPut isStep
 foreign-begins licensed r e =
     let one : r .kind ≡ 1 = eqb-true (r .kind) 1 (and-true (eqb (r .kind) 1) _ (and-true (eqb (r .kind) 1 && isEntry (r .value)) _ e .0) .0) in
     ne-eqb (r .kind) 0 (λ z. omega arith)
-
-begin-keeps : (s : Shape) (room : ℕ) (g : Played) (r : StepRecord) → isStep r ≡ false → playRecord s room g r .machine .memory ≡ g .machine .memory
-unfolding playRecord taking refusing takeRecord begin withProcess
-begin-keeps s room g r z = on (not (accepted (g .refusal))) (accepted n)
-  where
-    n : Refusal
-    n = recordRefusal s (room - answerSize * length (g .answers)) (processOf (g .machine) (r .process)) r
-
-    on : (a b : Bool) → (if a then g else if b then taking s g r else refusing g n) .machine .memory ≡ g .machine .memory
-    on true b = refl
-    on false true = rw z
-    on false false = refl
 
 module _ (s : Shape) (tall : 1 ≤ s .height) (licensed : ℕ) where
   -- a list without one
@@ -75,7 +61,7 @@ module _ (s : Shape) (tall : 1 ≤ s .height) (licensed : ℕ) where
         ∙ more-room s tall (us ++ (r ∷ [])) room (omega (arith, length-append us (r ∷ vs), length-append us (r ∷ [])))
 
     pub foreign-memory : playAll s (us ++ (r ∷ [])) .machine .memory ≡ playAll s us .machine .memory
-    foreign-memory = ap (λ (x : Played). x .machine .memory) (sym with-it) ∙ begin-keeps s room g r (foreign-begins licensed r foreign)
+    foreign-memory = ap (λ (x : Played). x .machine .memory) (sym with-it) ∙ begin-memory s room g r (foreign-begins licensed r foreign)
 
     -- what it leaves
     abbrev ended : Served

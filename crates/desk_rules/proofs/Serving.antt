@@ -3,22 +3,36 @@ use Prim.Native.Nat.{ℕ}
 use mathlib.Core.Path.{_≡_, refl, ap, sym, _∙_}
 use mathlib.Core.Bool.{Bool, true, false, and-true, and-false}
 use mathlib.Core.List.{List, [], _∷_, foldl}
+use lib.Dec.{eqb}
 use Rattle.base.specs.Choice.{if_then_else_}
 use Rattle.base.specs.Members.{All}
+use Rattle.base.proofs.Cases.{cases}
 use Rattle.record.specs.declared.StepRecord.{StepRecord}
 use Rattle.tree.specs.Shape.{Shape}
-use Rattle.calls.specs.Refusals.{accepted}
+use Rattle.calls.specs.declared.Refusal.{Refusal}
+use Rattle.calls.specs.Refusals.{refusalNumber, accepted}
 use Rattle.calls.specs.Run.{Played, playRecord}
+use Rattle.calls.proofs.Acceptance.{zero-accepted}
 use Rattle.calls.proofs.Played.{over-stays}
+use Rattle.desk_rules.specs.declared.DeskRefusal.{DeskRefusal}
 use Rattle.desk_rules.specs.declared.DeskRefusal.the-variants.{ForeignEntry}
 use Rattle.desk_rules.specs.Entries.{isForeign}
 use Rattle.desk_rules.specs.DeskRefusals.{deskNumber, delivers, byQueue}
 use Rattle.desk_rules.specs.Desk.{Served, served, serveRecord}
 
+-- a refusal of the queue, or none, keeps its number
+pub queue-number : (n : Refusal) → deskNumber (byQueue n) ≡ refusalNumber n
+unfolding deskNumber byQueue
+queue-number n = cases (λ (d : DeskRefusal). deskNumber d ≡ refusalNumber n) (accepted n) (λ e. sym (zero-accepted n e)) (λ e. refl)
+
+pub queue-delivers : (n : Refusal) → delivers (byQueue n) ≡ accepted n
+unfolding delivers accepted
+queue-delivers n = ap (λ (k : ℕ). eqb k 0) (queue-number n)
+
 -- what the queue makes of its records delivers if they are not refused
 pub served-delivers : (g : Played) → delivers (served g .refusal) ≡ accepted (g .refusal)
-unfolding served delivers deskNumber byQueue accepted
-served-delivers g = refl
+unfolding served
+served-delivers g = queue-delivers (g .refusal)
 
 module _ (s : Shape) (room licensed : ℕ) where
   -- ---- one record

@@ -43,7 +43,7 @@ delivered val place n ns [] = []
 delivered val place n ns (feed f (Put v) ∷ zs) = delivered val (suc place) (suc n) (ns ++ (suc n ∷ [])) zs
 delivered val place n [] (feed f Take ∷ zs) = delivered val (suc place) n [] zs
 delivered val place n (j ∷ ns) (feed f Take ∷ zs) =
-    (if f && isEntry (val j) then record { place = place; put = j } ∷ [] else []) ++ delivered val (suc place) n ns zs
+    (if f && isEntry (val j) then record { position = place; put = j } ∷ [] else []) ++ delivered val (suc place) n ns zs
 
 -- ---- the values
 entry-term : (v : ℕ) → isEntry v ≡ true → termOf v + firstEntry ≡ v
@@ -101,14 +101,14 @@ module _ (val : ℕ → ℕ) where
       rest = delivered val (suc place) n ns zs
 
       on : (f b : Bool) → isEntry (val j) ≡ b → map valueOf rest ≡ map entryOf (given (map val ns) zs)
-          → map valueOf ((if f && b then record { place = place; put = j } ∷ [] else []) ++ rest)
+          → map valueOf ((if f && b then record { position = place; put = j } ∷ [] else []) ++ rest)
           ≡ map entryOf (termIn (if f then Value (val j) else Nothing) ++ given (map val ns) zs)
       on false b e ih = ih
       on true true e ih = rw e (λ i. sym (entry-term (val j) e) i ∷ ih i)
       on true false e ih = rw e ih
 
   -- ---- the places and the numbers rise
-  pub places-rise : (zs : List Feed) (place n : ℕ) (ns : List ℕ) → RisingFrom place (map (λ (d : Delivery). d .place) (delivered val place n ns zs))
+  pub places-rise : (zs : List Feed) (place n : ℕ) (ns : List ℕ) → RisingFrom place (map (λ (d : Delivery). d .position) (delivered val place n ns zs))
   unfolding delivered
   places-rise [] place n ns = rises-none place
   places-rise (feed f (Put v) ∷ zs) place n ns = rises-lower place (suc place) _ (omega arith) (places-rise zs (suc place) (suc n) (ns ++ (suc n ∷ [])))
@@ -118,7 +118,7 @@ module _ (val : ℕ → ℕ) where
       rest : List Delivery
       rest = delivered val (suc place) n ns zs
 
-      on : (b : Bool) → RisingFrom (suc place) (map (λ d. d .place) rest) → RisingFrom place (map (λ d. d .place) ((if b then record { place = place; put = j } ∷ [] else []) ++ rest))
+      on : (b : Bool) → RisingFrom (suc place) (map (λ d. d .position) rest) → RisingFrom place (map (λ d. d .position) ((if b then record { position = place; put = j } ∷ [] else []) ++ rest))
       on true a = rises-first place place _ (le-refl place) a
       on false a = rises-lower place (suc place) _ (omega arith) a
 
@@ -138,7 +138,7 @@ module _ (val : ℕ → ℕ) where
       rest : List Delivery
       rest = delivered val (suc place) n ns zs
 
-      on : (b : Bool) → RisingFrom (suc j) (map (λ d. d .put) rest) → RisingFrom low (map (λ d. d .put) ((if b then record { place = place; put = j } ∷ [] else []) ++ rest))
+      on : (b : Bool) → RisingFrom (suc j) (map (λ d. d .put) rest) → RisingFrom low (map (λ d. d .put) ((if b then record { position = place; put = j } ∷ [] else []) ++ rest))
       on true r = rises-first low j _ (a .all .0) r
       on false r = rises-lower low (suc j) _ (omega (arith, a .all .0)) r
 
@@ -149,7 +149,7 @@ module _ (val : ℕ → ℕ) where
         (i : ℕ) → (getD (map finishedIn zs) i b ≡ flag (place + i)) × (getD (replies ns (withNumbers n (map operationIn zs))) i Nothing ≡ reply (place + i))
 
     abbrev Ok : Delivery → Type 0
-    Ok d = (flag (d .place) ≡ true) × (reply (d .place) ≡ Value (d .put))
+    Ok d = (flag (d .position) ≡ true) × (reply (d .position) ≡ Value (d .put))
 
     -- the next operation, and those after it
     next : {A : Type 0} (x : A) (f : ℕ → A) (place : ℕ) → x ≡ f (place + 0) → x ≡ f place
@@ -161,7 +161,7 @@ module _ (val : ℕ → ℕ) where
     later place n ns zs h i = let e : place + suc i ≡ suc place + i = omega arith in (h i .0 ∙ ap flag e, h i .1 ∙ ap reply e)
 
     pub delivered-received : (zs : List Feed) (place n : ℕ) (ns : List ℕ) → From place n ns zs
-        → All (λ (d : Delivery). (flag (d .place) ≡ true) × (reply (d .place) ≡ Value (d .put))) (delivered val place n ns zs)
+        → All (λ (d : Delivery). (flag (d .position) ≡ true) × (reply (d .position) ≡ Value (d .put))) (delivered val place n ns zs)
     unfolding delivered withNumbers replies fed answers
     delivered-received [] place n ns h = tt
     delivered-received (feed f (Put v) ∷ zs) place n ns h = delivered-received zs (suc place) (suc n) (ns ++ (suc n ∷ [])) (later place (suc n) (ns ++ (suc n ∷ [])) zs (λ i. h (suc i)))
@@ -170,7 +170,7 @@ module _ (val : ℕ → ℕ) where
         on f (isEntry (val j)) (next f flag place (h 0 .0)) (next (Value j) reply place (h 0 .1)) (delivered-received zs (suc place) n ns (later place n ns zs (λ i. h (suc i))))
       where
         on : (f e : Bool) → f ≡ flag place → Value j ≡ reply place → All Ok (delivered val (suc place) n ns zs)
-            → All Ok ((if f && e then record { place = place; put = j } ∷ [] else []) ++ delivered val (suc place) n ns zs)
+            → All Ok ((if f && e then record { position = place; put = j } ∷ [] else []) ++ delivered val (suc place) n ns zs)
         on true true p q a = ((sym p, sym q), a)
         on true false p q a = a
         on false e p q a = a

@@ -42,24 +42,30 @@ unfoldable pub replies : List ℕ → List Operation → List Reply
 replies q [] = []
 replies q (o ∷ os) = answers o q ∷ replies (fed o q) os
 
--- a term that was delivered: the place of its take in the root order, from 0, and the number of its put there, from 1
+-- a term that was delivered: the position of its take in the root order, from 0, and the number of its put among the
+-- puts there, from 1
 pub record Delivery : Type 0 where
-  pub place : ℕ
+  pub position : ℕ
   pub put : ℕ
 
--- of a delivery, where `order` is the root order and h the history: an operation that finished stands at its place, and
--- a plain queue that is fed the root order, each put with its number in place of its value, answers it the put's number
+-- what the operations of an order do, by their begin records
+abbrev pub operationsOf : List Event → List OpId → List Operation
+operationsOf h order = map (λ x. does x h) order
+
+-- of a delivery, where `order` is the root order and h the history: the operation at its position finished, and a plain
+-- queue that is fed the root order, each put with its number in place of its value, answers it the put's number. So it
+-- is a take in the order: a put, and what is past the order, is answered no number.
 pub record Received (h : List Event) (order : List OpId) (d : Delivery) : Type 0 where
-  pub finished : isFinished (getD order (d .place) (record { process = 0; serial = 0 })) h ≡ true
-  pub given : getD (replies [] (withNumbers 0 (map (λ x. does x h) order))) (d .place) Nothing ≡ Value (d .put)
+  pub finished : isFinished (getD order (d .position) (record { process = 0; serial = 0 })) h ≡ true
+  pub given : getD (replies [] (withNumbers 0 (operationsOf h order))) (d .position) Nothing ≡ Value (d .put)
 
 -- of the terms sent: each is the value of a put in root order, less 2^31, which a finished take received; the takes
--- stand in the order of the terms, and so do the puts
+-- stand in the order of the terms, and so do the puts. (2^31 or more is no value past the puts, which reads as 0.)
 pub record InPutOrder (h : List Event) (order : List OpId) (terms : List ℕ) : Type 0 where
   pub deliveries : List Delivery
   pub received : All (Received h order) deliveries
-  pub values : map (λ d. getD (valuesPut (map (λ x. does x h) order)) (d .put - 1) 0) deliveries ≡ map (λ t. t + firstEntry) terms
-  pub takesRise : Rising (map (λ d. d .place) deliveries)
+  pub values : map (λ d. getD (valuesPut (operationsOf h order)) (d .put - 1) 0) deliveries ≡ map (λ t. t + firstEntry) terms
+  pub takesRise : Rising (map (λ d. d .position) deliveries)
   pub putsRise : Rising (map (λ d. d .put) deliveries)
 
 -- on p, L, the records of a list that was not refused, the table words left, the number of terms and the output left

@@ -14,14 +14,13 @@ use Rattle.record.specs.AnswerRecords.{answerSize}
 use Rattle.tree.specs.Shape.{Shape, shapeFor}
 use Rattle.tree.specs.Layout.{wordsNeeded}
 use Rattle.tree.specs.Order.{rootOperations}
-use Rattle.calls.specs.declared.Refusal.the-variants.{None}
 use Rattle.calls.specs.Refusals.{accepted}
 use Rattle.calls.specs.Run.{Played, atStart, playRecord}
 use Rattle.calls.specs.Linearizable.{response}
 use Rattle.desk_rules.specs.declared.DeskRefusal.{DeskRefusal}
-use Rattle.desk_rules.specs.declared.DeskRefusal.the-variants.{ForeignEntry, OutputShort}
+use Rattle.desk_rules.specs.declared.DeskRefusal.the-variants.{None, ForeignEntry, OutputShort}
 use Rattle.desk_rules.specs.Entries.{isEntry, termOf, isForeign, termSize, termBytes}
-use Rattle.desk_rules.specs.DeskRefusals.{deskNumber, delivers, byQueue, firstOf, deskCallRefusal}
+use Rattle.desk_rules.specs.DeskRefusals.{deskNumber, delivers, byQueue, firstDeskRefusal, deskCallRefusal}
 
 -- ---- the list
 
@@ -55,7 +54,8 @@ termIn Done = []
 termIn (Value v) = if isEntry v then termOf v ∷ [] else []
 termIn Nothing = []
 
--- the terms received by finished takes, in root order of the takes: an operation that has not finished has no answer
+-- the terms received by finished takes, in root order of the takes: an operation without an answer record, as one that
+-- has not finished, responds with none here and gives no term
 unfoldable pub terms : Shape → List AnswerRecord → List ℕ → List ℕ
 terms s log t = flatMap (λ x. termIn (response log x)) (rootOperations s t)
 
@@ -81,14 +81,14 @@ sent n ts table output =
 
 -- 10 if the terms exceed the output
 unfoldable pub outputRefusal : List ℕ → ℕ → DeskRefusal
-outputRefusal ts output = if ltb output (termSize * length ts) then OutputShort else byQueue None
+outputRefusal ts output = if ltb output (termSize * length ts) then OutputShort else None
 
 -- the work table is as Run leaves it
 unfoldable pub deskServed : Shape → Served → List ℕ → List ℕ → DeskResult
 deskServed s d table output =
     let t = d .run .machine .memory .table in
     let ts = terms s (d .run .answers) t in
-    sent (firstOf (d .refusal) (outputRefusal ts (length output))) ts (t ++ drop (wordsNeeded s) table) output
+    sent (firstDeskRefusal (d .refusal) (outputRefusal ts (length output))) ts (t ++ drop (wordsNeeded s) table) output
 
 -- the desk takes p, L, the licensed process, step records, work table, output
 unfoldable pub desk : ℕ → ℕ → ℕ → List ℕ → List ℕ → List ℕ → DeskResult

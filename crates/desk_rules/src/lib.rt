@@ -3,7 +3,8 @@
 
 // Why a call or a record is refused.
 pub enum DeskRefusal {
-    // what the queue library returns: its number, 0 for none
+    None,
+    // by the queue: its number there
     Queue(u32),
     Licence,
     ForeignEntry,

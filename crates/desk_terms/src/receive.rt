@@ -17,7 +17,8 @@ pub fn slot_of(l: u32, process: u32, serial: u32) -> usize
 }
 
 // Stores in the slot of each of the first n answers' operations the value that it received, 0 for none: 0 is no entry.
-// From the last answer to the first, so that of two answers to one operation the first counts.
+// From the last answer to the first, so that of two answers to one operation the first counts, as in the definition; a
+// run never gives two.
 pub fn receive(answers: &[u8], n: usize, l: u32, received: &mut [u32])
     requires room { ⌜ (16 * n ≤ length (now answers)) × (l ≤ 500) ⌝ }
     requires slots { ⌜ All (λ (a : AnswerRecord). HasSlot l (length (now received)) (a .process) (a .serial)) (answersIn n (now answers)) ⌝ }

@@ -1,4 +1,4 @@
--- Lists that the functions of the desk are lent.
+-- What the functions of the desk ask of the lists that they are lent, and what one leaves of a run.
 use Prim.Native.Nat.{ℕ, _<_}
 use mathlib.Core.Path.{_≡_}
 use mathlib.Core.Bool.{true, false}
