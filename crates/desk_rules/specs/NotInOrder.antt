@@ -22,7 +22,7 @@ use Rattle.calls.specs.Numbered.{numbered}
 use Rattle.calls.specs.Run.{run}
 use Rattle.calls.specs.History.{Event, opens, finishes, operation, history, isFinished, does}
 use Rattle.calls.specs.KnownRuns.{beginPut, beginTake, steps}
-use Rattle.desk_rules.specs.Deliveries.{Rising, valuesPut, withNumbers, replies, Delivery, Received, InPutOrder, DeliversInOrder}
+use Rattle.desk_rules.specs.Deliveries.{Rising, valuesPut, withNumbers, replies, Delivery, operationsOf, Received, InPutOrder, DeliversInOrder}
 use Rattle.desk_rules.specs.All.{deskRules}
 
 -- ---- what the clause says, of every history, root order and terms: no less
@@ -47,7 +47,7 @@ risingAt (n ∷ ns) r (suc i) (suc j) l m = risingAt ns (r .1) i j (omega (arith
 
 -- what stands past the last delivery, and past the last operation
 abbrev pub none : Delivery
-none = record { place = 0; put = 0 }
+none = record { position = 0; put = 0 }
 
 abbrev pub nobody : OpId
 nobody = record { process = 0; serial = 0 }
@@ -69,15 +69,15 @@ module _ (h : List Event) (order : List OpId) (terms : List ℕ) (claim : InPutO
     got = allAt (Received h order) none ds i (omega (arith, l, saysEach)) (claim .received)
 
     -- its take finished
-    pub saysFinished : isFinished (getD order (delivery i .place) nobody) h ≡ true
+    pub saysFinished : isFinished (getD order (delivery i .position) nobody) h ≡ true
     saysFinished = got .finished
 
     -- and got its put
-    pub saysGiven : getD (replies [] (withNumbers 0 (map (λ x. does x h) order))) (delivery i .place) Nothing ≡ Value (delivery i .put)
+    pub saysGiven : getD (replies [] (withNumbers 0 (operationsOf h order))) (delivery i .position) Nothing ≡ Value (delivery i .put)
     saysGiven = got .given
 
     -- whose value is the term and 2^31
-    pub saysValue : getD (valuesPut (map (λ x. does x h) order)) (delivery i .put - 1) 0 ≡ getD terms i 0 + 2147483648
+    pub saysValue : getD (valuesPut (operationsOf h order)) (delivery i .put - 1) 0 ≡ getD terms i 0 + 2147483648
     unfolding deskRules
     saysValue = sym (mapAt _ none ds i (omega (arith, l, saysEach))) ∙ ap (λ ns. getD ns i 0) (claim .values) ∙ mapAt _ 0 terms i l
 
@@ -87,8 +87,8 @@ module _ (h : List Event) (order : List OpId) (terms : List ℕ) (claim : InPutO
     rise f r =
         omega (arith, risingAt (map f ds) r i j l (omega (arith, m, saysEach, length-map ds f)), mapAt f none ds i (omega (arith, l, m, saysEach)), mapAt f none ds j (omega (arith, m, saysEach)))
 
-    pub saysTakes : delivery i .place < delivery j .place
-    saysTakes = rise (λ d. d .place) (claim .takesRise)
+    pub saysTakes : delivery i .position < delivery j .position
+    saysTakes = rise (λ d. d .position) (claim .takesRise)
 
     pub saysPuts : delivery i .put < delivery j .put
     saysPuts = rise (λ d. d .put) (claim .putsRise)
@@ -112,7 +112,7 @@ module _ (p l : ℕ) (records : List StepRecord) (table : List ℕ) (count : ℕ
 abbrev operations : List Operation
 operations = Put 2147483653 ∷ Put 2147483654 ∷ Take ∷ Take ∷ []
 
--- the first take, at place 2, gets put 1, and the second, at place 3, put 2
+-- the first take, at position 2, gets put 1, and the second, at position 3, put 2
 given : (i n : ℕ) → getD (replies [] (withNumbers 0 operations)) i Nothing ≡ Value n
     → (i ≡ n + 1) × (1 ≤ n) × (n ≤ 2) × (getD (valuesPut operations) (n - 1) 0 ≡ n + 2147483652)
 unfolding deskRules
@@ -124,15 +124,15 @@ given (suc (suc (suc (suc i)))) n e = absurd (omega (arith, ap replyKind e))
 
 -- where the root order is of these operations
 module _ (h : List Event) (order : List OpId) (these : map (λ x. does x h) order ≡ operations) where
-  -- so the put of term t is put t - 4, and its take is at place t - 3
+  -- so the put of term t is put t - 4, and its take is at position t - 3
   from : (terms : List ℕ) (claim : InPutOrder h order terms) (i : ℕ) → i < length terms
       → (getD terms i 0 ≡ delivery h order terms claim i .put + 4)
-      × (delivery h order terms claim i .place ≡ delivery h order terms claim i .put + 1)
+      × (delivery h order terms claim i .position ≡ delivery h order terms claim i .put + 1)
       × (1 ≤ delivery h order terms claim i .put)
       × (delivery h order terms claim i .put ≤ 2)
   from terms claim i l =
       let d = delivery h order terms claim i in
-      let g = given (d .place) (d .put) (ap (λ os. getD (replies [] (withNumbers 0 os)) (d .place) Nothing) (sym these) ∙ saysGiven h order terms claim i l) in
+      let g = given (d .position) (d .put) (ap (λ os. getD (replies [] (withNumbers 0 os)) (d .position) Nothing) (sym these) ∙ saysGiven h order terms claim i l) in
       let v = ap (λ os. getD (valuesPut os) (d .put - 1) 0) (sym these) ∙ saysValue h order terms claim i l in
       (omega (arith, v, g .3), g .0, g .1, g .2)
 
@@ -195,7 +195,7 @@ module _ (ends : List Event) (term : ℕ) (claim : InPutOrder (entries ends) ord
   pub itsTake : isFinished (getD order (term - 3) nobody) (entries ends) ≡ true
   itsTake =
       let f = from (entries ends) order these (term ∷ []) claim 0 (omega arith) in
-      let is : term - 3 ≡ delivery (entries ends) order (term ∷ []) claim 0 .place = omega (arith, f .0, f .1) in
+      let is : term - 3 ≡ delivery (entries ends) order (term ∷ []) claim 0 .position = omega (arith, f .0, f .1) in
       ap (λ i. isFinished (getD order i nobody) (entries ends)) is ∙ saysFinished (entries ends) order (term ∷ []) claim 0 (omega arith)
 
 pub firstUnfinished : InPutOrder (entries (finishes (operation 2 1) ∷ [])) order (5 ∷ []) → ⊥
@@ -209,7 +209,7 @@ secondUnfinished claim = false≢true (itsTake _ 6 claim)
 -- the term of a put that no take got: the second take is not in the root order
 pub notTaken : (ends : List Event) → InPutOrder (entries ends) (take 3 order) (6 ∷ []) → ⊥
 unfolding deskRules
-notTaken ends claim = on (delivery _ _ _ claim 0 .place) (delivery _ _ _ claim 0 .put) (saysGiven _ _ _ claim 0 (omega arith)) (saysValue _ _ _ claim 0 (omega arith))
+notTaken ends claim = on (delivery _ _ _ claim 0 .position) (delivery _ _ _ claim 0 .put) (saysGiven _ _ _ claim 0 (omega arith)) (saysValue _ _ _ claim 0 (omega arith))
   where
     on : (i n : ℕ) → getD (Done ∷ Done ∷ Value 1 ∷ []) i Nothing ≡ Value n → getD (valuesPut operations) (n - 1) 0 ≡ 2147483654 → ⊥
     on zero n e v = omega (arith, ap replyKind e)
@@ -223,7 +223,7 @@ pub inOrder : InPutOrder (entries (finishes (operation 2 1) ∷ finishes (operat
 unfolding deskRules
 inOrder =
     record {
-      deliveries = record { place = 2; put = 1 } ∷ record { place = 3; put = 2 } ∷ [];
+      deliveries = record { position = 2; put = 1 } ∷ record { position = 3; put = 2 } ∷ [];
       received = (record { finished = refl; given = refl }, (record { finished = refl; given = refl }, tt));
       values = refl;
       takesRise = ((omega arith, tt), (tt, tt));
@@ -234,7 +234,7 @@ pub secondAlone : InPutOrder (entries (finishes (operation 2 1) ∷ [])) order (
 unfolding deskRules
 secondAlone =
     record {
-      deliveries = record { place = 3; put = 2 } ∷ [];
+      deliveries = record { position = 3; put = 2 } ∷ [];
       received = (record { finished = refl; given = refl }, tt);
       values = refl;
       takesRise = (tt, tt);
