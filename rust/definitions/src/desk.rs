@@ -28,7 +28,8 @@ struct Lent {
     output: Vec<u8>,
 }
 
-pub fn rows() -> Vec<Row> {
+/// The fixed calls, and so many random ones of this seed.
+pub fn rows(how_many: u64, seed: u64) -> Vec<Row> {
     [
         worked_by_hand(),
         desk_order::rows(),
@@ -37,7 +38,7 @@ pub fn rows() -> Vec<Row> {
         table_lengths(),
         output_lengths(),
         output_last(),
-        random(),
+        random(how_many, seed),
     ]
     .into_iter()
     .flatten()
@@ -252,14 +253,11 @@ const SHAPES: [(u32, u32, u32); 7] = [
     (2, 5, 5),
 ];
 
-/// How many random calls there are.
-const RANDOM: u64 = 42;
-
-/// Lists of every pace; in two cases of three something is wrong. At times the output is short.
-fn random() -> Vec<Row> {
-    let mut random = Random::new(7);
+/// Lists of every pace; in at most two cases of three something is wrong. At times the output is short.
+fn random(how_many: u64, seed: u64) -> Vec<Row> {
+    let mut random = Random::new(seed);
     let mut rows = Vec::new();
-    for row in 0..RANDOM {
+    for row in 0..how_many {
         let (p, l, each) = SHAPES[row as usize % SHAPES.len()];
         let plan = Plan {
             each,

@@ -2,9 +2,10 @@
 //! says of demand 3. Arguments: `HOW-MANY SEED` for random calls and forecasts; `calls` for the
 //! fixed calls that play records, and among them `between` for those in which operations come
 //! between the reads of another, `helps` for those in which a refresh advances a child's block;
-//! `forecast` for the fixed forecasts; `demand3` for its terms; `desk` for calls of the delivery desk;
-//! `long` for more of these that take the prover long; and `tally FILE ..`, which says how often the
-//! rows of these files meet each number and case and fails if one is never met.
+//! `forecast` for the fixed forecasts; `demand3` for its terms; `desk [HOW-MANY SEED]` for calls of the
+//! delivery desk, the fixed ones and so many random ones; `long` for more of these that take the prover
+//! long; and `tally FILE ..`, which says how often the rows of these files meet each number and case and
+//! fails if one is never met.
 
 mod call;
 mod decimal;
@@ -40,12 +41,13 @@ fn main() {
         ["helps"] => print(fixed_calls::helps()),
         ["demand3"] => print(demand3::rows()),
         ["forecast"] => print(forecasts::rows()),
-        ["desk"] => print_desk(desk::rows()),
+        ["desk"] => print_desk(desk::rows(42, 7)),
+        ["desk", rows, seed] => print_desk(desk::rows(number(rows), number(seed))),
         ["long"] => print(long()),
         [rows, seed] => print(random_calls::rows(number(rows), number(seed))),
         _ => panic!(
-            "arguments: HOW-MANY SEED, calls, between, helps, demand3, forecast, desk, long, \
-             or tally FILE .."
+            "arguments: HOW-MANY SEED, calls, between, helps, demand3, forecast, \
+             desk [HOW-MANY SEED], long, or tally FILE .."
         ),
     }
 }
