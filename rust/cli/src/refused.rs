@@ -149,7 +149,8 @@ impl Refused<'_> {
         let (record, standing, cause) = match refusal {
             dictionary::Refusal::Licence => {
                 let given = format!("process {licensed} is licensed, and p is {}", list.p());
-                (None, Some(given), other_numbers(list, call))
+                let other = other_licence(list).or_else(|| other_numbers(list, call));
+                (None, Some(given), other)
             }
             dictionary::Refusal::ForeignEntry => {
                 let standing = foreign(list.records()[taken], licensed);
@@ -317,11 +318,17 @@ fn standing(list: &List, call: Call, refusal: Refusal, record: usize) -> Option<
 }
 
 /// Who puts which entry.
-fn foreign([process, _, _, _, value @ ..]: Record, licensed: u32) -> Option<String> {
-    let term = dictionary::term(u32::from_le_bytes(value))?;
+fn foreign(record: Record, licensed: u32) -> Option<String> {
+    let (process, term) = (record[0], term_put(record)?);
     Some(format!(
         "process {process} puts term {term}, and process {licensed} is licensed"
     ))
+}
+
+/// The term that a record puts, if that is an entry.
+fn term_put([_, kind, _, _, value @ ..]: Record) -> Option<u32> {
+    let value = (kind == 1).then(|| u32::from_le_bytes(value))?;
+    dictionary::term(value)
 }
 
 /// What is wrong with an ill-formed record.
@@ -409,12 +416,19 @@ fn other_numbers(list: &List, call: Call) -> Option<String> {
     (!found.is_empty()).then(|| format!("with {told} the whole list is taken"))
 }
 
-/// Another licensed process with which the whole list is taken. There is at most one, since the list
-/// puts an entry.
+/// Another licensed process with which the whole list is taken: the one that puts entries, and of a list
+/// without entries, which is taken with each process or with none, the lowest.
 fn other_licence(list: &List) -> Option<String> {
     let mut processes = 0..list.p();
     let other = processes.find(|&other| list.is_delivered_with(list.p(), list.l(), other))?;
-    Some(format!("with --licensed {other} the whole list is taken"))
+    let has_entries = list.records().iter().any(|&x| term_put(x).is_some());
+    let puts = match has_entries {
+        true => format!("process {other} alone puts entries"),
+        false => "no process puts entries".to_string(),
+    };
+    Some(format!(
+        "{puts}: with --licensed {other} the whole list is taken"
+    ))
 }
 
 /// What has to be said to have another p and L.

@@ -119,7 +119,7 @@ fn raw_terms() {
 }
 
 /// Lists that are refused: a name, the licensed process, the text, and how what is told begins.
-const REFUSED: [[&str; 4]; 12] = [
+const REFUSED: [[&str; 4]; 15] = [
     [
         "processes",
         "9",
@@ -140,6 +140,31 @@ const REFUSED: [[&str; 4]; 12] = [
         "otq: refused with 13: the licensed process is not below the number of processes\n  \
          process 2 is licensed, and p is 2\n  \
          likely cause: with `processes 4` or `processes 8` the whole list is taken\n  `otq explain 13`",
+    ],
+    [
+        "licence-of-one",
+        "2",
+        "processes 2\nput 7 by 0\nput 2147483648 by 1\n",
+        "otq: refused with 13: the licensed process is not below the number of processes\n  \
+         process 2 is licensed, and p is 2\n  \
+         likely cause: process 1 alone puts entries: with --licensed 1 the whole list is taken\n  \
+         `otq explain 13`",
+    ],
+    [
+        "licence-without-entries",
+        "2",
+        "processes 2\nput 2147483647 by 1\n",
+        "otq: refused with 13: the licensed process is not below the number of processes\n  \
+         process 2 is licensed, and p is 2\n  \
+         likely cause: no process puts entries: with --licensed 0 the whole list is taken\n  \
+         `otq explain 13`",
+    ],
+    [
+        "licence-of-both",
+        "2",
+        "processes 2\nput 2147483648 by 0\nput 2147483648 by 1\n",
+        "otq: refused with 13: the licensed process is not below the number of processes\n  \
+         process 2 is licensed, and p is 2\n  `otq explain 13`",
     ],
     [
         "table",
@@ -205,7 +230,7 @@ const REFUSED: [[&str; 4]; 12] = [
         "otq: refused with 14: a process that is not licensed puts an entry\n  \
          record 2, byte 8: put 4294967295 by 3 (03 01 00 00 ff ff ff ff), FILE:3\n  \
          process 3 puts term 2147483647, and process 0 is licensed\n  \
-         likely cause: with --licensed 3 the whole list is taken\n  \
+         likely cause: process 3 alone puts entries: with --licensed 3 the whole list is taken\n  \
          `otq explain 14` says what to do\n",
     ],
     [
