@@ -23,7 +23,8 @@ module _ (s : Shape) (tall : 1 ≤ s .height) where
   module _ (ns : List Numbered) (n : Numbered) (run : Run s ns) (acc : Accepted s (machineAfter s ns) (n .item)) where
     pub record-number : WritesNumber s (n .number) (memoryAfter s ns) (memoryAfter s (ns ++ (n ∷ [])))
     record-number =
-        by-record s tall ns n run acc (WritesNumber s (n .number) (memoryAfter s ns)) (none-written s (n .number) (memoryAfter s ns)) (step-number s tall (n .number) (machineAfter s ns) (run .invariant))
+        by-record s tall ns n run acc (WritesNumber s (n .number) (memoryAfter s ns)) (none-written s (n .number) (memoryAfter s ns))
+        (step-number s tall (n .number) (machineAfter s ns) (run .invariant))
 
     pub record-grows : Grows s (memoryAfter s ns) (memoryAfter s (ns ++ (n ∷ [])))
     record-grows =

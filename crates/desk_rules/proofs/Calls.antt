@@ -161,16 +161,19 @@ module _ (p l licensed : ℕ) (xs ys table output : List ℕ) (settings : accept
     abbrev g' : Played
     g' = playAll shape (stepRecords xs)
 
-    -- what it leaves
+    -- what it leaves, by the run of the records up to and with the entry
+    abbrev endedBy : Played → Served
+    endedBy x = if accepted (x .refusal) then record { run = playAll shape us; refusal = ForeignEntry } else served x
+
     abbrev ended : Served
-    ended = if accepted (g' .refusal) then record { run = playAll shape us; refusal = ForeignEntry } else served g'
+    ended = endedBy g'
 
     desk-at : accepted n' ≡ true → desk p l licensed (xs ++ ys) table output ≡ deskServed shape ended table output
     desk-at e =
         desk-on p l licensed (xs ++ ys) table output settings low (ap accepted same-call ∙ e)
         ∙ ap (λ (rs : List StepRecord). deskServed shape (serve shape licensed rs) table output) records-are
         ∙ ap (λ (d : Served). deskServed shape d table output) (serve-at shape (tall-for p l) licensed us r (stepRecords ys) plain foreign)
-        ∙ ap (λ (rs : List StepRecord). deskServed shape (if accepted (playAll shape rs .refusal) then record { run = playAll shape us; refusal = ForeignEntry } else served (playAll shape rs)) table output) (sym cut)
+        ∙ ap (λ (rs : List StepRecord). deskServed shape (endedBy (playAll shape rs)) table output) (sym cut)
 
     pub foreign-refused : listOrder p l xs table order .refusal ≢ 0
         → desk p l licensed (xs ++ ys) table output ≡ turnedDown (listOrder p l xs table order .refusal) (listOrder p l xs table order .table) output

@@ -1,5 +1,5 @@
--- Where each operation stands at most once in the root order, a finished one responds what the plain queue answers it and
--- another with none, the terms are in the order of their puts.
+-- Where each operation stands at most once in the root order, and a finished one responds what the plain queue answers
+-- it and another with none, the terms are in the order of their puts.
 use Prim.Native.Nat.{ℕ, suc, _+_, _-_, _≤_}
 use native.Mathlib.Omega.{arith}
 use mathlib.Core.Path.{_≡_, refl, ap, sym, _∙_}
