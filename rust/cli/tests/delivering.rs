@@ -287,7 +287,8 @@ fn answer_bytes_play_no_part() {
 
 #[test]
 fn the_licence_is_asked_for() {
-    let message = "otq: give --licensed K, the process that may put entries\n";
+    let message = "otq: give --licensed K, the process that may put entries; \
+                   processes count from 0 and are below p\n";
     assert_fails(&["desk", TERMS], 2, message);
 }
 

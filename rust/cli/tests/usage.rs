@@ -33,7 +33,7 @@ fn help_and_version() {
     assert!(forecast.contains("\n\nBEGINS is ") && !forecast.contains("\n\nSTEPS is "));
     // The longest option has room before its meaning.
     let desk = written(&["desk", "--help"]);
-    assert!(desk.contains("\n  --licensed K  the process that may put entries, below p\n"));
+    assert!(desk.contains("\n  --licensed K  the process that may put entries, 0 to p - 1\n"));
     assert_eq!(written(&["help"]), help);
     assert_eq!(written(&["-h"]), help);
     assert_eq!(

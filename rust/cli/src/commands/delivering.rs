@@ -16,7 +16,7 @@ use std::collections::{HashSet, VecDeque};
 pub const LICENSED: Choice = Choice {
     name: "--licensed",
     value: Some("K"),
-    about: "the process that may put entries, below p",
+    about: "the process that may put entries, 0 to p - 1",
 };
 pub const RAW: Choice = Choice {
     name: "--raw",
@@ -26,8 +26,11 @@ pub const RAW: Choice = Choice {
 
 pub fn desk(tool: &mut Tool, given: &Given) -> Result<Status, Failure> {
     let licensed = given.small("--licensed")?;
-    let licensed = licensed
-        .ok_or_else(|| Failure::mistake("give --licensed K, the process that may put entries"))?;
+    let licensed = licensed.ok_or_else(|| {
+        Failure::mistake(
+            "give --licensed K, the process that may put entries; processes count from 0 and are below p",
+        )
+    })?;
     let list = List::read(tool, given)?;
     let bytes = match list.deliver(licensed)? {
         Ok(bytes) => bytes,
