@@ -34,11 +34,13 @@ impl Reason {
 }
 
 /// Every refusal in the order of the numbers, and what to do about it.
-pub fn explained() -> impl Iterator<Item = (Reason, &'static str)> {
+pub fn explained() -> Vec<(Reason, &'static str)> {
     let queue = Refusal::ALL.map(|refusal| (Reason::of_queue(refusal), advice(refusal)));
     let desk = dictionary::Refusal::ALL.into_iter();
     let desk = desk.filter_map(|refusal| Some((Reason::of_desk(refusal), desk_advice(refusal)?)));
-    queue.into_iter().chain(desk)
+    let mut explained: Vec<_> = queue.into_iter().chain(desk).collect();
+    explained.sort_by_key(|(reason, _)| reason.number);
+    explained
 }
 
 /// What to do about a refusal that the desk alone has.

@@ -5,6 +5,9 @@ use crate::support::{assert_fails, written};
 #[test]
 fn every_refusal() {
     let all = written(&["explain"]);
+    let number = |line: &str| line.split(' ').next()?.parse().ok();
+    let numbers: Vec<u32> = all.lines().map_while(number).collect();
+    assert!(numbers.into_iter().eq(0..=14), "{all}");
     for number in 1..=14 {
         let one = written(&["explain", &number.to_string()]);
         let (meaning, advice) = one.split_once(".\n").unwrap();

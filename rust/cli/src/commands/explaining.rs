@@ -30,8 +30,10 @@ pub fn explain(tool: &mut Tool, given: &Given) -> Result<Status, Failure> {
         }
         Some(word) => {
             let number = word.parse().ok();
-            let found = explained().find(|(reason, _)| Some(reason.number) == number);
-            let last = explained().count();
+            let all = explained();
+            let last = all.last().map_or(0, |(reason, _)| reason.number);
+            let mut all = all.into_iter();
+            let found = all.find(|(reason, _)| Some(reason.number) == number);
             let told =
                 || format!("expected a number from 1 to {last} or `records`, found `{word}`");
             let (reason, advice) = found.ok_or_else(|| Failure::mistake(told()))?;
