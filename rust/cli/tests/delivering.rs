@@ -69,7 +69,7 @@ fn the_most_terms() {
 }
 
 /// Exercises in which process 0 puts entries and the others do not, whole and cut, so that takes do not
-/// end: the desk and the order list agree, and the numbers of the puts rise.
+/// end: the desk and the order list agree, and the put that a line names has the line's term as its value.
 #[test]
 fn made_lists() {
     for pace in ["uniform", "bursts:20", "lockstep", "stall:C4", "stall:Q"] {
@@ -82,16 +82,37 @@ fn made_lists() {
                 lines[..kept].join("\n").as_bytes(),
             );
             let told = written(&["desk", "--licensed", "0", &list]);
-            let terms = told.lines().filter(|line| line.starts_with("term "));
-            let put_number = |line: &str| line.rsplit(' ').next().and_then(|n| n.parse().ok());
-            let puts: Vec<u32> = terms.filter_map(put_number).collect();
-            assert!(
-                told.ends_with(&format!("\n{} terms\n", puts.len())),
-                "{told}"
-            );
-            assert!(puts.is_sorted_by(|one, next| one < next), "{told}");
+            let order = written(&["order", &list]);
+            let (mut terms, mut number) = (told.lines(), 0);
+            let last = terms.next_back();
+            for line in terms {
+                assert_names_its_put(line, &lines[..kept], &order);
+                number += 1;
+            }
+            assert!(number > 1, "{told}");
+            assert_eq!(last, Some(format!("{number} terms").as_str()), "{told}");
         }
     }
+}
+
+/// In a list whose puts have their own values: the operation that the line of a term names as its put
+/// stands in the list where the term says, and in the order list where the number says.
+fn assert_names_its_put(line: &str, list: &[String], order: &str) {
+    let words: Vec<&str> = line.split(' ').collect();
+    let ["term", term, "take", _, _, "put", process, serial, number] = words[..] else {
+        panic!("{line}");
+    };
+    let place = |word: &str| word.parse::<usize>().expect("a number") - 1;
+    let of_process = format!(" by {process}");
+    let begins = list.iter().enumerate();
+    let mut begins = begins.filter(|(_, begin)| begin.ends_with(&of_process));
+    let (index, begin) = begins.nth(place(serial)).expect("a begin");
+    assert!(begin.starts_with("put "), "{line}");
+    assert_eq!(index.to_string(), term, "{line}");
+    let mut puts = order.lines().filter(|line| line.starts_with("put "));
+    let put = puts.nth(place(number)).expect("a put of the order");
+    let named = format!("put {process} {serial} ");
+    assert!(put.starts_with(&named), "{line}");
 }
 
 /// A line in which a put has its line's number as its value, and of process 0 as its term.
