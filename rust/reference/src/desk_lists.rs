@@ -14,19 +14,23 @@ pub struct DeskList {
     pub records: Vec<u8>,
     /// The paper's number, 0 for none.
     pub refusal: u32,
+    /// How many records are taken: all, or those before the refused one.
+    pub taken: usize,
     pub terms: Vec<u32>,
 }
 
 impl DeskList {
     /// A list of two processes, of which 0 is licensed, that gives nothing.
     fn new(about: &'static str, l: u32, list: List) -> DeskList {
+        let records = list.bytes();
         DeskList {
             about,
             p: 2,
             l,
             licensed: 0,
-            records: list.bytes(),
             refusal: 0,
+            taken: records.len() / 8,
+            records,
             terms: Vec::new(),
         }
     }
@@ -36,13 +40,19 @@ impl DeskList {
         DeskList { terms, ..self }
     }
 
-    fn refused(self, refusal: u32) -> DeskList {
-        DeskList { refusal, ..self }
+    /// So many records are taken, and the next is refused.
+    fn refused(self, refusal: u32, taken: usize) -> DeskList {
+        DeskList {
+            refusal,
+            taken,
+            ..self
+        }
     }
 
     /// One more record, given by its bytes.
     fn then(mut self, record: [u8; 8]) -> DeskList {
         self.records.extend(record);
+        self.taken += 1;
         self
     }
 }
@@ -163,28 +173,33 @@ fn foreign() -> Vec<DeskList> {
     let idle = busy.clone().steps(1, 17);
     let received = take(put(List::new(), entry(3)), 1);
     let again = List::new().put(0, entry(1)).put(0, entry(2));
-    let of = |about, l, list, number| DeskList::new(about, l, list).refused(number);
+    let of = |about, l, list, number, taken| DeskList::new(about, l, list).refused(number, taken);
     vec![
-        of("14, the first entry", 1, foreign_entry(List::new()), 14),
-        of("14, the last entry", 1, List::new().put(1, u32::MAX), 14),
-        of("14 after a term", 2, foreign_entry(received), 14),
-        of("6 before 14", 2, foreign_entry(busy.clone()), 6),
-        of("8 before 14", 1, foreign_entry(idle.clone()), 8),
+        of("14, the first entry", 1, foreign_entry(List::new()), 14, 0),
+        of("14, the last entry", 1, List::new().put(1, u32::MAX), 14, 0),
+        of("14 after a term", 2, foreign_entry(received), 14, 36),
+        of("6 before 14", 2, foreign_entry(busy.clone()), 6, 1),
+        of("8 before 14", 1, foreign_entry(idle.clone()), 8, 18),
         of(
             "8 before 14, inside an operation",
             1,
             foreign_entry(busy),
             8,
+            1,
         ),
-        of("14 of the last operation", 2, foreign_entry(idle), 14),
-        of("6 of the licensed process", 2, again, 6),
-        of("8 of the licensed process", 1, two_entries(), 8),
+        of("14 of the last operation", 2, foreign_entry(idle), 14, 18),
+        of("6 of the licensed process", 2, again, 6, 1),
+        of("8 of the licensed process", 1, two_entries(), 8, 18),
     ]
 }
 
 /// In records that are ill-formed.
 fn foreign_ill_formed() -> Vec<DeskList> {
-    let of = |about, record| DeskList::new(about, 2, List::new()).then(record).refused(5);
+    let of = |about, record| {
+        DeskList::new(about, 2, List::new())
+            .then(record)
+            .refused(5, 0)
+    };
     vec![
         of("5 before 14, byte 2", [1, 1, 1, 0, 0, 0, 0, 128]),
         of("5 before 14, byte 3", [1, 1, 0, 1, 0, 0, 0, 128]),
@@ -202,12 +217,12 @@ fn one_of_two() -> Vec<DeskList> {
     vec![
         first("14, then 5", foreign_entry(List::new()))
             .then([9; 8])
-            .refused(14),
-        first("14, then 7", foreign_entry(List::new()).steps(1, 1)).refused(14),
+            .refused(14, 0),
+        first("14, then 7", foreign_entry(List::new()).steps(1, 1)).refused(14, 0),
         first("5, then 14", List::new())
             .then([9; 8])
             .then(FOREIGN_ENTRY)
-            .refused(5),
-        first("7, then 14", foreign_entry(idle_step())).refused(7),
+            .refused(5, 0),
+        first("7, then 14", foreign_entry(idle_step())).refused(7, 0),
     ]
 }

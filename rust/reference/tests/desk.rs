@@ -63,15 +63,8 @@ fn terms_have_their_low_byte_first() {
 #[test]
 fn lists_that_are_refused() {
     for list in refused() {
-        let whole = list.records.len() / 8;
-        let start = |records: usize| DeskCall {
-            records: list.records[..8 * records].to_vec(),
-            ..call_of(&list)
-        };
-        let takes = |&records: &usize| deliver_amply(&start(records)).result.refusal == 0;
-        let taken = (0..whole).rev().find(takes).expect("no record is taken");
         let call = call_of(&list);
-        assert_stopped(&call, &deliver_amply(&call), list.refusal, taken);
+        assert_stopped(&call, &deliver_amply(&call), list.refusal, list.taken);
     }
 }
 
