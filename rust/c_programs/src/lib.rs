@@ -94,6 +94,7 @@ fn is_cpp(standard: &str) -> bool {
     standard.starts_with("c++")
 }
 
-fn repository() -> PathBuf {
+/// The folder of the whole project.
+pub fn repository() -> PathBuf {
     Path::new(env!("CARGO_MANIFEST_DIR")).join("../..")
 }

@@ -91,7 +91,8 @@ impl Deliveries {
     }
 }
 
-fn input(call: &DeskCall) -> Input<'_> {
+/// A call without its licence.
+pub fn input(call: &DeskCall) -> Input<'_> {
     Input {
         p: call.p,
         l: call.l,

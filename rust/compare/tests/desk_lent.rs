@@ -4,16 +4,12 @@
 use crate::pages::{Fenced, Side};
 use crate::support::{desk_list, needed};
 use compare::calls::Input;
+use compare::desk::input;
 use dictionary::{most_output_bytes, TERM_BYTES};
 use reference::desk;
 use reference::desk_calls::DeskCall;
 
 const SMALL: [(u32, u32); 5] = [(2, 1), (2, 3), (4, 1), (4, 2), (8, 1)];
-
-fn input(call: &DeskCall) -> Input<'_> {
-    let (p, l, records) = (call.p, call.l, &call.records[..]);
-    Input { p, l, records }
-}
 
 #[test]
 fn every_table_length() {

@@ -1,10 +1,10 @@
 //! The header for C and C++: the example compiled with it and run, linked with the desk's archive alone
 //! and beside that of the queue, and its numbers and sizes against the Rust functions.
 
-use c_programs::{written, Programs, STANDARDS};
+use c_programs::{repository, written, Programs, STANDARDS};
 use dictionary::{most_output_bytes, table_words, Refusal, FIRST_ENTRY, TERM_BYTES};
 use std::fs;
-use std::path::{Path, PathBuf};
+use std::path::PathBuf;
 use std::process::Command;
 
 const REFUSALS: [(&str, Refusal); 11] = [
@@ -20,10 +20,6 @@ const REFUSALS: [(&str, Refusal); 11] = [
     ("DESK_LICENCE", Refusal::Licence),
     ("DESK_FOREIGN_ENTRY", Refusal::ForeignEntry),
 ];
-
-fn repository() -> PathBuf {
-    Path::new(env!("CARGO_MANIFEST_DIR")).join("../..")
-}
 
 fn programs(libraries: &'static [&'static str]) -> Programs {
     Programs {

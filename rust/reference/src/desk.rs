@@ -29,7 +29,7 @@ pub enum DeskRefusal {
     /// The terms exceed the output.
     OutputShort,
     /// The licensed process is not below p.
-    LicensedProcess,
+    Licence,
     /// An entry put by another process than the licensed one.
     ForeignEntry,
 }
@@ -46,7 +46,7 @@ pub fn desk_number(refusal: Option<DeskRefusal>) -> u32 {
         None => 0,
         Some(DeskRefusal::Queue(refusal)) => number(Some(refusal)),
         Some(DeskRefusal::OutputShort) => 10,
-        Some(DeskRefusal::LicensedProcess) => 13,
+        Some(DeskRefusal::Licence) => 13,
         Some(DeskRefusal::ForeignEntry) => 14,
     }
 }
@@ -101,7 +101,7 @@ fn accept_licensed(
     table: &[u32],
 ) -> Result<Shape, DeskRefusal> {
     if licensed >= Shape::new(p, l)?.p() {
-        return Err(DeskRefusal::LicensedProcess);
+        return Err(DeskRefusal::Licence);
     }
     Ok(accept(p, l, records, table)?)
 }

@@ -81,7 +81,7 @@ impl DeskCall {
         }
     }
 
-    /// A proper call, and in two cases of three one or two things wrong with it.
+    /// A proper call, and in at most two cases of three one or two things wrong with it.
     pub fn hostile(random: &mut Random, plan: &Plan) -> DeskCall {
         let mut call = DeskCall::proper(random, plan);
         for _ in 0..random.below(3) {
