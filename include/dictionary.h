@@ -16,7 +16,8 @@
    address of any object, for the table of a uint32_t, and the length 0. A buffer that is written
    (table, output) overlaps no other buffer of the call; during the call no other thread touches it, and
    none writes the records. Table and output are all that the call writes. The library keeps no
-   pointer, allocates nothing and has no state between calls; a call uses about 133,000 bytes of stack.
+   pointer, allocates nothing and has no state between calls. A call uses at most about
+   133,000 bytes of stack.
 
    Records and terms, numbers low byte first, without a header:
    - step record, 8 bytes: process; kind (0 step, 1 begin put, 2 begin take); two zero bytes; value,
@@ -82,9 +83,9 @@ typedef struct DeskDelivery {
 
    Turned down with 1, 2, 13, 3 or 4, it changes nothing. Otherwise it clears the words needed and plays
    until a record is turned down with 5 to 8 or 14; that record changes nothing and ends the list. With
-   10 all records were played. The table is left as the records taken leave it; docs/RULES.md, 3, says what
-   it holds. A refusal writes no output. Output bytes past the terms and table words past those needed
-   keep their content. */
+   10 all records were played. The table is left as the records taken leave it, which is not for the
+   caller to read. A refusal writes no output. Output bytes past the terms and table words past those
+   needed keep their content. */
 DeskDelivery desk_deliver(uint32_t p, uint32_t l, uint32_t licensed,
                           const uint8_t *records, size_t records_bytes,
                           uint32_t *table, size_t table_words,
