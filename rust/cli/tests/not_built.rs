@@ -24,7 +24,7 @@ const NO_QUEUE: &str =
      (about 3 minutes, it proves it), then build this program again\n";
 const NO_DICTIONARY: &str =
     "otq: the proved dictionary is not built: run `rt staticlib desk` in the repository \
-     (some minutes, it proves it), then build this program again\n";
+     (about 5 minutes, it proves it), then build this program again\n";
 
 #[test]
 fn commands_that_call_the_queue() {

@@ -39,7 +39,7 @@ pub const BUILT: bool = cfg!(archive);
 
 /// What to do where the archive was not there, and how long it takes.
 pub const NOT_BUILT: &str = "the proved dictionary is not built: run `rt staticlib desk` in the \
-    repository (some minutes, it proves it), then build this program again";
+    repository (about 5 minutes, it proves it), then build this program again";
 
 /// The first value that is an entry, that of term 0.
 pub const FIRST_ENTRY: u32 = 1 << 31;
