@@ -1,13 +1,10 @@
--- Sums over the indices below a number. Used by proofs; no exported promise names it.
-use Prim.Native.Nat.{ℕ, zero, suc, _+_, _*_, _≤_, _<_}
+-- Laws of sums.
+use Prim.Native.Nat.{ℕ, zero, suc, _+_, _-_, _*_, _≤_, _<_}
 use native.Mathlib.Omega.{arith}
 use native.Mathlib.Decide.{ℕ-discrete}
 use mathlib.Core.Path.{_≡_, refl, ap}
 use mathlib.Core.Logic.{_≢_}
-
-unfoldable pub sum : (ℕ → ℕ) → ℕ → ℕ
-sum f zero = 0
-sum f (suc n) = f n + sum f n
+use Rattle.base.specs.Sums.{sum}
 
 pub sum-same : (f g : ℕ → ℕ) (n : ℕ) → ((i : ℕ) → i < n → f i ≡ g i) → sum f n ≡ sum g n
 unfolding sum
@@ -39,3 +36,15 @@ sum-part f (suc n) k l = on (ℕ-discrete k n) (λ h. sum-part f n k h)
     on : Dec (k ≡ n) → (k < n → f k ≤ sum f n) → f k ≤ f n + sum f n
     on (yes e) below = omega (arith, ap f e)
     on (no e) below = omega (arith, below (omega arith))
+
+-- from n to m each number is the same
+pub sum-level : (f : ℕ → ℕ) (c n m : ℕ) → n ≤ m → ((i : ℕ) → n ≤ i → i < m → f i ≡ c) → sum f m ≡ sum f n + (m - n) * c
+unfolding sum
+sum-level f c n zero h level = let none : n ≡ 0 = omega arith in rw none (omega arith)
+sum-level f c n (suc m) h level = on (ℕ-discrete n (suc m)) (λ l. sum-level f c n m l (λ i a b. level i a (omega arith)))
+  where
+    on : Dec (n ≡ suc m) → (n ≤ m → sum f m ≡ sum f n + (m - n) * c) → f m + sum f m ≡ sum f n + (suc m - n) * c
+    on (yes e) below = let none : suc m - n ≡ 0 = omega arith in rw (none, e) (omega arith)
+    on (no e) below =
+        let one-more : suc m - n ≡ suc (m - n) = omega arith in
+        rw one-more (omega (arith, below (omega arith), level m (omega arith) (omega arith)))

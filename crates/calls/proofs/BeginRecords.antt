@@ -11,8 +11,9 @@ use lib.ListN.{length, length-append}
 use borrow.Author.Tests.{eq-eqb, ne-eqb}
 use Rattle.base.specs.Choice.{if_then_else_}
 use Rattle.base.specs.Members.{All}
+use Rattle.base.specs.Sums.{sum}
 use Rattle.base.proofs.Cases.{both}
-use Rattle.base.proofs.Sums.{sum, sum-change, sum-most}
+use Rattle.base.proofs.Sums.{sum-change, sum-most}
 use Rattle.record.specs.declared.StepRecord.{StepRecord}
 use Rattle.record.specs.StepRecords.{isBegin}
 use Rattle.calls.specs.Forecast.{begins, beginRecords}

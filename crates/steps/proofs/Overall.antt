@@ -6,7 +6,8 @@ use mathlib.Core.Path.{_≡_, refl, ap, sym}
 use mathlib.Core.Logic.{_≢_}
 use mathlib.Core.Bool.{Bool, true, false}
 use Rattle.base.specs.Choice.{if_then_else_}
-use Rattle.base.proofs.Sums.{sum, sum-change, sum-most}
+use Rattle.base.specs.Sums.{sum}
+use Rattle.base.proofs.Sums.{sum-change, sum-most}
 use Rattle.tree.specs.Shape.{Shape, processes}
 use Rattle.steps.specs.declared.Operation.{Operation}
 use Rattle.steps.specs.declared.Step.{Step}

@@ -1,0 +1,5 @@
+pub mod Sheet
+pub mod Price
+pub mod Exact
+pub mod Returned
+pub mod All
