@@ -10,7 +10,7 @@ use lib.Dec.{leb}
 use borrow.Author.Tests.{leb-true, leb-false}
 use Rattle.base.specs.Choice.{if_then_else_}
 use Rattle.base.specs.Sums.{sum}
-use Rattle.base.proofs.Cases.{cases}
+use Rattle.base.proofs.Cases.{both, cases}
 use Rattle.base.proofs.Sums.{sum-same}
 use Rattle.price.specs.declared.Band.{Band}
 use Rattle.price.specs.Sheet.{bandOf}
@@ -24,21 +24,36 @@ bandNumber [] n = 0
 bandNumber (b ∷ []) n = 0
 bandNumber (b ∷ c ∷ bs) n = if leb n (b .last) then 0 else suc (bandNumber (c ∷ bs) n)
 
-falls-next : (b : Band) (bs : List Band) (n i : ℕ) → b .last < n → FallsIn bs n i → FallsIn (b ∷ bs) n (suc i)
-falls-next b bs n i l f = record { isBand = omega (arith, f .isBand); past = past; notPast = λ h. f .notPast (omega arith) }
-  where
-    past : (j : ℕ) → j < suc i → bandOf (b ∷ bs) j .last < n
-    past zero h = l
-    past (suc j) h = f .past j (omega arith)
+is-band : (bs : List Band) (n : ℕ) → 1 ≤ length bs → bandNumber bs n < length bs
+unfolding bandNumber
+is-band [] n h = absurd (omega arith)
+is-band (b ∷ []) n h = omega arith
+is-band (b ∷ c ∷ bs) n h = both (λ (i : ℕ). i < length (b ∷ c ∷ bs)) (leb n (b .last)) (omega arith) (omega (arith, is-band (c ∷ bs) n (omega arith)))
+
+past-others : (bs : List Band) (n j : ℕ) → j < bandNumber bs n → bandOf bs j .last < n
+unfolding bandNumber
+past-others [] n j l = absurd (omega arith)
+past-others (b ∷ []) n j l = absurd (omega arith)
+past-others (b ∷ c ∷ bs) n zero l =
+    cases (λ (i : ℕ). 0 < i → b .last < n) (leb n (b .last)) (λ e m. absurd (omega arith)) (λ e m. leb-false n (b .last) e) l
+past-others (b ∷ c ∷ bs) n (suc j) l =
+    cases (λ (i : ℕ). suc j < i → bandOf (c ∷ bs) j .last < n) (leb n (b .last)) (λ e m. absurd (omega arith)) (λ e m. past-others (c ∷ bs) n j (omega arith)) l
+
+not-past : (bs : List Band) (n : ℕ) → suc (bandNumber bs n) < length bs → n ≤ bandOf bs (bandNumber bs n) .last
+unfolding bandNumber
+not-past [] n l = absurd (omega arith)
+not-past (b ∷ []) n l = absurd (omega arith)
+not-past (b ∷ c ∷ bs) n l =
+    cases (λ (i : ℕ). suc i < length (b ∷ c ∷ bs) → n ≤ bandOf (b ∷ c ∷ bs) i .last) (leb n (b .last))
+    (λ e m. leb-true n (b .last) e) (λ e m. not-past (c ∷ bs) n (omega arith)) l
 
 falls : (bs : List Band) (n : ℕ) → 1 ≤ length bs → FallsIn bs n (bandNumber bs n)
-unfolding bandNumber
-falls [] n h = absurd (omega arith)
-falls (b ∷ []) n h = record { isBand = omega arith; past = λ j l. absurd (omega arith); notPast = λ l. absurd (omega arith) }
-falls (b ∷ c ∷ bs) n h =
-    cases (FallsIn (b ∷ c ∷ bs) n) (leb n (b .last))
-    (λ e. record { isBand = omega arith; past = λ j l. absurd (omega arith); notPast = λ l. leb-true n (b .last) e })
-    (λ e. falls-next b (c ∷ bs) n _ (leb-false n (b .last) e) (falls (c ∷ bs) n (omega arith)))
+falls bs n h =
+    record {
+      isBand = is-band bs n h;
+      past = λ j l. omega (arith, past-others bs n j (omega arith));
+      notPast = λ l. omega (arith, not-past bs n (omega arith));
+    }
 
 price-is : (bs : List Band) (n : ℕ) → bandOf bs (bandNumber bs n) .price ≡ deliveryPrice bs n
 unfolding bandNumber deliveryPrice

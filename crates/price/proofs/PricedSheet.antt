@@ -12,32 +12,36 @@ use Rattle.price.proofs.Bands.{bands-length, band-is}
 use Rattle.price.proofs.SheetTests.{Accepted}
 use Rattle.price.proofs.Priced.{total-most, Priced, priced-before, priced-band, priced-next, priced-last}
 
-module _ (count : ℕ) (sheet : List ℕ) (ok : Accepted count sheet) (i priced total : ℕ) (z : Priced (bands sheet) count i priced total)
-    (b : Band) (is : b ≡ band (take 8 (drop (8 * i) sheet))) where
+-- a band that is not the last, with the last delivery that it prices
+pub record Next (count : ℕ) (sheet : List ℕ) (i priced total : ℕ) (b : Band) (last : ℕ) : Type 0 where
+  pub rest : priced ≤ last
+  pub fits : total + (last - priced) * b .price < 4294967296
+  pub then : Priced (bands sheet) count (i + 1) last (total + (last - priced) * b .price)
+
+-- the last band, which prices the deliveries that are left
+pub record Final (count : ℕ) (sheet : List ℕ) (priced total : ℕ) (b : Band) : Type 0 where
+  pub rest : priced ≤ count
+  pub fits : total + (count - priced) * b .price < 4294967296
+  pub all : total + (count - priced) * b .price ≡ totalPrice (bands sheet) count
+
+module _ (count : ℕ) (sheet : List ℕ) (ok : Accepted count sheet) (i priced total : ℕ) (z : Priced (bands sheet) count i priced total) where
   -- a word holds the price of all deliveries
-  most : (n : ℕ) → n ≤ count → totalPrice (bands sheet) n ≤ 4000000000
+  most : (n : ℕ) → n ≤ count → totalPrice (bands sheet) n < 4294967296
   most n h = omega (arith, total-most (bands sheet) n (ok .prices), ok .most)
 
-  module _ (more : i + 1 < length sheet / 8) (end : ℕ) (is-end : end ≡ min (b .last) count) where
-    there : suc i < length (bands sheet)
-    there = omega (arith, bands-length sheet)
+  pub next : (b : Band) → b ≡ band (take 8 (drop (8 * i) sheet)) → i + 1 < length sheet / 8 → (last : ℕ) → last ≡ min (b .last) count → Next count sheet i priced total b last
+  next b is more last is-last =
+      let there : suc i < length (bands sheet) = omega (arith, bands-length sheet) in
+      let here : b ≡ bandOf (bands sheet) i = is ∙ sym (band-is sheet i (omega arith)) in
+      rw (is-last, here)
+      record {
+        rest = priced-before (bands sheet) count i priced total z there;
+        fits = rw (← priced-band (bands sheet) count i priced total z there) (most (min (bandOf (bands sheet) i .last) count) (omega arith));
+        then = rw (add-one i) (priced-next (bands sheet) count i priced total z there (ok .rise));
+      }
 
-    here : b ≡ bandOf (bands sheet) i
-    here = is ∙ sym (band-is sheet i (omega arith))
-
-    pub next-before : priced ≤ end
-    next-before = rw (is-end, here) (priced-before (bands sheet) count i priced total z there)
-
-    pub next-most : total + (end - priced) * b .price ≤ 4000000000
-    next-most = rw (is-end, here, ← priced-band (bands sheet) count i priced total z there) (most (min (bandOf (bands sheet) i .last) count) (omega arith))
-
-    pub next-priced : Priced (bands sheet) count (i + 1) end (total + (end - priced) * b .price)
-    next-priced = rw (is-end, here, add-one i) (priced-next (bands sheet) count i priced total z there (ok .rise))
-
-  module _ (none-more : length sheet / 8 ≡ i + 1) where
-    pub last-price : total + (count - priced) * b .price ≡ totalPrice (bands sheet) count
-    last-price =
-        rw (is, ← band-is sheet i (omega arith)) (sym (priced-last (bands sheet) count i priced total z (omega (arith, bands-length sheet))))
-
-    pub last-most : total + (count - priced) * b .price ≤ 4000000000
-    last-most = rw last-price (most count (omega arith))
+  pub final : (b : Band) → b ≡ band (take 8 (drop (8 * i) sheet)) → length sheet / 8 ≡ i + 1 → Final count sheet priced total b
+  final b is end =
+      let here : b ≡ bandOf (bands sheet) i = is ∙ sym (band-is sheet i (omega arith)) in
+      let all = sym (priced-last (bands sheet) count i priced total z (omega (arith, bands-length sheet))) in
+      rw here record { rest = z .within; fits = rw all (most count (omega arith)); all = all }

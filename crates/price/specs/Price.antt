@@ -21,6 +21,7 @@ deliveryPrice (b ∷ c ∷ bs) n = if leb n (b .last) then b .price else deliver
 unfoldable pub totalPrice : List Band → ℕ → ℕ
 totalPrice bs count = sum (λ i. deliveryPrice bs (suc i)) count
 
+-- a count is 0 to 4,000
 unfoldable pub mostDeliveries : ℕ
 mostDeliveries = 4000
 

@@ -29,17 +29,19 @@ rising [] = true
 rising (b ∷ []) = true
 rising (b ∷ c ∷ bs) = ltb (b .last) (c .last) && rising (c ∷ bs)
 
--- at least one band and at most 8, with ends strictly rising
+-- a sheet has 1 to 8 bands
 unfoldable pub mostBands : ℕ
 mostBands = 8
 
+-- neither no bands nor more than 8, and ends strictly rising
 unfoldable pub bandsAllowed : List Band → Bool
 bandsAllowed bs = leb 1 (length bs) && leb (length bs) mostBands && rising bs
 
--- no price over 1,000,000
+-- the highest price, in cents for a hundred
 unfoldable pub highestPrice : ℕ
 highestPrice = 1000000
 
+-- no price over it
 unfoldable pub pricesAllowed : List Band → Bool
 pricesAllowed [] = true
 pricesAllowed (b ∷ bs) = leb (b .price) highestPrice && pricesAllowed bs

@@ -1,15 +1,15 @@
 -- `total::total_price` meets its contract. The loop's invariant: the bands before number i price the deliveries up to
 -- their ends. The measure is what is left of the bands but the last. Assumes nothing.
-use Prim.Native.Nat.{_+_, _-_, _*_, _/_, _≤_}
+use Prim.Native.Nat.{_-_, _/_, _≤_}
 use native.Mathlib.Omega.{arith}
-use mathlib.Core.Path.{_≡_}
+use mathlib.Core.Path.{_≡_, _∙_}
 use lib.ListN.{length}
 use borrow.Author.Needs.{needs}
 use Rattle.price.specs.Sheet.{bands}
 use Rattle.price.proofs.Bands.{bands-length}
 use Rattle.price.proofs.SheetTests.{accepted}
 use Rattle.price.proofs.Priced.{Priced, priced-none}
-use Rattle.price.proofs.PricedSheet.{next-before, next-most, next-priced, last-price, last-most}
+use Rattle.price.proofs.PricedSheet.{Next, Final, next, final}
 use Rattle.price.proofs.total.total_price.Statement.{statement}
 use Rattle.price.proofs.total.total_price.Tie as tie
 
@@ -31,25 +31,23 @@ mul-band-at c = search needs
 band-at-requires : tie.Need-band-at-requires Inv-loop μ-loop
 band-at-requires c κs = search needs
 
-smaller-requires : tie.Need-smaller-requires Inv-loop μ-loop
-smaller-requires c κs = search needs
+last-within-requires : tie.Need-last-within-requires Inv-loop μ-loop
+last-within-requires c κs = search needs
 
-sub-total : tie.Need-sub-total Inv-loop μ-loop
-sub-total c =
+-- a band that is not the last
+abbrev AtNext : tie.After-last-within Inv-loop μ-loop → Type 0
+AtNext c =
+    let start = c .before .before .before .before .before .args in
     let loop = c .before .before .before .loop in
-    next-before _ _ (accepted _ _ (c .before .before .before .before .before .pre)) _ _ _ (loop .inv .1) _ (c .before .band-at .ensures) (omega arith) _ (c .smaller .ensures)
+    Next (start .count) (start .sheet .now) (loop .i) (loop .priced) (loop .total) (c .before .band-at .result) (c .last-within .result)
 
--- the price of the deliveries up to the band's end fits a word
-within : (c : tie.After-struct-known Inv-loop μ-loop) → c .before .before .before .before .loop .total + (c .before .smaller .result - c .before .before .before .before .loop .priced) * c .before .before .band-at .result .price ≤ 4000000000
-within c =
-    let loop = c .before .before .before .before .loop in
-    next-most _ _ (accepted _ _ (c .before .before .before .before .before .before .pre)) _ _ _ (loop .inv .1) _ (c .before .before .band-at .ensures) (omega arith) _ (c .before .smaller .ensures)
+at-next : (c : tie.After-last-within Inv-loop μ-loop) → AtNext c
+at-next c =
+    let loop = c .before .before .before .loop in
+    next _ _ (accepted _ _ (c .before .before .before .before .before .pre)) _ _ _ (loop .inv .1) _ (c .before .band-at .ensures) (omega arith) _ (c .last-within .ensures)
 
-mul-total : tie.Need-mul-total Inv-loop μ-loop
-mul-total c = omega (arith, within c)
-
-add-total : tie.Need-add-total Inv-loop μ-loop
-add-total c = omega (arith, within c)
+with-band-requires : tie.Need-with-band-requires Inv-loop μ-loop
+with-band-requires c κs = (at-next c .rest, at-next c .fits)
 
 add-i : tie.Need-add-i Inv-loop μ-loop
 add-i c = search needs
@@ -58,51 +56,35 @@ loop-less : tie.Need-loop-less Inv-loop μ-loop
 loop-less c = search needs
 
 loop-again : tie.Need-loop-again Inv-loop μ-loop
-loop-again c =
-    let loop = c .before .before .before .before .loop in (
-      omega arith,
-      next-priced _ _ (accepted _ _ (c .before .before .before .before .before .before .pre)) _ _ _ (loop .inv .1) _ (c .before .before .band-at .ensures) (omega arith) _ (c .before .smaller .ensures),
-    )
+loop-again c = (omega arith, rw (c .with-band .ensures) (at-next (c .before) .then))
+
+-- there is a last band
+some : (c : tie.After-loop Inv-loop μ-loop) → 1 ≤ length (c .before .before .before .args .sheet .now) / 8
+some c = omega (arith, accepted _ _ (c .before .before .before .pre) .some, bands-length (c .before .before .before .args .sheet .now))
 
 mul-band-at-2 : tie.Need-mul-band-at-2 Inv-loop μ-loop
 mul-band-at-2 c = search needs
 
-some : (c : tie.After-loop Inv-loop μ-loop) → 1 ≤ length (c .before .before .before .args .sheet .now) / 8
-some c = omega (arith, accepted _ _ (c .before .before .before .pre) .some, bands-length (c .before .before .before .args .sheet .now))
-
 band-at-requires-2 : tie.Need-band-at-requires-2 Inv-loop μ-loop
 band-at-requires-2 c κs = omega (arith, some c)
 
-sub-result : tie.Need-sub-result Inv-loop μ-loop
-sub-result c = c .before .before .loop .inv .1 .within
+abbrev AtFinal : tie.After-band-at2 Inv-loop μ-loop → Type 0
+AtFinal c =
+    let start = c .before .before .before .before .args in
+    let loop = c .before .before .loop in
+    Final (start .count) (start .sheet .now) (loop .priced) (loop .total) (c .band-at2 .result)
 
--- the last band is left
-abbrev AtLast : Type 0
-AtLast = tie.After-struct-known2 Inv-loop μ-loop
+at-final : (c : tie.After-band-at2 Inv-loop μ-loop) → AtFinal c
+at-final c =
+    let loop = c .before .before .loop in
+    let e : loop .i ≡ length (c .before .before .before .before .args .sheet .now) / 8 - 1 = omega arith in
+    final _ _ (accepted _ _ (c .before .before .before .before .pre)) _ _ _ (rw e at (loop .inv .1)) _ (c .band-at2 .ensures) (omega (arith, some (c .before)))
 
-abbrev IsLast : AtLast → Type 0
-IsLast c =
-    let a = c .before .before .before .before .before .args in
-    let loop = c .before .before .before .loop in
-    Priced (bands (a .sheet .now)) (a .count) (length (a .sheet .now) / 8 - 1) (loop .priced) (loop .total)
-
-last-left : (c : AtLast) → IsLast c
-last-left c =
-    let loop = c .before .before .before .loop in
-    let e : loop .i ≡ length (c .before .before .before .before .before .args .sheet .now) / 8 - 1 = omega arith in
-    rw e at (loop .inv .1)
-
-mul-result : tie.Need-mul-result Inv-loop μ-loop
-mul-result c =
-    omega (arith, last-most _ _ (accepted _ _ (c .before .before .before .before .before .pre)) _ _ _ (last-left c) _ (c .before .band-at2 .ensures) (omega (arith, some (c .before .before))))
-
-add-result : tie.Need-add-result Inv-loop μ-loop
-add-result c =
-    omega (arith, last-most _ _ (accepted _ _ (c .before .before .before .before .before .pre)) _ _ _ (last-left c) _ (c .before .band-at2 .ensures) (omega (arith, some (c .before .before))))
+with-band-requires-2 : tie.Need-with-band-requires-2 Inv-loop μ-loop
+with-band-requires-2 c κs = (at-final c .rest, at-final c .fits)
 
 returns : tie.Need-returns Inv-loop μ-loop
-returns c =
-    last-price _ _ (accepted _ _ (c .before .before .before .before .before .pre)) _ _ _ (last-left c) _ (c .before .band-at2 .ensures) (omega (arith, some (c .before .before)))
+returns c = c .with-band2 .ensures ∙ at-final (c .before) .all
 
 pub total-price-spec : {M : Type 1} → statement M
 total-price-spec =
@@ -114,16 +96,12 @@ total-price-spec =
     loop-holds
     mul-band-at
     band-at-requires
-    smaller-requires
-    sub-total
-    mul-total
-    add-total
+    last-within-requires
+    with-band-requires
     add-i
     loop-less
     loop-again
     mul-band-at-2
     band-at-requires-2
-    sub-result
-    mul-result
-    add-result
+    with-band-requires-2
     returns)
