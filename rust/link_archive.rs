@@ -4,7 +4,7 @@
 //! `rt staticlib NAME` writes it. It is not run from here: it proves the library, which takes
 //! minutes that cargo would show nothing of, and builds at the same time would write to one folder.
 //! Without it the crate is built all the same, so that a program can say in its own words what is
-//! missing; `cfg(archive)` tells, and cargo warns.
+//! missing; `cfg(archive = "NAME")` tells, and cargo warns.
 
 use std::env;
 use std::fs;
@@ -18,12 +18,12 @@ pub fn link(name: &str) {
     let folder = repository.join("target/staticlib");
     let archive = folder.join(format!("lib{name}.a"));
     println!("cargo:rerun-if-changed={}", archive.display());
-    println!("cargo:rustc-check-cfg=cfg(archive)");
+    println!("cargo:rustc-check-cfg=cfg(archive, values(\"{name}\"))");
     if !archive.is_file() {
         println!("cargo:warning=the proved library is not there: run `rt staticlib {name}`");
         return;
     }
-    println!("cargo:rustc-cfg=archive");
+    println!("cargo:rustc-cfg=archive=\"{name}\"");
     let sources = repository.join("crates");
     println!("cargo:rerun-if-changed={}", sources.display());
     if is_older(&archive, &sources) {

@@ -72,23 +72,32 @@ impl Given {
         option.map(|(_, value)| value.as_os_str())
     }
 
-    /// The value as a number, digits only.
+    /// The value as a number.
     pub fn number(&self, name: &str) -> Result<Option<u64>, Failure> {
-        let Some(value) = self.value(name) else {
-            return Ok(None);
-        };
-        let digits = value.as_encoded_bytes().iter().all(u8::is_ascii_digit);
-        let number = value
-            .to_str()
-            .filter(|_| digits)
-            .and_then(|text| text.parse().ok());
-        let told = || format!("{name}: expected a number, found `{}`", value.display());
-        number.map(Some).ok_or_else(|| Failure::mistake(told()))
+        let value = self.value(name);
+        value.map(|value| number(name, value)).transpose()
     }
 
     /// The value as a number of 32 bits.
     pub fn small(&self, name: &str) -> Result<Option<u32>, Failure> {
-        let number = self.number(name)?.map(u32::try_from).transpose();
-        number.map_err(|_| Failure::mistake(format!("{name}: expected at most {}", u32::MAX)))
+        let value = self.value(name);
+        value.map(|value| small(name, value)).transpose()
     }
+}
+
+/// The number that a word is, digits only; the name tells what it is for.
+fn number(name: &str, word: &OsStr) -> Result<u64, Failure> {
+    let digits = word.as_encoded_bytes().iter().all(u8::is_ascii_digit);
+    let number = word
+        .to_str()
+        .filter(|_| digits)
+        .and_then(|text| text.parse().ok());
+    let told = || format!("{name}: expected a number, found `{}`", word.display());
+    number.ok_or_else(|| Failure::mistake(told()))
+}
+
+/// The same, of 32 bits.
+pub fn small(name: &str, word: &OsStr) -> Result<u32, Failure> {
+    let number = u32::try_from(number(name, word)?);
+    number.map_err(|_| Failure::mistake(format!("{name}: expected at most {}", u32::MAX)))
 }

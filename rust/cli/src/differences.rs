@@ -3,7 +3,7 @@
 use crate::fields::ANSWER;
 use crate::json::Json;
 use crate::list::List;
-use crate::refused::told;
+use crate::refused::Place;
 use otq::Answer;
 
 type Record = [u8; Answer::BYTES];
@@ -61,7 +61,10 @@ impl Difference<'_> {
         }
         lines.push(format!("  {}", self.first_byte()));
         lines.push(match self.ended {
-            Some(record) => format!("  the operation ended with {}", told(list, record)),
+            Some(record) => {
+                let place = Place::of_record(list, record);
+                format!("  the operation ended with {place}")
+            }
             None => "  the list has no operation that ends here".to_string(),
         });
         lines

@@ -98,6 +98,15 @@ pub const ORDER: Sort = Sort {
     ],
 };
 
+pub const BAND: Sort = Sort {
+    name: "band of a price sheet",
+    bytes: dictionary::price::Band::BYTES,
+    fields: &[
+        plain("last", 0, 4, "the number of its last delivery, from 1"),
+        plain("price", 4, 4, "in cents for a hundred deliveries"),
+    ],
+};
+
 impl Field {
     pub fn number(&self, record: &[u8]) -> u32 {
         let bytes = &record[self.at..self.at + self.bytes];
@@ -149,7 +158,8 @@ impl Sort {
 
 #[cfg(test)]
 mod tests {
-    use super::{Sort, ANSWER, ORDER, STEP};
+    use super::{Sort, ANSWER, BAND, ORDER, STEP};
+    use dictionary::price::Band;
     use otq::{Act, Answer, Kind, Order, Outcome, Step};
 
     fn numbers(sort: &Sort, record: &[u8]) -> Vec<u32> {
@@ -161,7 +171,7 @@ mod tests {
 
     #[test]
     fn fields_fill_each_record() {
-        for sort in [STEP, ANSWER, ORDER] {
+        for sort in [STEP, ANSWER, ORDER, BAND] {
             let mut next = 0;
             for field in sort.fields {
                 assert_eq!(field.at, next, "{} of a {}", field.name, sort.name);
@@ -195,5 +205,10 @@ mod tests {
             root_block: 4000,
         });
         assert_eq!(numbers(&ORDER, &order), [3, 2, 300, 4000]);
+        let band = <[u8; 8]>::from(Band {
+            last: 0x0102_0304,
+            price: 2500,
+        });
+        assert_eq!(numbers(&BAND, &band), [0x0102_0304, 2500]);
     }
 }

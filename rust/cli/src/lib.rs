@@ -1,10 +1,12 @@
-//! The library part of `otq`: the text notation of exercises, and the commands.
+//! The library part of `otq`: the text notations of exercises and of price sheets, and the commands.
 //!
 //! All that a command tells of a list is computed by the proved libraries, through `rust/otq` and
 //! `rust/dictionary`, but for two things, which are compared with them before: the trace is the Rust
-//! version's, and a plain queue tells the put that a term of the desk came from.
+//! version's, and a plain queue tells the put that a term of the desk came from. Each amount of a bill is
+//! the price sheet's; which deliveries a line of it is of is read off the ends of the bands.
 
 mod arguments;
+mod columns;
 mod commands;
 mod differences;
 mod failure;
@@ -15,6 +17,7 @@ mod list;
 pub mod notation;
 mod progress;
 mod refused;
+mod sheet;
 mod tool;
 mod trace;
 mod words;

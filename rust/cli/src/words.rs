@@ -86,14 +86,27 @@ pub fn count(number: usize, thing: &str) -> String {
 pub fn amount(number: u64, thing: &str) -> String {
     let counted = count(number as usize, thing);
     let digits = number.to_string().len();
+    format!("{}{}", thousands(number), &counted[digits..])
+}
+
+/// A number with commas between thousands.
+pub fn thousands(number: u64) -> String {
+    let digits = number.to_string();
     let mut told = String::new();
-    for (index, c) in counted.chars().enumerate() {
-        if index > 0 && index < digits && (digits - index).is_multiple_of(3) {
+    for (index, digit) in digits.chars().enumerate() {
+        if index > 0 && (digits.len() - index).is_multiple_of(3) {
             told.push(',');
         }
-        told.push(c);
+        told.push(digit);
     }
     told
+}
+
+/// Where bytes are torn: how many whole records there are, and what is left after them.
+pub fn torn(length: usize, size: usize, what: &str) -> String {
+    let (whole, rest) = (length / size, length % size);
+    let (records, bytes) = (count(whole, &format!("whole {what}")), count(rest, "byte"));
+    format!("{records}, then {bytes} at byte {}", whole * size)
 }
 
 #[cfg(test)]

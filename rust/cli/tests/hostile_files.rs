@@ -11,6 +11,7 @@ fn commands(file: &str) -> Vec<Vec<&str>> {
         with_numbers("run", &[file]),
         with_numbers("order", &[file]),
         with_numbers("desk", &["--licensed", "1", file]),
+        vec!["price", "250", file],
         with_numbers("table", &[file]),
         with_numbers("trace", &[file]),
         with_numbers("check", &[file, LOG]),
@@ -58,6 +59,12 @@ fn missing_files_and_directories() {
 fn empty_files() {
     let empty = file("hostile.empty", b"");
     each(&empty, |words, said| {
+        if words[0] == "price" {
+            let told = "otq: refused with 15: ";
+            assert_eq!((said.status, said.out.as_str()), (3, ""), "{words:?}");
+            assert!(said.err.starts_with(told), "{said:?}");
+            return;
+        }
         // Without the steps or without the log of the example, the two differ.
         let status = i32::from(words[0] == "check");
         assert_eq!((said.status, said.err.as_str()), (status, ""), "{words:?}");
@@ -81,6 +88,10 @@ fn the_wrong_sort_of_file() {
                 "{words:?} {said:?}"
             );
         }
+        "price" => {
+            let told = ":2: expected `up to DELIVERY: CENTS`, found `processes 2`\n";
+            assert_eq!((said.status, said.err), (2, format!("{TEXT}{told}")));
+        }
         "forecast" => {
             assert_eq!(said.status, 3, "{words:?}");
             assert!(said.err.starts_with("otq: refused with 12: "), "{said:?}");
@@ -91,11 +102,14 @@ fn the_wrong_sort_of_file() {
         "prose.txt",
         b"Dear supplier,\nplease find the list enclosed.\n",
     );
-    let message =
-        format!("{prose}:1: expected put, take, step, raw, processes, operations, answers");
+    let messages = [
+        format!("{prose}:1: expected put, take, step, raw, processes, operations, answers"),
+        format!("{prose}:1: expected `up to DELIVERY: CENTS`, found `Dear supplier,`\n"),
+    ];
     each(&prose, |words, said| {
         assert_eq!((said.status, said.out.as_str()), (2, ""), "{words:?}");
-        let told = said.err.starts_with(&message) || said.err.contains("it holds text, and not ");
+        let message = &messages[usize::from(words[0] == "price")];
+        let told = said.err.starts_with(message) || said.err.contains("it holds text, and not ");
         assert!(told, "{words:?} {said:?}");
     });
 }
@@ -143,6 +157,7 @@ fn hostile_texts() {
         &["run", &long][..],
         &["order", &long],
         &["desk", "--licensed", "0", &long],
+        &["price", "1", &long],
         &["table", &long],
         &["trace", &long],
         &["forecast", &long],

@@ -43,6 +43,7 @@ fn a_huge_list_of_records() {
         (with_numbers("table", &[&huge, "--json"]), 7),
         (with_numbers("check", &[&huge, LOG]), 7),
         (with_numbers("forecast", &[&huge]), 12),
+        (vec!["price", "1", &huge], 15),
     ] {
         let said = otq_limited(&words);
         assert_eq!(said.status, 3, "{words:?} {said:?}");
@@ -172,6 +173,18 @@ fn huge_lists_of_begins() {
         assert!(said.err.starts_with("otq: refused with 8: "), "{said:?}");
         assert!(said.err.contains(&format!("\n  {record}")), "{said:?}");
     }
+}
+
+/// More bands than a sheet has: all are read, and few are kept.
+#[test]
+fn a_huge_price_sheet() {
+    let line = b"up to 1: 2\n";
+    let lines = BYTES as usize / line.len();
+    let huge = file("huge-sheet.txt", &line.repeat(lines));
+    let said = otq_limited(&["price", "1", &huge]);
+    let told = format!("(01 00 00 00 02 00 00 00), {huge}:9\n  the sheet has {lines} bands\n");
+    assert_eq!((said.status, said.out.as_str()), (3, ""), "{said:?}");
+    assert!(said.err.contains(&told), "{said:?}");
 }
 
 /// Input without an end.

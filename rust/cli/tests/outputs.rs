@@ -1,8 +1,8 @@
 //! Outputs that fail: a reader that has gone, a full disk, files that may not be written.
 
 use crate::support::{
-    assert_fails, command, content, file, otq, path, with_numbers, Said, BEGINS, LOG, STEPS, TERMS,
-    TEXT, WRONG,
+    assert_fails, command, content, file, otq, path, with_numbers, Said, BEGINS, LOG, SHEET, STEPS,
+    TERMS, TEXT, WRONG,
 };
 use std::fs::{self, File};
 use std::process::Stdio;
@@ -20,6 +20,8 @@ fn commands() -> Vec<(Vec<&'static str>, i32)> {
         (vec!["check", TEXT, WRONG, "--all"], 1),
         (vec!["desk", "--licensed", "0", TERMS], 0),
         (vec!["desk", "--licensed", "1", TERMS, "--json"], 3),
+        (vec!["price", "250", SHEET], 0),
+        (vec!["price", "4001", SHEET, "--json"], 3),
         (vec!["forecast", BEGINS], 0),
         (vec!["forecast", TEXT, "--json"], 3),
         (vec!["show", "--as", "log", LOG], 0),

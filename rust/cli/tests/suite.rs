@@ -13,6 +13,7 @@ mod listing;
 mod making;
 mod outputs;
 mod playing;
+mod pricing;
 mod round_trips;
 mod showing;
 mod support;

@@ -128,6 +128,9 @@ pub const BEGINS: &str = "examples/forecast/begins.txt";
 /// A list of the dictionary, of two processes, of which the first is licensed.
 pub const TERMS: &str = "examples/dictionary/deliveries.txt";
 
+/// A price sheet of the dictionary, of four bands.
+pub const SHEET: &str = "examples/dictionary/sheet.txt";
+
 /// The words of a command on binary records of the example.
 pub fn with_numbers<'a>(command: &'a str, words: &[&'a str]) -> Vec<&'a str> {
     [&[command], &NUMBERS[..], words].concat()

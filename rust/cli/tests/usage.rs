@@ -1,14 +1,14 @@
 //! The words of a command line.
 
 use crate::support::{
-    assert_fails, otq, otq_on, with_numbers, written, LOG, NUMBERS, STEPS, TERMS, TEXT,
+    assert_fails, otq, otq_on, with_numbers, written, LOG, NUMBERS, SHEET, STEPS, TERMS, TEXT,
 };
 use std::ffi::OsStr;
 use std::os::unix::ffi::OsStrExt;
 
-const COMMANDS: [&str; 12] = [
-    "run", "order", "check", "desk", "forecast", "show", "table", "trace", "make", "encode",
-    "decode", "explain",
+const COMMANDS: [&str; 13] = [
+    "run", "order", "check", "desk", "price", "forecast", "show", "table", "trace", "make",
+    "encode", "decode", "explain",
 ];
 
 #[test]
@@ -34,11 +34,14 @@ fn help_and_version() {
     // The longest option has room before its meaning.
     let desk = written(&["desk", "--help"]);
     assert!(desk.contains("\n  --licensed K  the process that may put entries, 0 to p - 1\n"));
+    let price = written(&["price", "--help"]);
+    assert!(price.contains("\n\nSHEET is ") && !price.contains("\n\nSTEPS is "));
+    assert!(price.ends_with(" or a text, 3 refused.\n"));
     assert_eq!(written(&["help"]), help);
     assert_eq!(written(&["-h"]), help);
     assert_eq!(
         written(&["--version"]),
-        "otq 0.1.0, with the proved library, with the proved dictionary\n"
+        "otq 0.1.0, with the proved library, with the proved delivery desk, with the proved price sheet\n"
     );
     assert_eq!(written(&["-V"]), written(&["--version"]));
 }
@@ -88,6 +91,19 @@ fn wrong_options() {
         2,
         "otq: a file is missing; usage: otq desk --licensed K [-p P -L L] STEPS [--raw OUT] ",
     );
+    let price = "usage: otq price COUNT SHEET [--json]\n";
+    for (words, mistake) in [
+        (&["price"][..], "a file is missing"),
+        (&["price", SHEET], "a file is missing"),
+        (&["price", "1", SHEET, "2"], "`2` is too much"),
+        (
+            &["price", "1", SHEET, "--whole"],
+            "there is no option --whole",
+        ),
+        (&["price", "-1", SHEET], "there is no option -1"),
+    ] {
+        assert_fails(words, 2, &format!("otq: {mistake}; {price}"));
+    }
     assert_fails(
         &["check", "-", "-"],
         2,
@@ -110,6 +126,15 @@ fn wrong_numbers() {
         &["run", TEXT, "-L", "4294967296"],
         2,
         "otq: -L: expected at most 4294967295\n",
+    );
+    for count in ["ten", "", "1,000", "2.5", "-", SHEET] {
+        let message = format!("otq: COUNT: expected a number, found `{count}`\n");
+        assert_fails(&["price", count, SHEET], 2, &message);
+    }
+    assert_fails(
+        &["price", "4294967296", SHEET],
+        2,
+        "otq: COUNT: expected at most 4294967295\n",
     );
 }
 

@@ -8,6 +8,7 @@ use reference::check::{self, CheckResult};
 use reference::desk::{self, DeskResult, TERM_BYTES};
 use reference::forecast::{self, ForecastResult};
 use reference::list::{self, ListResult};
+use reference::price::{price_deliveries, PriceResult};
 use reference::run::{self, RunResult};
 
 /// The input of a call.
@@ -169,6 +170,19 @@ impl Input<'_> {
         let length = records.len();
         format!("{call}: p {p}, l {l}, {length} record bytes, {words} words, {bytes} bytes")
     }
+}
+
+/// The price of so many deliveries by a sheet.
+pub fn price(count: u32, sheet: &[u8]) -> PriceResult {
+    let total = dictionary::price::deliveries(count, sheet);
+    let found = PriceResult {
+        refusal: total.refusal.map_or(0, dictionary::price::Refusal::number),
+        cents: total.cents,
+        remainder: total.remainder,
+    };
+    let expected = price_deliveries(count, sheet);
+    assert_eq!(found, expected, "price: {count} deliveries, {sheet:?}");
+    expected
 }
 
 fn number(refusal: Option<Refusal>) -> u32 {

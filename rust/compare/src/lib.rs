@@ -5,4 +5,5 @@ pub mod buffers;
 pub mod calls;
 pub mod desk;
 pub mod forecasts;
+pub mod price;
 pub mod random_calls;

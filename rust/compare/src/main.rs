@@ -1,7 +1,8 @@
 //! compare RECORDS [SEED]: compares the compiled libraries with the reference on random and hostile
-//! lists until so many records were played. It ends with a panic at the first difference. Last it
-//! tells what was never met, as some numbers and verdicts are not where records are few. If no help
-//! or no term of the desk was met, these were not compared, and it fails.
+//! lists until so many records were played, and on price sheets along with them. It ends with a panic
+//! at the first difference. Last it tells what was never met, as some numbers and verdicts are not
+//! where records are few. If no help, no term of the desk or no bill was met, these were not compared,
+//! and it fails.
 
 use compare::random_calls::{compare, of_each_p, Tally};
 use reference::demand3::step_limit;
@@ -16,6 +17,7 @@ fn main() -> ExitCode {
     let message = match numbers.as_deref() {
         _ if !otq::BUILT => otq::NOT_BUILT,
         _ if !dictionary::BUILT => dictionary::NOT_BUILT,
+        _ if !dictionary::price::BUILT => dictionary::price::NOT_BUILT,
         Some(&[records]) => return compare_records(records, 1),
         Some(&[records, seed]) => return compare_records(records, seed),
         _ => "usage: compare RECORDS [SEED], such as compare 10000000",
@@ -49,6 +51,7 @@ fn compare_records(records: u64, seed: u64) -> ExitCode {
     let needed = [
         ("help", tally.helps_met()),
         ("term", tally.deliveries.terms_met()),
+        ("bill", tally.bills.bills_met()),
     ];
     for (what, _) in needed.iter().filter(|(_, is_met)| !is_met) {
         eprintln!("no {what} was met, so {what}s were not compared: play more records");
@@ -70,6 +73,7 @@ fn tell(tally: &Tally) {
     println!("most helps: {}", of_each_p(tally.most_helps, help_limit));
     println!("{}", tally.forecasts);
     println!("{}", tally.deliveries);
+    println!("{}", tally.bills);
     let never = tally.never_met();
     if !never.is_empty() {
         println!("never met: {}", never.join(", "));

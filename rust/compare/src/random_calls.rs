@@ -3,6 +3,7 @@
 use crate::calls::Input;
 use crate::desk::Deliveries;
 use crate::forecasts::Forecasts;
+use crate::price::Bills;
 use otq::{most_answer_bytes, most_order_bytes, table_words};
 use reference::hostile::{below, harm_list, harm_log};
 use reference::process::STEP_NAMES;
@@ -26,15 +27,18 @@ pub struct Tally {
     pub most_helps: [u8; 3],
     pub forecasts: Forecasts,
     pub deliveries: Deliveries,
+    pub bills: Bills,
 }
 
-/// Compares calls on random lists until so many records were played. After each list `told` is
-/// handed the tally.
+/// Compares calls on random lists until so many records were played, and after each list some prices.
+/// Then `told` is handed the tally.
 pub fn compare(records: u64, seed: u64, mut told: impl FnMut(&Tally)) -> Tally {
-    let mut random = Random::new(seed);
+    // Sheets have numbers of their own, so that they do not change the lists of a seed.
+    let (mut random, mut of_sheets) = (Random::new(seed), Random::new(!seed));
     let mut tally = Tally::default();
     while tally.records < records {
         tally.compare_list(&mut random);
+        tally.bills.compare_hostile(&mut of_sheets);
         told(&tally);
     }
     tally
@@ -70,7 +74,7 @@ impl Tally {
         let helps = helps.map(|(p, most)| (format!("helps with p = {p}"), most.into()));
         let all = calls.chain(verdicts).chain(helps);
         let all = all.chain(self.forecasts.met());
-        let all = all.chain(self.deliveries.met());
+        let all = all.chain(self.deliveries.met()).chain(self.bills.met());
         let never = all.filter(|&(_, times)| times == 0);
         never.map(|(what, _)| what).collect()
     }

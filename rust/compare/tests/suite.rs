@@ -14,6 +14,7 @@ mod lengths;
 mod logs;
 mod numbers;
 mod pages;
+mod price;
 mod printing;
 mod random;
 mod records;

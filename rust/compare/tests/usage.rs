@@ -42,7 +42,7 @@ fn assert_above(most: [u32; 3], low: [u32; 3], limits: [u32; 3]) {
 }
 
 /// For each p the longest operation that was met, which is none of the shortest, and the limit; and
-/// the most helps. Last the terms of the desk.
+/// the most helps. Last the terms of the desk and the bills.
 #[test]
 fn most_own_steps_and_helps() {
     let mut command = Command::new(env!("CARGO_BIN_EXE_compare"));
@@ -59,18 +59,20 @@ fn most_own_steps_and_helps() {
         [0; 3],
         HELP_LIMITS,
     );
-    assert!(said.contains("\nterms in order: "), "{said}");
+    for told in ["\nterms in order: ", "\nprice 0: "] {
+        assert!(said.contains(told), "{said}");
+    }
 }
 
 #[test]
-fn without_helps_and_terms_it_fails() {
+fn without_helps_terms_and_bills_it_fails() {
     let mut command = Command::new(env!("CARGO_BIN_EXE_compare"));
     let output = command.arg("0").output().expect("the program starts");
     assert_eq!(output.status.code(), Some(1), "{output:?}");
     let said = String::from_utf8(output.stdout).expect("text");
     assert_eq!(of_each_p(&said, "most helps: ", HELP_LIMITS), [0; 3]);
     let failed = String::from_utf8(output.stderr).expect("text");
-    for missing in ["no help was met", "no term was met"] {
+    for missing in ["no help was met", "no term was met", "no bill was met"] {
         assert!(failed.contains(missing), "{failed}");
     }
 }

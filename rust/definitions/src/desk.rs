@@ -4,6 +4,7 @@
 use crate::call::{kept_bytes, kept_words};
 use crate::decimal::{bytes, words};
 use crate::desk_order;
+use crate::faults::{self, Fault};
 use crate::met::Met;
 use crate::random_calls::{ending, pace};
 use crate::row::{Row, Statement};
@@ -143,11 +144,8 @@ fn short_call(p: u32) -> Lent {
     Lent::ample(call, 1)
 }
 
-/// What a test finds, by its number.
-type Fault = (u32, fn(&mut Lent));
-
-/// In the order of the tests.
-const FAULTS: [Fault; 6] = [
+/// By their numbers, in the order of the tests.
+const FAULTS: [Fault<u32, Lent>; 6] = [
     (1, |lent| lent.call.p = 3),
     (2, |lent| lent.call.l = 501),
     (13, |lent| lent.call.licensed = 8),
@@ -156,24 +154,10 @@ const FAULTS: [Fault; 6] = [
     (14, |lent| lent.call.records[0] = 1),
 ];
 
-/// Each fault alone, each two of them, and each with all later ones.
 fn first_tests() -> Vec<Row> {
-    let call = short_call(2);
-    let mut rows = vec![call.row("the desk: no fault")];
-    for (at, (number, make)) in FAULTS.iter().enumerate() {
-        let one = call.with(make);
-        rows.push(one.row(format!("the desk: {number}")));
-        let mut all = one.clone();
-        for (later, make) in &FAULTS[at + 1..] {
-            rows.push(
-                one.with(make)
-                    .row(format!("the desk: {number} before {later}")),
-            );
-            make(&mut all);
-        }
-        rows.push(all.row(format!("the desk: {number} and all later ones")));
-    }
-    rows
+    let calls = faults::first_tests(&short_call(2), &FAULTS);
+    let row = |(about, lent): &(String, Lent)| lent.row(format!("the desk: {about}"));
+    calls.iter().map(row).collect()
 }
 
 /// Number 13, on either side of its edge.

@@ -3,15 +3,16 @@
 //! fixed calls that play records, and among them `between` for those in which operations come
 //! between the reads of another, `helps` for those in which a refresh advances a child's block;
 //! `forecast` for the fixed forecasts; `demand3` for its terms; `desk [HOW-MANY SEED]` for calls of the
-//! delivery desk, the fixed ones and so many random ones; `long` for more of these that take the prover
-//! long; and `tally FILE ..`, which says how often the rows of these files meet each number and case and
-//! fails if one is never met.
+//! delivery desk, the fixed ones and so many random ones; `price [HOW-MANY SEED]` for prices of deliveries
+//! alike; `long` for more of these that take the prover long; and `tally FILE ..`, which says how often the
+//! rows of these files meet each number and case and fails if one is never met.
 
 mod call;
 mod decimal;
 mod demand3;
 mod desk;
 mod desk_order;
+mod faults;
 mod fixed_bytes;
 mod fixed_calls;
 mod fixed_logs;
@@ -19,6 +20,7 @@ mod fixed_records;
 mod forecasts;
 mod late_begins;
 mod met;
+mod price;
 mod random_calls;
 mod row;
 mod taken;
@@ -43,11 +45,13 @@ fn main() {
         ["forecast"] => print(forecasts::rows()),
         ["desk"] => print_desk(desk::rows(42, 7)),
         ["desk", rows, seed] => print_desk(desk::rows(number(rows), number(seed))),
+        ["price"] => print_price(price::rows(40, 7)),
+        ["price", rows, seed] => print_price(price::rows(number(rows), number(seed))),
         ["long"] => print(long()),
         [rows, seed] => print(random_calls::rows(number(rows), number(seed))),
         _ => panic!(
             "arguments: HOW-MANY SEED, calls, between, helps, demand3, forecast, \
-             desk [HOW-MANY SEED], long, or tally FILE .."
+             desk [HOW-MANY SEED], price [HOW-MANY SEED], long, or tally FILE .."
         ),
     }
 }
@@ -77,6 +81,11 @@ fn print_desk(rows: Vec<Row>) {
         include_str!("desk_head.txt")
     );
     print_below(head, rows);
+}
+
+/// The file of the price's rows, which know nothing of the queue.
+fn print_price(rows: Vec<Row>) {
+    print_below(include_str!("price_head.txt"), rows);
 }
 
 fn print_below(head: &str, rows: Vec<Row>) {

@@ -1,13 +1,13 @@
 //! What the rows meet: the numbers and verdicts of the calls, their helps, the cases of demand 3's
-//! terms, and those of the desk.
+//! terms, and those of the desk and of prices.
 
 use reference::helps::ChildV3;
 use std::fmt;
 
 /// Everything that the rows must meet, by what can meet it. The numbers and verdicts of the calls
 /// are those of document 01, "What each call turns down", and of requests a and b; helps are those
-/// of request e, and the desk is that of request g.
-const REQUIRED: [(&str, &[&str]); 14] = [
+/// of request e, the desk is that of request g, and prices are those of request h.
+const REQUIRED: [(&str, &[&str]); 16] = [
     ("run", &["0", "1", "2", "3", "4", "5", "6", "7", "8", "9"]),
     ("list", &["0", "1", "2", "3", "4", "5", "6", "7", "8", "10"]),
     (
@@ -67,6 +67,24 @@ const REQUIRED: [(&str, &[&str]); 14] = [
             "a term of an unfinished put",
             "a term taken by another process",
             "bytes past the terms",
+        ],
+    ),
+    ("price", &["0", "2", "4", "15", "16"]),
+    (
+        "bill",
+        &[
+            "no deliveries",
+            "all 4,000",
+            "up to a band's end",
+            "one past a band's end",
+            "beyond the last band",
+            "an empty first band",
+            "an end above 4,000",
+            "one band",
+            "eight bands",
+            "a remainder",
+            "a cent of two bands' remainders",
+            "the largest price",
         ],
     ),
 ];

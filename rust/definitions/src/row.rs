@@ -2,7 +2,7 @@
 
 use crate::met::{Met, LINE};
 
-/// The definitions of the rows' own file that the prover computes with.
+/// The rules, and the definitions of the common head that the prover computes with.
 const UNFOLDED: &str = "rules wordsOf leaves call left process numbers lateBegin op answer moved \
      bits saidOf said pairsOf pair queueOf queue foretold";
 
@@ -18,8 +18,8 @@ pub struct Statement {
     name: &'static str,
     /// The type of a value, or what a theorem says.
     says: String,
-    /// Definitions that the prover computes with besides those of the common head.
-    also: &'static str,
+    /// Definitions that the prover computes with.
+    unfolded: String,
     is: Is,
 }
 
@@ -35,37 +35,44 @@ impl Statement {
         Statement {
             name,
             says: of.to_string(),
-            also: "",
+            unfolded: String::new(),
             is: Is::Value(value),
         }
     }
 
-    /// Both sides compute to the same.
+    /// Both sides compute to the same, by the rules and the common head.
     pub fn equal(name: &'static str, left: &str, right: &str) -> Statement {
         Statement {
             name,
             says: format!("{left} ≡ {right}"),
-            also: "",
+            unfolded: UNFOLDED.to_string(),
             is: Is::Theorem,
         }
     }
 
     /// The theorem with these definitions too.
-    pub fn with(self, also: &'static str) -> Statement {
-        Statement { also, ..self }
+    pub fn with(self, also: &str) -> Statement {
+        let unfolded = self.unfolded + also;
+        Statement { unfolded, ..self }
+    }
+
+    /// The theorem with these definitions and no others.
+    pub fn by(self, only: &str) -> Statement {
+        let unfolded = only.to_string();
+        Statement { unfolded, ..self }
     }
 
     fn text(&self, own_values: &str) -> String {
         let Statement {
             name,
             says,
-            also,
+            unfolded,
             is,
         } = self;
         match is {
             Is::Value(value) => format!("\nunfoldable {name}-# : {says}\n{name}-# = {value}\n"),
             Is::Theorem => {
-                let unfolded = format!("{UNFOLDED}{also}{own_values}");
+                let unfolded = format!("{unfolded}{own_values}");
                 format!("\n{name}-# : {says}\nunfolding {unfolded}\n{name}-# = refl\n")
             }
         }

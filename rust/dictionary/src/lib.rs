@@ -1,5 +1,6 @@
-//! The legal dictionary's delivery desk. The code is the proved Rattle library; these functions lend
-//! it slices. It is a product of its own: it plays the queue itself, and needs no other library.
+//! The legal dictionary: its delivery desk, here, and its [price sheet](price). The code of each is a
+//! proved Rattle library; these functions lend it slices. Each needs no other library: the desk plays
+//! the queue itself, and the price sheet knows nothing of it.
 //!
 //! Several processes share a first-in first-out queue, played step by step as a list of step records
 //! says. A value of [`FIRST_ENTRY`] or more is a dictionary entry, and what it is above that its term
@@ -25,21 +26,25 @@
 //! assert_eq!(dictionary::terms(2, 24, 0, unfinished), Ok(vec![]));
 //! ```
 
-#[cfg_attr(not(archive), path = "absent.rs")]
+#[cfg_attr(not(archive = "desk"), path = "absent.rs")]
 mod archive;
+pub mod price;
 mod refusal;
 mod returned;
 
 pub use refusal::Refusal;
 pub use settings::table_words;
 
-/// Whether the archive of the proved library was there when this crate was built. If not, the calls
-/// panic; a program asks first, and says [`NOT_BUILT`].
-pub const BUILT: bool = cfg!(archive);
+use returned::refusal_of;
+
+/// Whether the archive of the desk was there when this crate was built. If not, the calls panic; a
+/// program asks first, and says [`NOT_BUILT`].
+pub const BUILT: bool = cfg!(archive = "desk");
 
 /// What to do where the archive was not there, and how long it takes.
-pub const NOT_BUILT: &str = "the proved dictionary is not built: run `rt staticlib desk` in the \
-    repository (about 5 minutes, it proves it), then build this program again";
+pub const NOT_BUILT: &str =
+    "the proved delivery desk is not built: run `rt staticlib desk` in the repository \
+     (about 5 minutes, it proves it), then build this program again";
 
 /// The first value that is an entry, that of term 0.
 pub const FIRST_ENTRY: u32 = 1 << 31;
@@ -116,7 +121,7 @@ pub fn deliver(
 ) -> Delivery {
     let delivered = archive::deliver(p, l, licensed, records, table, output);
     Delivery {
-        refusal: refusal_of(delivered.refusal),
+        refusal: refusal_of(delivered.refusal, Refusal::from_number),
         count: delivered.count,
     }
 }
@@ -148,11 +153,4 @@ pub fn terms(p: u32, l: u32, licensed: u32, records: &[u8]) -> Result<Vec<u32>, 
 pub fn terms_of(bytes: &[u8]) -> Vec<u32> {
     let (terms, _) = bytes.as_chunks();
     terms.iter().map(|&term| u32::from_le_bytes(term)).collect()
-}
-
-/// The refusal that the library returned as a number; 0 is none.
-fn refusal_of(number: u32) -> Option<Refusal> {
-    let refusal = Refusal::from_number(number);
-    assert_eq!(refusal.map_or(0, Refusal::number), number);
-    refusal
 }

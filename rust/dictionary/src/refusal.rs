@@ -80,10 +80,14 @@ impl Refusal {
     /// assert_eq!(Refusal::from_number(9), None);
     /// ```
     pub fn from_number(number: u32) -> Option<Refusal> {
-        Self::ALL
-            .into_iter()
-            .find(|refusal| refusal.number() == number)
+        with_number(&Self::ALL, Refusal::number, number)
     }
+}
+
+/// Of all refusals of a call, the one with this number.
+pub fn with_number<R: Copy>(all: &[R], number_of: fn(R) -> u32, number: u32) -> Option<R> {
+    let mut all = all.iter().copied();
+    all.find(|&refusal| number_of(refusal) == number)
 }
 
 impl fmt::Display for Refusal {

@@ -29,7 +29,7 @@
 //! assert_eq!(verdict, otq::Verdict::Same);
 //! ```
 
-#[cfg_attr(not(archive), path = "absent.rs")]
+#[cfg_attr(not(archive = "queue"), path = "absent.rs")]
 mod archive;
 mod blocks;
 mod records;
@@ -44,7 +44,7 @@ pub use sizes::{most_answer_bytes, most_order_bytes, table_words};
 
 /// Whether the archive of the proved library was there when this crate was built. If not, the calls
 /// panic; a program asks first, and says [`NOT_BUILT`].
-pub const BUILT: bool = cfg!(archive);
+pub const BUILT: bool = cfg!(archive = "queue");
 
 /// What to do where the archive was not there, and how long it takes.
 pub const NOT_BUILT: &str = "the proved library is not built: run `rt staticlib queue` in the \

@@ -156,6 +156,7 @@ fn byte_of(process: u32) -> u8 {
     u8::try_from(process).expect("process numbers are below 8")
 }
 
-fn low_first_32(bytes: &[u8]) -> u32 {
+/// The number that four bytes hold.
+pub fn low_first_32(bytes: &[u8]) -> u32 {
     u32::from_le_bytes([bytes[0], bytes[1], bytes[2], bytes[3]])
 }

@@ -25,6 +25,7 @@ mod lengths;
 mod list_order;
 mod order_recomputed;
 mod plain_queue;
+mod price;
 mod printing;
 mod record_refusals;
 mod records;

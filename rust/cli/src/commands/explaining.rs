@@ -2,8 +2,8 @@
 
 use crate::arguments::Given;
 use crate::failure::{Failure, Status};
-use crate::fields::{Sort, ANSWER, ORDER, STEP};
-use crate::refused::explained;
+use crate::fields::{Sort, ANSWER, BAND, ORDER, STEP};
+use crate::refused::{explained, explained_of_sheet};
 use crate::tool::Tool;
 
 /// What is counted as a help.
@@ -20,7 +20,7 @@ pub fn explain(tool: &mut Tool, given: &Given) -> Result<Status, Failure> {
     match word.as_deref() {
         None => overview(tool)?,
         Some("records") => {
-            for sort in [STEP, ANSWER, ORDER] {
+            for sort in [STEP, ANSWER, ORDER, BAND] {
                 tool.line(layout(&sort))?;
             }
             tool.line(HELP)?;
@@ -38,6 +38,10 @@ pub fn explain(tool: &mut Tool, given: &Given) -> Result<Status, Failure> {
                 || format!("expected a number from 1 to {last} or `records`, found `{word}`");
             let (reason, advice) = found.ok_or_else(|| Failure::mistake(told()))?;
             tool.line(format!("{} {}.\n{advice}", reason.number, reason.meaning))?;
+            if let Some((of_sheet, advice)) = explained_of_sheet(reason.number) {
+                let meaning = of_sheet.meaning;
+                tool.line(format!("\nOf a price sheet: {meaning}.\n{advice}"))?;
+            }
         }
     }
     Ok(Status::Done)
@@ -52,7 +56,8 @@ fn overview(tool: &mut Tool) -> Result<(), Failure> {
         "\nThe first test that fails is told. Of a call: 1, 2, 3, 4, of a check then 11. Of a begin: \
          5, 8, 6. Of a step: 5, 7, of a run then 9. Of a list of the order, at the end: 10. Of a \
          forecast: 1, 2, 4, and of each record: 5, 12, 8. Of the desk: 1, 2, 13, 3, 4, of a begin: 5, 8, \
-         6, 14, of a step: 5, 7, at the end: 10, here that the terms are longer than the output.",
+         6, 14, of a step: 5, 7, at the end: 10, here that the terms are longer than the output. Of a \
+         price sheet: 2, here that the count of deliveries is over 4,000, 4, 15, 16.",
     )?;
     tool.line("\n`otq explain N` says what to do, `otq explain records` how records are laid out.")
 }

@@ -8,6 +8,7 @@ mod forecasting;
 mod listing;
 mod making;
 mod playing;
+mod pricing;
 mod showing;
 mod tabling;
 mod tracing;
@@ -44,9 +45,13 @@ const QUEUE: Library = Library {
     built: otq::BUILT,
     not_built: otq::NOT_BUILT,
 };
-const DICTIONARY: Library = Library {
+const DESK: Library = Library {
     built: dictionary::BUILT,
     not_built: dictionary::NOT_BUILT,
+};
+const PRICE: Library = Library {
+    built: dictionary::price::BUILT,
+    not_built: dictionary::price::NOT_BUILT,
 };
 
 const P: Choice = Choice {
@@ -70,7 +75,7 @@ const JSON: Choice = Choice {
     about: "writes the result as JSON",
 };
 
-const COMMANDS: [Command; 12] = [
+const COMMANDS: [Command; 13] = [
     Command {
         name: "run",
         usage: "[-p P -L L] STEPS [--log OUT] [--whole] [--json]",
@@ -115,8 +120,20 @@ const COMMANDS: [Command; 12] = [
                Takes that did not end deliver nothing.",
         choices: &[&delivering::LICENSED, &P, &L, &delivering::RAW, &WHOLE, &JSON],
         files: (1, 1),
-        libraries: &[QUEUE, DICTIONARY],
+        libraries: &[QUEUE, DESK],
         call: delivering::desk,
+    },
+    Command {
+        name: "price",
+        usage: "COUNT SHEET [--json]",
+        about: "tells what COUNT deliveries cost by a price sheet",
+        more: "COUNT is 0 to 4000. A line a band in which deliveries fall: which deliveries, how many, the price\n\
+               of a hundred, and what they cost, in cents with hundredths of a cent. Last the total. Nothing is\n\
+               rounded.",
+        choices: &[&JSON],
+        files: (2, 2),
+        libraries: &[PRICE],
+        call: pricing::price,
     },
     Command {
         name: "forecast",
@@ -222,6 +239,11 @@ const BEGINS: &str = "\
 BEGINS is as STEPS elsewhere, with begins alone: a text whose heading gives p and L, or a file of
 binary step records, for which -p and -L are needed. `-` is standard input.";
 
+const SHEET: &str = "\
+SHEET is a price sheet of 1 to 8 bands: a text with a line a band, such as `up to 100: 2500` for deliveries
+up to number 100 at 2500 cents for a hundred, or a file of binary records (`otq explain records`).
+Deliveries after the last band cost its price. `-` is standard input.";
+
 const EXIT: &str =
     "Exit status: 0 done or same, 1 the log differs, 2 a mistake in the command, a file or a text, 3 refused.";
 
@@ -296,7 +318,7 @@ impl Command {
                 choice.about.replace('\n', "\n                ")
             );
         }
-        for (file, about) in [("STEPS", STEPS), ("BEGINS", BEGINS)] {
+        for (file, about) in [("STEPS", STEPS), ("BEGINS", BEGINS), ("SHEET", SHEET)] {
             if self.usage.contains(file) {
                 help += &format!("\n\n{about}\n\n{EXIT}");
             }
@@ -316,7 +338,7 @@ fn help(tool: &mut Tool, words: &[OsString]) -> Result<Status, Failure> {
 fn overview() -> String {
     let mut text =
         "otq plays the steps of a shared queue, lists their order, shows what each step did and which blocks\n\
-         it left, checks a log, delivers dictionary terms, and forecasts what a list will need.\n"
+         it left, checks a log, delivers dictionary terms, prices deliveries, and forecasts what a list needs.\n"
             .to_string();
     for Command {
         name, usage, about, ..
@@ -324,16 +346,20 @@ fn overview() -> String {
     {
         text += &format!("\n  otq {name:<9}{usage}\n               {about}");
     }
-    format!("{text}\n\n`otq COMMAND --help` says more of one.\n\n{STEPS} BEGINS is the same with begins alone.\n\n{EXIT}")
+    format!(
+        "{text}\n\n`otq COMMAND --help` says more of one.\n\n\
+         {STEPS} BEGINS is the same with begins alone.\n\n{SHEET}\n\n{EXIT}"
+    )
 }
 
 fn version(tool: &mut Tool) -> Result<Status, Failure> {
     let with = |library: &Library| if library.built { "with" } else { "without" };
     tool.line(format!(
-        "otq {}, {} the proved library, {} the proved dictionary",
+        "otq {}, {} the proved library, {} the proved delivery desk, {} the proved price sheet",
         env!("CARGO_PKG_VERSION"),
         with(&QUEUE),
-        with(&DICTIONARY)
+        with(&DESK),
+        with(&PRICE)
     ))?;
     Ok(Status::Done)
 }

@@ -5,7 +5,7 @@ use crate::failure::{Failure, Status};
 use crate::fields::{Sort, ANSWER, ORDER, STEP};
 use crate::files::{records, Name};
 use crate::tool::Tool;
-use crate::words::{self, count, hex};
+use crate::words::{self, hex};
 
 pub const AS: Choice = Choice {
     name: "--as",
@@ -43,13 +43,8 @@ fn show_as<const N: usize>(
     match torn {
         [] => Ok(Status::Done),
         _ => {
-            let (records, bytes) = (
-                count(whole.len(), "whole record"),
-                count(torn.len(), "byte"),
-            );
-            let at = N * whole.len();
-            let message = format!("torn: {records}, then {bytes} at byte {at}: {}", hex(torn));
-            Err(Failure::of(name, message))
+            let place = words::torn(bytes.len(), N, "record");
+            Err(Failure::of(name, format!("torn: {place}: {}", hex(torn))))
         }
     }
 }

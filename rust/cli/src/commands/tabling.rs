@@ -1,6 +1,7 @@
 //! `otq table`.
 
 use crate::arguments::{Choice, Given};
+use crate::columns::{self, number, words};
 use crate::failure::{Failure, Status};
 use crate::json::Json;
 use crate::list::List;
@@ -108,29 +109,8 @@ fn of_node(list: &List, table: Table, node: u32) -> Node {
     }
 }
 
-/// A column: its title, and what it has of a block.
-struct Column {
-    title: &'static str,
-    cell: fn(&Written) -> String,
-    /// Words stand at the left, numbers at the right.
-    is_number: bool,
-}
-
-const fn number(title: &'static str, cell: fn(&Written) -> String) -> Column {
-    Column {
-        title,
-        cell,
-        is_number: true,
-    }
-}
-
-const fn words(title: &'static str, cell: fn(&Written) -> String) -> Column {
-    Column {
-        title,
-        cell,
-        is_number: false,
-    }
-}
+/// A column of a table of blocks.
+type Column = columns::Column<Written>;
 
 const PLACE: Column = number("block", |written| written.place.to_string());
 const PUTS: Column = number("puts", |written| written.block.puts.to_string());
@@ -162,32 +142,14 @@ fn print(tool: &mut Tool, nodes: &[Node]) -> Result<(), Failure> {
             continue;
         }
         tool.line(&node.heading)?;
-        for line in lines(node) {
-            tool.line(line)?;
+        for line in columns::lines(node.columns, &node.blocks) {
+            tool.line(format!("  {line}"))?;
             if tool.closed() {
                 return Ok(());
             }
         }
     }
     Ok(())
-}
-
-/// The titles, and a line a block.
-fn lines(node: &Node) -> Vec<String> {
-    let mut lines = vec![String::new(); 1 + node.blocks.len()];
-    for column in node.columns {
-        let mut cells = vec![column.title.to_string()];
-        cells.extend(node.blocks.iter().map(column.cell));
-        let width = cells.iter().map(String::len).max().unwrap_or(0);
-        for (line, cell) in lines.iter_mut().zip(cells) {
-            *line += &match column.is_number {
-                true => format!("  {cell:>width$}"),
-                false => format!("  {cell:<width$}"),
-            };
-        }
-    }
-    let lines = lines.iter().map(|line| line.trim_end().to_string());
-    lines.collect()
 }
 
 fn json(nodes: &[Node], taken: u64, refused: Option<&Refused>) -> Json {

@@ -1,4 +1,6 @@
-//! A text notation for lists of step records, one line a record or a run of steps:
+//! Text notations: for lists of step records, here, and for [price sheets](PriceSheet).
+//!
+//! A list has a line a record or a run of steps:
 //!
 //! ```text
 //! # What stands after a hash is a comment; blank lines mean nothing.
@@ -23,9 +25,13 @@
 
 mod lines;
 mod reader;
+mod sheet;
+mod text;
 
 pub use lines::{lines, Line};
-pub use reader::{Mistake, Reader};
+pub use reader::Reader;
+pub use sheet::{band_line, PriceSheet};
+pub use text::Mistake;
 
 use otq::Step;
 use std::io::BufRead;

@@ -1,36 +1,9 @@
 //! Text to records, a line at a time.
 
+use super::text::{decimal, expected, number, Mistake, Text};
 use super::{Heading, Line, Record, MOST};
 use otq::{Act, Step};
-use std::error::Error;
-use std::fmt;
-use std::io::{self, BufRead, Read};
-
-/// The most bytes of a line, comment included.
-const MOST_BYTES: usize = 10_000;
-
-/// The most characters of a wrong line that are told.
-const MOST_TOLD: usize = 60;
-
-/// Why a text is not read to its end.
-#[derive(Debug)]
-pub enum Mistake {
-    /// A line, from 1, that is not of the notation: what was expected and what was found.
-    Line { line: usize, message: String },
-    /// The text could not be read on.
-    Read(io::Error),
-}
-
-impl fmt::Display for Mistake {
-    fn fmt(&self, f: &mut fmt::Formatter) -> fmt::Result {
-        match self {
-            Mistake::Line { line, message } => write!(f, "{line}: {message}"),
-            Mistake::Read(error) => write!(f, "{error}"),
-        }
-    }
-}
-
-impl Error for Mistake {}
+use std::io::BufRead;
 
 /// A text that is read line by line, and what its heading said so far.
 ///
@@ -43,10 +16,7 @@ impl Error for Mistake {}
 /// assert_eq!(mistake.to_string(), "2: expected `put VALUE by PROCESS`, found `put by 1`");
 /// ```
 pub struct Reader<T> {
-    text: T,
-    /// The line that was read last, and its number.
-    bytes: Vec<u8>,
-    line: usize,
+    text: Text<T>,
     heading: Heading,
     /// The first word of each line of the heading, and its number.
     said: Vec<(String, usize)>,
@@ -57,9 +27,7 @@ pub struct Reader<T> {
 impl<T: BufRead> Reader<T> {
     pub fn new(text: T) -> Reader<T> {
         Reader {
-            text,
-            bytes: Vec::new(),
-            line: 0,
+            text: Text::new(text),
             heading: Heading::default(),
             said: Vec::new(),
             begun: false,
@@ -78,51 +46,26 @@ impl<T: BufRead> Reader<T> {
 
     /// The next line that says records, with its number; `None` at the end of the text.
     pub fn next_line(&mut self) -> Result<Option<(usize, Line)>, Mistake> {
-        while self.read_bytes()? {
-            if let Some(said) = self.read_line().map_err(|message| self.mistake(message))? {
+        while let Some(said) = self.text.next_line()? {
+            let words: Vec<&str> = said.split_whitespace().collect();
+            let read = self.read_line(&words);
+            if let Some(line) = read.map_err(|message| self.text.mistake(message))? {
                 self.begun = true;
-                return Ok(Some((self.line, said)));
+                return Ok(Some((self.text.line(), line)));
             }
         }
         Ok(None)
     }
 
-    fn mistake(&self, message: String) -> Mistake {
-        let line = self.line;
-        Mistake::Line { line, message }
-    }
-
-    /// Whether there is another line.
-    fn read_bytes(&mut self) -> Result<bool, Mistake> {
-        self.bytes.clear();
-        let mut text = self.text.by_ref().take(MOST_BYTES as u64 + 1);
-        let read = text.read_until(b'\n', &mut self.bytes);
-        let found = read.map_err(Mistake::Read)? > 0;
-        self.line += usize::from(found);
-        match self.bytes.len() > MOST_BYTES {
-            true => Err(self.mistake(format!("expected a line of at most {MOST_BYTES} bytes"))),
-            false => Ok(found),
-        }
-    }
-
-    /// What the line says; `None` for one of the heading and for one that says nothing. Bytes that
-    /// are no text are looked at as a character that no line has, so that they may stand in comments
-    /// and are told elsewhere.
-    fn read_line(&mut self) -> Result<Option<Line>, String> {
-        let line = String::from_utf8_lossy(&self.bytes);
-        let said = line.split('#').next().unwrap_or_default();
-        // Some editors begin a text with a byte order mark.
-        let said = said.trim_start_matches('\u{feff}');
-        let words: Vec<&str> = said.split_whitespace().collect();
-        let Some(first) = words.first() else {
-            return Ok(None);
-        };
+    /// The records that the words of a line say; `None` for one of the heading.
+    fn read_line(&mut self, words: &[&str]) -> Result<Option<Line>, String> {
+        let first = words[0];
         match slot(&mut self.heading, first) {
-            None => read_record(&words).map(Some),
+            None => read_record(words).map(Some),
             Some(_) if self.begun => Err(format!("expected `{first}` before the first record")),
             Some(slot) => {
-                read_heading(slot, &words)?;
-                self.said.push((first.to_string(), self.line));
+                read_heading(slot, words)?;
+                self.said.push((first.to_string(), self.text.line()));
                 Ok(None)
             }
         }
@@ -187,17 +130,6 @@ fn times(word: &str) -> Result<u32, String> {
     count.ok_or_else(|| expected(&format!("a count from x1 to x{MOST}"), &[word]))
 }
 
-fn number(what: &str, word: &str, most: u32) -> Result<u32, String> {
-    let number = decimal(word).filter(|&number| number <= most);
-    number.ok_or_else(|| expected(&format!("{what} from 0 to {most}"), &[word]))
-}
-
-/// Digits only, since `parse` takes a sign too.
-fn decimal(word: &str) -> Option<u32> {
-    let digits = word.bytes().all(|byte| byte.is_ascii_digit());
-    word.parse().ok().filter(|_| digits)
-}
-
 /// Bytes of two digits each, none of them a sign.
 fn raw(words: &[&str]) -> Result<Record, String> {
     let mut record = Record::default();
@@ -207,19 +139,4 @@ fn raw(words: &[&str]) -> Result<Record, String> {
         *place = byte.ok_or_else(|| expected("a byte from 00 to ff", &[word]))?;
     }
     Ok(record)
-}
-
-fn expected(what: &str, words: &[&str]) -> String {
-    let found = words.join(" ");
-    // A control character would act on the terminal that shows the message.
-    let shown = found
-        .chars()
-        .map(|c| if c.is_control() { '\u{fffd}' } else { c });
-    let told: String = shown.take(MOST_TOLD).collect();
-    let more = if found.chars().count() > MOST_TOLD {
-        ".."
-    } else {
-        ""
-    };
-    format!("expected {what}, found `{told}{more}`")
 }

@@ -1,108 +1,10 @@
-//! What is told of a refusal: number and meaning, the record, and what may have caused it.
+//! What is told of a refused list.
 
-use crate::failure::{Failure, Status};
-use crate::json::Json;
+use super::{Place, Reason, Refused};
 use crate::list::List;
 use crate::notation::Record;
-use crate::words::{count, hex, step};
+use crate::words::{count, torn};
 use otq::{Answer, Refusal, Run, Step};
-use std::fmt::{Debug, Display};
-
-/// A refusal as it is told.
-pub struct Reason {
-    pub number: u32,
-    pub meaning: String,
-    name: String,
-}
-
-impl Reason {
-    fn new(number: u32, refusal: impl Debug + Display) -> Reason {
-        Reason {
-            number,
-            meaning: refusal.to_string(),
-            name: format!("{refusal:?}"),
-        }
-    }
-
-    fn of_queue(refusal: Refusal) -> Reason {
-        Reason::new(refusal.number(), refusal)
-    }
-
-    fn of_desk(refusal: dictionary::Refusal) -> Reason {
-        Reason::new(refusal.number(), refusal)
-    }
-}
-
-/// Every refusal in the order of the numbers, and what to do about it.
-pub fn explained() -> Vec<(Reason, &'static str)> {
-    let queue = Refusal::ALL.map(|refusal| (Reason::of_queue(refusal), advice(refusal)));
-    let desk = dictionary::Refusal::ALL.into_iter();
-    let desk = desk.filter_map(|refusal| Some((Reason::of_desk(refusal), desk_advice(refusal)?)));
-    let mut explained: Vec<_> = queue.into_iter().chain(desk).collect();
-    explained.sort_by_key(|(reason, _)| reason.number);
-    explained
-}
-
-/// What to do about a refusal that the desk alone has.
-fn desk_advice(refusal: dictionary::Refusal) -> Option<&'static str> {
-    match refusal {
-        dictionary::Refusal::Licence => Some(
-            "Give the process that the licence names, with --licensed. Processes are numbered from 0, \
-             so that it is below p.",
-        ),
-        dictionary::Refusal::ForeignEntry => Some(
-            "Values of 2147483648 or more are dictionary entries, and `otq desk` lets the licensed \
-             process alone put them. Give the process that the licence names, with --licensed, or have \
-             the list mended by who made it. Takes of entries are anyone's.",
-        ),
-        _ => None,
-    }
-}
-
-/// What to do about a refusal of the queue; the desk's with the same number has the same advice.
-fn advice(refusal: Refusal) -> &'static str {
-    match refusal {
-        Refusal::Processes => "Give the p that the list was made for, with -p or `processes`.",
-        Refusal::Operations => "Give the L that the list was made for, with -L or `operations`.",
-        Refusal::TableShort => "Take the line `table` out of the heading, or lend more words.",
-        Refusal::RecordsTorn => {
-            "The file was cut, or is no list of steps. Get it again, or take its whole records with \
-             --whole; `otq show --as steps` shows where it is torn."
-        }
-        Refusal::IllFormed => {
-            "The list was made for more processes, or by a program that writes other records. See \
-             `otq explain records`, and `otq show --as steps`."
-        }
-        Refusal::BeginWhileBusy => {
-            "A process ends an operation before it begins another. The list was made for fewer \
-             processes, where an operation has fewer steps, or lacks steps; `otq trace --to N` shows \
-             the steps up to record N. A process that has begun L is refused with 8 instead."
-        }
-        Refusal::StepWhileIdle => {
-            "A process begins an operation before it steps. The list was made for more processes, \
-             where an operation has more steps, or has steps too many; `otq trace` shows where the \
-             operation ended."
-        }
-        Refusal::BegunAll => {
-            "Give a larger L, with -L or `operations`, up to 500. 8 is tested before 6: if the process \
-             of a list that is played is also still inside its last operation, the list then stops with 6 \
-             at the same record."
-        }
-        Refusal::AnswersFull => "Take the line `answers` out of the heading, or lend more bytes.",
-        Refusal::OutputShort => {
-            "Lend an output of 8 bytes for each operation, and for the terms of the desk of 4 bytes for each \
-             operation of the licensed process."
-        }
-        Refusal::LogTorn => {
-            "The log was cut, or is no log. Get it again, or check its whole answers with --whole; \
-             `otq show --as log` shows where it is torn."
-        }
-        Refusal::StepAmongBegins => {
-            "`otq forecast` takes begins alone, one for each operation. `grep -v '^ *step' FILE | otq \
-             forecast -` leaves out the step lines of a text; `otq decode` makes a text of records."
-        }
-    }
-}
 
 /// What a list was given to: to a call that plays it, to the forecast, or to the desk.
 #[derive(Clone, Copy, PartialEq, Eq)]
@@ -112,31 +14,20 @@ enum Call {
     Desk { licensed: u32 },
 }
 
-/// A refused call.
-pub struct Refused<'a> {
-    reason: Reason,
-    list: &'a List,
-    /// The refused record, from 0; `None` if the call was turned down before its records.
-    pub record: Option<usize>,
-    /// How the refused record meets its process, or what the call was given.
-    standing: Option<String>,
-    cause: Option<String>,
-}
-
-impl Refused<'_> {
+impl Refused {
     /// The refusal of a run of the list, if there is one.
-    pub fn of_run<'a>(list: &'a List, run: &Run) -> Option<Refused<'a>> {
+    pub fn of_run(list: &List, run: &Run) -> Option<Refused> {
         let refusal = run.refusal?;
         Some(Refused::of_list(list, refusal, run.taken as usize))
     }
 
     /// A refusal of a list of which so many records were taken.
-    pub fn of_list(list: &List, refusal: Refusal, taken: usize) -> Refused<'_> {
+    pub fn of_list(list: &List, refusal: Refusal, taken: usize) -> Refused {
         Refused::new(list, Call::Play, refusal, taken)
     }
 
     /// A refusal of a forecast which so many begins passed.
-    pub fn of_begins(list: &List, refusal: Refusal, taken: usize) -> Refused<'_> {
+    pub fn of_begins(list: &List, refusal: Refusal, taken: usize) -> Refused {
         Refused::new(list, Call::Forecast, refusal, taken)
     }
 
@@ -146,7 +37,7 @@ impl Refused<'_> {
         licensed: u32,
         refusal: dictionary::Refusal,
         taken: usize,
-    ) -> Refused<'_> {
+    ) -> Refused {
         let call = Call::Desk { licensed };
         let (record, standing, cause) = match refusal {
             dictionary::Refusal::Licence => {
@@ -167,14 +58,13 @@ impl Refused<'_> {
         };
         Refused {
             reason: Reason::of_desk(refusal),
-            list,
-            record,
+            record: record.map(|record| Place::of_record(list, record)),
             standing,
             cause,
         }
     }
 
-    fn new(list: &List, call: Call, refusal: Refusal, taken: usize) -> Refused<'_> {
+    fn new(list: &List, call: Call, refusal: Refusal, taken: usize) -> Refused {
         let of_record = [
             Refusal::IllFormed,
             Refusal::BeginWhileBusy,
@@ -186,8 +76,7 @@ impl Refused<'_> {
         let record = of_record.contains(&refusal).then_some(taken);
         Refused {
             reason: Reason::of_queue(refusal),
-            list,
-            record,
+            record: record.map(|record| Place::of_record(list, record)),
             standing: match record {
                 Some(record) => standing(list, call, refusal, record),
                 None => given(list, refusal),
@@ -197,66 +86,11 @@ impl Refused<'_> {
     }
 
     /// The refusal of a torn log.
-    pub fn of_log<'a>(list: &'a List, log: &[u8]) -> Refused<'a> {
+    pub fn of_log(list: &List, log: &[u8]) -> Refused {
         Refused {
-            cause: Some(torn(log.len(), Answer::BYTES, "answer", "checks")),
+            cause: Some(torn_but_whole(log.len(), Answer::BYTES, "answer", "checks")),
             ..Refused::of_list(list, Refusal::LogTorn, 0)
         }
-    }
-
-    pub fn failure(&self) -> Failure {
-        let Reason {
-            number, meaning, ..
-        } = &self.reason;
-        let mut lines = vec![format!("otq: refused with {number}: {meaning}")];
-        if let Some(record) = self.record {
-            lines.push(format!("  {}", told(self.list, record)));
-        }
-        lines.extend(self.standing.iter().map(|standing| format!("  {standing}")));
-        lines.extend(
-            self.cause
-                .iter()
-                .map(|cause| format!("  likely cause: {cause}")),
-        );
-        lines.push(format!("  `otq explain {number}` says what to do"));
-        Failure {
-            status: Status::Refused,
-            message: lines.join("\n"),
-        }
-    }
-
-    pub fn json(&self) -> Json {
-        let record = self.record;
-        let byte = record.map(|record| record * Step::BYTES);
-        let line = record.and_then(|record| self.list.line_of(record));
-        let words = record.map(|record| step(self.list.records()[record]));
-        let text = |text: &Option<String>| Json::or_null(text.as_ref().map(Json::text));
-        Json::object([
-            ("number", Json::Number(self.reason.number.into())),
-            ("name", Json::text(&self.reason.name)),
-            ("meaning", Json::text(&self.reason.meaning)),
-            ("record", Json::number(record.map(|record| record + 1))),
-            ("byte", Json::number(byte)),
-            ("line", Json::number(line)),
-            ("words", text(&words)),
-            ("standing", text(&self.standing)),
-            ("likely_cause", text(&self.cause)),
-        ])
-    }
-}
-
-/// A record of a list: its number, where it stands, and what it says.
-pub fn told(list: &List, record: usize) -> String {
-    let bytes = list.records()[record];
-    let (number, at) = (record + 1, record * Step::BYTES);
-    let said = format!(
-        "record {number}, byte {at}: {} ({})",
-        step(bytes),
-        hex(&bytes)
-    );
-    match list.line_of(record) {
-        Some(line) => format!("{said}, {}:{line}", list.name),
-        None => said,
     }
 }
 
@@ -353,7 +187,8 @@ fn cause(list: &List, call: Call, refusal: Refusal) -> Option<String> {
                 Call::Play | Call::Desk { .. } => "plays",
                 Call::Forecast => "forecasts",
             };
-            Some(torn(list.bytes().len(), Step::BYTES, "record", does))
+            let length = list.bytes().len();
+            Some(torn_but_whole(length, Step::BYTES, "record", does))
         }
         Refusal::StepAmongBegins => mostly_steps(list)
             .then(|| "it is a whole list, and a forecast is of its begins alone".to_string()),
@@ -373,12 +208,9 @@ fn cause(list: &List, call: Call, refusal: Refusal) -> Option<String> {
 }
 
 /// Where bytes are torn, and what can be done with the whole records.
-fn torn(length: usize, size: usize, what: &str, does: &str) -> String {
-    let (whole, rest) = (length / size, length % size);
-    let at = whole * size;
-    let (records, bytes) = (format!("whole {what}"), count(rest, "byte"));
-    let records = count(whole, &records);
-    format!("{records}, then {bytes} at byte {at}; --whole {does} the {whole}")
+fn torn_but_whole(length: usize, size: usize, what: &str, does: &str) -> String {
+    let (torn, whole) = (torn(length, size, what), length / size);
+    format!("{torn}; --whole {does} the {whole}")
 }
 
 fn holds_answers(list: &List) -> bool {
@@ -453,27 +285,4 @@ fn most_begins(list: &List) -> u32 {
         begins[usize::from(record[0])] += 1;
     }
     begins.into_iter().max().unwrap_or(0)
-}
-
-#[cfg(test)]
-mod tests {
-    use super::Reason;
-    use dictionary::Refusal;
-
-    /// A refusal that the desk shares with the queue is told in the queue's words.
-    #[test]
-    fn the_desk_has_the_words_of_the_queue() {
-        let own = [
-            Refusal::OutputShort,
-            Refusal::Licence,
-            Refusal::ForeignEntry,
-        ];
-        for refusal in Refusal::ALL {
-            let desk = Reason::of_desk(refusal);
-            let queue = otq::Refusal::from_number(refusal.number()).map(Reason::of_queue);
-            let told = |reason: Reason| (reason.meaning, reason.name);
-            let is_shared = queue.map(told) == Some(told(desk));
-            assert_eq!(is_shared, !own.contains(&refusal), "{refusal:?}");
-        }
-    }
 }
