@@ -8,14 +8,16 @@ use Rattle.base.specs.Sums.{sum}
 use Rattle.price.specs.declared.Band.{Band}
 use Rattle.price.specs.Sheet.{bandOf}
 
--- delivery number n falls in band i: it is past the ends of all bands before, and not past that of this one, unless it
--- is the last band, whose own end changes no price
+-- delivery number n falls in band i, from 0: it is past the ends of all bands before that one, and not past that one's
+-- own end; the own end of the last band changes no price
 pub record FallsIn (bs : List Band) (n i : ℕ) : Type 0 where
   pub isBand : i < length bs
   pub past : (j : ℕ) → j < i → bandOf bs j .last < n
   pub notPast : suc i < length bs → n ≤ bandOf bs i .last
 
--- `fallsIn` tells the band of each delivery, by its number
+-- the exact price of deliveries 1 to count: `fallsIn` tells the band of each by its number, and whole cents and
+-- hundredths of a cent, 0 to 99, are the sum of these bands' prices. A price in cents for a hundred deliveries is in
+-- hundredths of a cent for one.
 pub record Exact (bs : List Band) (count cents remainder : ℕ) : Type 0 where
   pub fallsIn : ℕ → ℕ
   pub falls : (n : ℕ) → 1 ≤ n → n ≤ count → FallsIn bs n (fallsIn n)

@@ -1,5 +1,4 @@
 -- `sheet::bands_allowed` meets its contract. The tests are passed in the order of the definition. Assumes nothing.
-use native.Mathlib.Omega.{arith}
 use borrow.Author.Needs.{needs}
 use borrow.Author.Tests.{le-leb, lt-leb}
 use Rattle.price.specs.Sheet.{mostBands, bandsAllowed}
