@@ -104,9 +104,9 @@ DeskDelivery desk_deliver(uint32_t p, uint32_t l, uint32_t licensed,
    Firms pay by deliveries, which count from 1. A sheet is a list of bands, 1 to PRICE_MOST_BANDS records of
    PRICE_BAND_BYTES bytes, without a header: the number of the band's last delivery, then its price in
    cents for a hundred deliveries, both 32 bits, low byte first. A band begins after the end of the one
-   before it, so that ends rise strictly; the first may end at 0, and then has no delivery. A delivery
-   costs the price of the band that it falls in, and beyond the last band that of the last, whose own end
-   so changes no price.
+   before it, so that ends rise strictly; the first may end at 0, and then has no delivery, and ends may be
+   above PRICE_MOST_DELIVERIES. A delivery costs the price of the band that it falls in, and beyond the
+   last band that of the last, whose own end so changes no price.
 
    The call writes nothing and uses less than 500 bytes of stack. The pointer to the sheet is never
    null, not even with length 0; it need not be aligned. During the call no other thread writes the sheet.
@@ -132,8 +132,8 @@ typedef struct PriceTotal {
     uint32_t remainder; /* the rest in hundredths of a cent, 0 to 99; 0 with a refusal */
 } PriceTotal;
 
-/* What the deliveries 1 to count cost by the sheet. Proved: for every input the result is an equation with
-   a definition, `priceDeliveries` in crates/price/specs/Price.antt; and it is exact: without a refusal
+/* What the deliveries 1 to count cost by the sheet. Proved: for every input the result is what a definition
+   gives, `priceDeliveries` in crates/price/specs/Price.antt; and it is exact: without a refusal
    100 * cents + remainder is the sum of each delivery's price, and the remainder is 0 to 99. Nothing is
    rounded, and with the largest numbers that are taken nothing overflows. */
 PriceTotal price_deliveries(uint32_t count, const uint8_t *sheet, size_t sheet_bytes);

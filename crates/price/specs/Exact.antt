@@ -16,8 +16,8 @@ pub record FallsIn (bs : List Band) (n i : ℕ) : Type 0 where
   pub notPast : suc i < length bs → n ≤ bandOf bs i .last
 
 -- the exact price of deliveries 1 to count: `fallsIn` tells the band of each by its number, and whole cents and
--- hundredths of a cent, 0 to 99, are the sum of these bands' prices. A price in cents for a hundred deliveries is in
--- hundredths of a cent for one.
+-- hundredths of a cent, 0 to 99, are the sum of these bands' prices. (Cents for a hundred deliveries are hundredths of
+-- a cent for one.)
 pub record Exact (bs : List Band) (count cents remainder : ℕ) : Type 0 where
   pub fallsIn : ℕ → ℕ
   pub falls : (n : ℕ) → 1 ≤ n → n ≤ count → FallsIn bs n (fallsIn n)

@@ -19,7 +19,7 @@ band bs = record { last = numberOf (take 4 bs); price = numberOf (take 4 (drop 4
 unfoldable pub bands : List ℕ → List Band
 bands sheet = map band (cut bandSize (length sheet / bandSize) sheet)
 
--- band number i, from 0
+-- band number i, from 0; past the last, zeros
 abbrev pub bandOf : List Band → ℕ → Band
 bandOf bs i = getD bs i (record { last = 0; price = 0 })
 

@@ -6,7 +6,7 @@ ghost use Prim.Native.Nat.{_+_, _-_, _*_, _≤_, _<_, min};
 ghost use Rattle.price.specs.Sheet.{bands};
 ghost use Rattle.price.specs.Price.{totalPrice, priceRefusal};
 
-// The last of the deliveries 1 to count that is not past the end of a band.
+// The last of the deliveries 1 to count that is not past the end of a band, 0 if there is none.
 fn last_within(end: u32, count: u32) -> u32
     ensures { λ r. ⌜ r ≡ min end count ⌝ }
 {

@@ -102,7 +102,12 @@ pub const BAND: Sort = Sort {
     name: "band of a price sheet",
     bytes: dictionary::price::Band::BYTES,
     fields: &[
-        plain("last", 0, 4, "the number of its last delivery, from 1"),
+        plain(
+            "last",
+            0,
+            4,
+            "the number of its last delivery; deliveries count from 1",
+        ),
         plain("price", 4, 4, "in cents for a hundred deliveries"),
     ],
 };

@@ -7,6 +7,9 @@ use crate::notation::PriceSheet;
 use crate::tool::Tool;
 use dictionary::price::{self, Band, Total};
 
+/// How the first line of a text begins that has no comment before it.
+const BEGINNING: &[u8] = b"up to ";
+
 /// A sheet: a text, or binary records.
 pub struct Sheet {
     pub name: Name,
@@ -52,6 +55,14 @@ impl Sheet {
     /// The line of a text that says a band, from 0.
     pub fn line_of(&self, band: usize) -> Option<usize> {
         self.sheet.line_of(band)
+    }
+
+    /// Whether the records begin as a text does, zero bytes and a byte order mark aside: a text of 16 bits a
+    /// character, or with a byte that no text has.
+    pub fn is_spoilt_text(&self) -> bool {
+        let bytes = self.sheet.bytes.iter();
+        let mut shown = bytes.filter(|byte| !matches!(byte, 0 | 0xfe | 0xff));
+        !self.is_text && BEGINNING.iter().all(|byte| shown.next() == Some(byte))
     }
 
     /// What so many deliveries cost.

@@ -66,7 +66,7 @@ fn records() {
         "  3           helps       heads of children moved inside refreshes",
         "  1           kind        1 put done, 2 value, 3 none",
         "band of a price sheet, 8 bytes",
-        "  0 to 3      last        the number of its last delivery, from 1",
+        "  0 to 3      last        the number of its last delivery; deliveries count from 1",
         "  4 to 7      price       in cents for a hundred deliveries",
     ] {
         assert!(records.contains(&format!("{line}\n")), "{line}");

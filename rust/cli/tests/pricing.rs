@@ -13,12 +13,12 @@ fn records(bands: &[[u32; 2]]) -> Vec<u8> {
 const BANDS: [[u32; 2]; 4] = [[100, 2500], [500, 1990], [2000, 1745], [3000, 1499]];
 
 const BILL: &str = "\
-deliveries    number  cents for 100      cents
-1 to 100         100          2,500   2,500.00
-101 to 500       400          1,990   7,960.00
-501 to 2000    1,500          1,745  26,175.00
-2001 to 2345     345          1,499   5,171.55
-total          2,345                 41,806.55
+deliveries      number  cents for 100      cents
+1 to 100           100          2,500   2,500.00
+101 to 500         400          1,990   7,960.00
+501 to 2,000     1,500          1,745  26,175.00
+2,001 to 2,345     345          1,499   5,171.55
+total            2,345                 41,806.55
 ";
 
 #[test]
@@ -70,11 +70,11 @@ fn counts_at_the_edges() {
         assert_eq!(written(&["price", &count.to_string(), SHEET]), told);
     }
     let most = written(&["price", "4000", SHEET]);
-    let end = "2001 to 4000   2,000          1,499  29,980.00\n\
-               total          4,000                 66,615.00\n";
+    let end = "2,001 to 4,000   2,000          1,499  29,980.00\n\
+               total            4,000                 66,615.00\n";
     assert!(most.ends_with(end), "{most}");
     let dearest = bill("dearest", 4000, "up to 4294967295: 1000000\n");
-    let end = "1 to 4000    4,000      1,000,000  40,000,000.00\n\
+    let end = "1 to 4,000   4,000      1,000,000  40,000,000.00\n\
                total        4,000                 40,000,000.00\n";
     assert!(dearest.ends_with(end), "{dearest}");
     assert_eq!(
@@ -124,7 +124,7 @@ fn forms_of_a_text() {
 fn mistakes_in_a_text() {
     let form = "expected `up to DELIVERY: CENTS`";
     let delivery = "expected a delivery from 0 to 4294967295";
-    let cents = "expected cents for a hundred from 0 to 4294967295";
+    let cents = "expected whole cents for a hundred, in digits, from 0 to 4294967295";
     for (index, (line, told)) in [
         ("100: 2500", format!("{form}, found `100: 2500`")),
         ("up to 100", format!("{form}, found `up to 100`")),
@@ -253,6 +253,30 @@ fn torn_sheets() {
     }
     let said = otq_on(&["price", "4001", "-"], &sheet[..9]);
     assert!(said.err.starts_with(OF_COUNT), "{said:?}");
+}
+
+/// A text that has bytes that no text has, and so is read as records.
+#[test]
+fn spoilt_texts() {
+    let text = "up to 100: 2500\nup to 200: 1999\n";
+    let of_16_bits = |order: fn(u16) -> [u8; 2]| -> Vec<u8> {
+        let mark = [0xfeff].into_iter();
+        mark.chain(text.encode_utf16()).flat_map(order).collect()
+    };
+    let spoilt = [
+        of_16_bits(u16::to_le_bytes),
+        of_16_bits(u16::to_be_bytes),
+        [text.as_bytes(), &[0]].concat(),
+        [text.as_bytes(), b"\x1b"].concat(),
+    ];
+    let cause = "  likely cause: the file seems to be a text, but has bytes that no text has, so that it was read \
+                 as records: save it as plain text (UTF-8)\n";
+    for text in spoilt {
+        let told = refused(&text);
+        assert!(told.contains(cause), "{told}");
+    }
+    let told = refused(&records(&[[1, 1], [1, 1]]));
+    assert!(!told.contains(cause), "{told}");
 }
 
 /// Records written in another way than they should be.

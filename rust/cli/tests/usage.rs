@@ -93,8 +93,8 @@ fn wrong_options() {
     );
     let price = "usage: otq price COUNT SHEET [--json]\n";
     for (words, mistake) in [
-        (&["price"][..], "a file is missing"),
-        (&["price", SHEET], "a file is missing"),
+        (&["price"][..], "COUNT and SHEET are both needed"),
+        (&["price", SHEET], "COUNT and SHEET are both needed"),
         (&["price", "1", SHEET, "2"], "`2` is too much"),
         (
             &["price", "1", SHEET, "--whole"],
@@ -128,13 +128,13 @@ fn wrong_numbers() {
         "otq: -L: expected at most 4294967295\n",
     );
     for count in ["ten", "", "1,000", "2.5", "-", SHEET] {
-        let message = format!("otq: COUNT: expected a number, found `{count}`\n");
+        let message = format!("otq: COUNT: expected 0 to 4000, found `{count}`\n");
         assert_fails(&["price", count, SHEET], 2, &message);
     }
     assert_fails(
         &["price", "4294967296", SHEET],
         2,
-        "otq: COUNT: expected at most 4294967295\n",
+        "otq: COUNT: expected 0 to 4000, found `4294967296`\n",
     );
 }
 

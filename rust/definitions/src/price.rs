@@ -122,7 +122,10 @@ fn numbers_of_bands() -> Vec<Row> {
         call.lengthen(bands);
         row(format!("{bands} bands"), &call)
     };
-    (0..=10).chain([16, 17]).map(of).collect()
+    (0..=10)
+        .chain([16, 17, 32, 33, 40, 64, 65, 257])
+        .map(of)
+        .collect()
 }
 
 /// Eight bands of three deliveries and one of them more.

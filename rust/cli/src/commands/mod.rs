@@ -131,7 +131,7 @@ const COMMANDS: [Command; 13] = [
                of a hundred, and what they cost, in cents with hundredths of a cent. Last the total. Nothing is\n\
                rounded.",
         choices: &[&JSON],
-        files: (2, 2),
+        files: (0, 2),
         libraries: &[PRICE],
         call: pricing::price,
     },

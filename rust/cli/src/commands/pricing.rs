@@ -12,8 +12,16 @@ use crate::words::thousands;
 use dictionary::price::Total;
 
 pub fn price(tool: &mut Tool, given: &Given) -> Result<Status, Failure> {
-    let count = small("COUNT", &given.files[0])?;
-    let sheet = Sheet::read(tool, Name::new(&given.files[1]))?;
+    let [count, sheet] = &given.files[..] else {
+        return Err(Failure::mistake(
+            "COUNT and SHEET are both needed; usage: otq price COUNT SHEET [--json]",
+        ));
+    };
+    let count = small("COUNT", count).map_err(|_| {
+        let found = count.display();
+        Failure::mistake(format!("COUNT: expected 0 to 4000, found `{found}`"))
+    })?;
+    let sheet = Sheet::read(tool, Name::new(sheet))?;
     let total = sheet.total(count);
     let refused = total
         .refusal
@@ -101,8 +109,12 @@ const COLUMNS: [Column<Row>; 4] = [
 fn bill(count: u32, priced: &[Priced], total: Total) -> Vec<Row> {
     let bands = priced.iter().map(|of| Row {
         deliveries: match of.number() {
-            1 => of.first.to_string(),
-            _ => format!("{} to {}", of.first, of.last),
+            1 => thousands(of.first.into()),
+            _ => format!(
+                "{} to {}",
+                thousands(of.first.into()),
+                thousands(of.last.into())
+            ),
         },
         number: of.number(),
         price: Some(of.price),

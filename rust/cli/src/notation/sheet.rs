@@ -77,7 +77,7 @@ fn read_band(said: &str) -> Result<Band, String> {
     };
     Ok(Band {
         last: number("a delivery", last, u32::MAX)?,
-        price: number("cents for a hundred", price, u32::MAX)?,
+        price: number("whole cents for a hundred, in digits,", price, u32::MAX)?,
     })
 }
 

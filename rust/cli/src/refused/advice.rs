@@ -47,12 +47,12 @@ fn sheet_advice(refusal: price::Refusal) -> &'static str {
         }
         price::Refusal::Bands => {
             "A sheet has 1 to 8 bands, each of which ends after the one before it; the first may end at 0. Put \
-             them into the order of their ends, join bands that have one price, or have the sheet mended by who \
+             them into the order of their ends, join bands that have one price, or have the sheet mended by whoever \
              made it."
         }
         price::Refusal::PriceTooHigh => {
             "A price is in cents for a hundred deliveries, at most 1,000,000. Mend it, or have the sheet mended \
-             by who made it."
+             by whoever made it."
         }
     }
 }
@@ -67,7 +67,7 @@ fn desk_advice(refusal: dictionary::Refusal) -> Option<&'static str> {
         dictionary::Refusal::ForeignEntry => Some(
             "Values of 2147483648 or more are dictionary entries, and `otq desk` lets the licensed \
              process alone put them. Give the process that the licence names, with --licensed, or have \
-             the list mended by who made it. Takes of entries are anyone's.",
+             the list mended by whoever made it. Takes of entries are anyone's.",
         ),
         _ => None,
     }

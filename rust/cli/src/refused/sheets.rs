@@ -5,6 +5,10 @@ use crate::sheet::Sheet;
 use crate::words::torn;
 use dictionary::price::{self, Band, Refusal, MOST_BANDS, MOST_PRICE};
 
+const SPOILT_TEXT: &str =
+    "the file seems to be a text, but has bytes that no text has, so that it was read \
+     as records: save it as plain text (UTF-8)";
+
 impl Refused {
     /// A refusal of so many deliveries by a sheet.
     pub fn of_sheet(sheet: &Sheet, deliveries: u32, refusal: Refusal) -> Refused {
@@ -16,6 +20,7 @@ impl Refused {
         };
         let cause = match refusal {
             Refusal::Count => None,
+            _ if sheet.is_spoilt_text() => Some(SPOILT_TEXT.to_string()),
             Refusal::SheetTorn => Some(torn(sheet.length(), Band::BYTES, "band")),
             Refusal::Bands | Refusal::PriceTooHigh => other_reading(sheet),
         };

@@ -50,7 +50,7 @@ pub const MOST_PRICE: u32 = 1_000_000;
 /// ```
 #[derive(Clone, Copy, PartialEq, Eq, Debug)]
 pub struct Band {
-    /// The number of its last delivery, from 1; of the sheet's last band it changes no price.
+    /// The number of its last delivery, which count from 1; of the sheet's last band it changes no price.
     pub last: u32,
     /// Cents for a hundred deliveries.
     pub price: u32,

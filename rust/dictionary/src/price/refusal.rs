@@ -4,8 +4,7 @@ use crate::refusal::with_number;
 use std::error::Error;
 use std::fmt;
 
-/// Why a count or a sheet is turned down; the discriminants are the paper's numbers. Shown, it is a
-/// line of text.
+/// Why a count or a sheet is turned down; the discriminants are its numbers. Shown, it is a line of text.
 ///
 /// It is the first test that fails, in the order of the numbers. So a sheet is tested for 15 as a whole
 /// before any price is, and also for a count of 0:
@@ -45,7 +44,7 @@ impl Refusal {
         Refusal::PriceTooHigh,
     ];
 
-    /// The paper's number.
+    /// Its number.
     ///
     /// ```
     /// assert_eq!(dictionary::price::Refusal::PriceTooHigh.number(), 16);
