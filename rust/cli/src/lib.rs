@@ -3,7 +3,7 @@
 //! All that a command tells of a list is computed by the proved libraries, through `rust/otq` and
 //! `rust/dictionary`, but for two things, which are compared with them before: the trace is the Rust
 //! version's, and a plain queue tells the put that a term of the desk came from. Each amount of a bill is
-//! the price sheet's; which deliveries a line of it is of is read off the ends of the bands.
+//! the price sheet's; which deliveries a line of it is of, and which band is refused, is read off the bands.
 
 mod arguments;
 mod columns;
