@@ -107,6 +107,26 @@ enum OtqBlockWord {
 #define OTQ_MOST_ANSWER_BYTES(p, l) (OTQ_ANSWER_BYTES * OTQ_SIZE(p) * OTQ_SIZE(l))
 #define OTQ_MOST_OUTPUT_BYTES(p, l) (OTQ_ORDER_BYTES * OTQ_SIZE(p) * OTQ_SIZE(l))
 
+/* Where each node's part of the table starts with l = OTQ_NODE_STARTS_L, as constants for a viewer. Row
+   OTQ_NODE_STARTS_ROW(p) is for p processes (2, 4 or 8), and its entry v - 1 is the first word of node v.
+   A node that the tree lacks, from 2p on, has 0, which is no start: at word 0 the root starts, node 1. So
+   the size in the block at a place of a node is word
+
+       OTQ_NODE_STARTS[OTQ_NODE_STARTS_ROW(p)][node - 1] + OTQ_BLOCK_WORDS * place + OTQ_BLOCK_SIZE
+
+   of the table. The numbers are those of crates/node_starts, where it is proved that each start is that
+   of the layout above, and that the parts of a row don't overlap and end within the words needed. */
+#define OTQ_NODE_STARTS_L 24
+#define OTQ_NODE_STARTS_ROW(p) (OTQ_LEVELS(p) - 2)
+#ifdef __GNUC__
+__attribute__((unused)) /* Not every program reads the table. */
+#endif
+static const uint32_t OTQ_NODE_STARTS[3][15] = {
+    {0, 343, 518, 0, 0, 0, 0, 0, 0, 0, 0, 0, 0, 0, 0},
+    {0, 679, 1022, 1365, 1540, 1715, 1890, 0, 0, 0, 0, 0, 0, 0, 0},
+    {0, 1351, 2030, 2709, 3052, 3395, 3738, 4081, 4256, 4431, 4606, 4781, 4956, 5131, 5306}
+};
+
 typedef struct OtqRun {
     uint32_t refusal; /* enum OtqRefusal */
     uint64_t taken;   /* records taken */

@@ -11,17 +11,13 @@ use Rattle.record.specs.declared.Reply.the-variants.{Done, Value, Nothing}
 use Rattle.record.specs.declared.AnswerRecord.{AnswerRecord}
 use Rattle.record.specs.Bytes.{numberOf}
 use Rattle.record.proofs.ByteNumbers.{Bytes, drop-bytes, bytes-below}
-use Rattle.print.specs.Characters.{ascii}
-use Rattle.print.specs.Decimal.{decimal}
+use Rattle.text.specs.Characters.{ascii}
+use Rattle.text.specs.Decimal.{numberField}
+use Rattle.text.proofs.Digits.{number-most}
 use Rattle.record.specs.ReadAnswers.{replyFor, answerRecord}
-use Rattle.print.specs.Lines.{operationName, numberField, numberFields, replyField, answerLine, lastLine}
-use Rattle.print.proofs.Digits.{decimal-most}
+use Rattle.print.specs.Lines.{operationName, numberFields, replyField, answerLine, lastLine}
 
 -- ---- part by part
-pub number-length : (x : ℕ) → length (numberField x) ≡ 1 + length (decimal x)
-unfolding numberField ascii
-number-length x = omega arith
-
 pub numbers-length : (a : AnswerRecord) → length (numberFields a)
     ≡ length (numberField (a .process)) + length (numberField (a .serial)) + length (numberField (a .steps)) + length (numberField (a .helps)) + length (numberField (a .block))
 unfolding numberFields
@@ -37,9 +33,6 @@ unfolding lastLine ascii
 last-length refusal taken = simp length-append (omega arith)
 
 -- ---- at most
-number-most : (k x : ℕ) → x < 10 ^ suc k → length (numberField x) ≤ suc (suc k)
-number-most k x h = omega (arith, number-length x, decimal-most k x h)
-
 operation-most : (x : Reply) → length (operationName x) ≤ 4
 unfolding operationName ascii
 operation-most Done = omega arith

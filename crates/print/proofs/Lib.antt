@@ -1,4 +1,3 @@
-pub mod Digits
 pub mod Lengths
 pub mod AnswerLines
 pub mod Inputs

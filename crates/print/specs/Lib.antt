@@ -1,4 +1,2 @@
-pub mod Characters
-pub mod Decimal
 pub mod Lines
 pub mod Printed

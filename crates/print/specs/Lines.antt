@@ -4,18 +4,14 @@ use mathlib.Core.List.{List, [], _++_}
 use Rattle.record.specs.declared.Reply.{Reply}
 use Rattle.record.specs.declared.Reply.the-variants.{Done, Value, Nothing}
 use Rattle.record.specs.declared.AnswerRecord.{AnswerRecord}
-use Rattle.print.specs.Characters.{ascii}
-use Rattle.print.specs.Decimal.{decimal}
+use Rattle.text.specs.Characters.{ascii}
+use Rattle.text.specs.Decimal.{numberField}
 
 -- put or take, by the reply
 unfoldable pub operationName : Reply → List ℕ
 operationName Done = ascii "put"
 operationName (Value x) = ascii "take"
 operationName Nothing = ascii "take"
-
--- a number after the first word of a line
-unfoldable pub numberField : ℕ → List ℕ
-numberField x = ascii " " ++ decimal x
 
 -- for a take the value or none
 unfoldable pub replyField : Reply → List ℕ

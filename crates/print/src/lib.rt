@@ -2,4 +2,3 @@
 // returns the index after what it wrote.
 pub mod line;
 pub mod page;
-pub mod text;

@@ -1,12 +1,12 @@
 // The lines of the text.
-use crate::text::put_decimal;
-use crate::text::put_text;
 use record::AnswerRecord;
 use record::Reply;
+use text::put_number;
+use text::put_text;
 ghost use Prim.Native.Nat.{_+_, _≤_};
 ghost use lib.ListN.{length};
 ghost use Rattle.base.specs.Contracts.Stored.{Stored};
-ghost use Rattle.print.specs.Lines.{operationName, numberField, numberFields, replyField, answerLine, lastLine};
+ghost use Rattle.print.specs.Lines.{operationName, numberFields, replyField, answerLine, lastLine};
 
 // Put or take.
 fn put_operation(reply: Reply, out: &mut [u8], at: usize) -> usize
@@ -18,15 +18,6 @@ fn put_operation(reply: Reply, out: &mut [u8], at: usize) -> usize
         Reply::Value(_) => put_text(b"take", out, at),
         Reply::Nothing => put_text(b"take", out, at),
     }
-}
-
-// A space and a number.
-fn put_number(x: usize, out: &mut [u8], at: usize) -> usize
-    requires { ⌜ at + length (numberField x) ≤ length (now out) ⌝ }
-    ensures { λ r. ⌜ Stored (now (out .entry)) at (numberField x) (now (out .exit)) r ⌝ }
-{
-    let digits = put_text(b" ", out, at);
-    put_decimal(x, out, digits)
 }
 
 // What a take answers; a put has no such field.

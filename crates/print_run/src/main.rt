@@ -1,8 +1,8 @@
 // Prints a run: step records from standard input, the answers and how the run ended to standard output.
 use print::page::put_printed;
-use print::text::put_text;
 use queue::run::run;
 use refusals::numbers::number;
+use text::put_text;
 ghost use mathlib.Core.Path.{_≡_};
 ghost use mathlib.Core.List.{List, _++_};
 ghost use Prim.Native.Nat.{ℕ, _<_};

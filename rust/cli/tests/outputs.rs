@@ -27,6 +27,8 @@ fn commands() -> Vec<(Vec<&'static str>, i32)> {
         (vec!["show", "--as", "log", LOG], 0),
         (vec!["table", TEXT], 0),
         (vec!["table", "examples/known/M7.txt", "--json"], 3),
+        (vec!["nodes"], 0),
+        (vec!["nodes", "--json"], 0),
         (vec!["trace", TEXT], 0),
         (make.to_vec(), 0),
         (vec!["encode", TEXT], 0),

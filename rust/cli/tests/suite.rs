@@ -10,6 +10,7 @@ mod hostile_files;
 mod huge_files;
 mod known_runs;
 mod listing;
+mod locating;
 mod making;
 mod outputs;
 mod playing;

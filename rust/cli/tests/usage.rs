@@ -6,9 +6,9 @@ use crate::support::{
 use std::ffi::OsStr;
 use std::os::unix::ffi::OsStrExt;
 
-const COMMANDS: [&str; 13] = [
-    "run", "order", "check", "desk", "price", "forecast", "show", "table", "trace", "make",
-    "encode", "decode", "explain",
+const COMMANDS: [&str; 14] = [
+    "run", "order", "check", "desk", "price", "forecast", "show", "table", "nodes", "trace",
+    "make", "encode", "decode", "explain",
 ];
 
 #[test]

@@ -164,6 +164,13 @@ fn numbers_and_sizes() {
         ("offsetof(OtqForecast, words)", 8),
         ("offsetof(OtqForecast, answer_bytes)", 16),
         ("offsetof(OtqForecast, records)", 24),
+        ("OTQ_NODE_STARTS_L", 24),
+        ("sizeof(OTQ_NODE_STARTS)", 3 * 15 * 4),
+        ("sizeof(OTQ_NODE_STARTS[0])", 15 * 4),
+        ("sizeof(OTQ_NODE_STARTS[0][0])", 4),
+        ("OTQ_NODE_STARTS_ROW(2)", 0),
+        ("OTQ_NODE_STARTS_ROW(4)", 1),
+        ("OTQ_NODE_STARTS_ROW(8)", 2),
     ];
     let mut expected = Vec::from(refusals);
     let others = others.iter().chain(&BLOCK);

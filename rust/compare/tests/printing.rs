@@ -1,6 +1,6 @@
 //! The printing program against the reference's print.
 
-use crate::support::{mixed_list, repository};
+use crate::support::{built, mixed_list, printed, repository};
 use reference::help_lists::{help_lists, most_helped};
 use reference::hostile::harm_list;
 use reference::lists::List;
@@ -8,35 +8,13 @@ use reference::print::{print_run, L, P, RECORD_BYTES};
 use reference::random::Random;
 use reference::schedules::{schedule, Pace, Plan};
 use std::fs;
-use std::io::Write;
-use std::path::PathBuf;
-use std::process::{Command, Output, Stdio};
+use std::process::{Command, Output};
 
-/// The program, which must be there.
-fn path() -> PathBuf {
-    let path = repository().join("target/bin/print_run");
-    assert!(
-        path.is_file(),
-        "there is no {}: run `rt check print_run` in the repository first",
-        path.display()
-    );
-    path
-}
+const PROGRAM: &str = "print_run";
 
 /// What the program prints for this input.
 fn program(input: &[u8]) -> String {
-    let mut child = Command::new(path())
-        .stdin(Stdio::piped())
-        .stdout(Stdio::piped())
-        .spawn()
-        .expect("the program starts");
-    let mut stdin = child.stdin.take().expect("standard input is a pipe");
-    // The program may end before it has read a long input.
-    let _ = stdin.write_all(input);
-    drop(stdin);
-    let output = child.wait_with_output().expect("the program ends");
-    assert!(output.status.success());
-    String::from_utf8(output.stdout).expect("the print is text")
+    printed(PROGRAM, input)
 }
 
 fn assert_print(input: &[u8]) {
@@ -75,7 +53,7 @@ fn helps_after_steps() {
 /// `examples/play` with these words, from the repository's root.
 fn example(words: &[&str]) -> Output {
     // Without the program the example would begin to prove it.
-    path();
+    built(PROGRAM);
     Command::new("examples/play")
         .args(words)
         .current_dir(repository())

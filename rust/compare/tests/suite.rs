@@ -1,5 +1,5 @@
-//! The compiled libraries, the queue's header and the printing program against the reference, one file for
-//! each topic.
+//! The compiled libraries, the queue's header, the printing program and the generator of node starts
+//! against the reference, one file for each topic.
 
 mod block_numbers;
 mod c3_words;
@@ -12,6 +12,7 @@ mod helps;
 mod known_runs;
 mod lengths;
 mod logs;
+mod node_starts;
 mod numbers;
 mod pages;
 mod price;

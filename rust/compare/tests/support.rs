@@ -7,10 +7,39 @@ use reference::forecast::begins_of;
 use reference::hostile::ill_formed;
 use reference::random::Random;
 use reference::schedules::{schedule, Pace, Plan};
+use std::io::Write;
 use std::path::{Path, PathBuf};
+use std::process::{Command, Stdio};
 
 pub fn repository() -> PathBuf {
     Path::new(env!("CARGO_MANIFEST_DIR")).join("../..")
+}
+
+/// A proved program, which must be there.
+pub fn built(program: &str) -> PathBuf {
+    let path = repository().join("target/bin").join(program);
+    assert!(
+        path.is_file(),
+        "there is no {}: run `rt check {program}` in the repository first",
+        path.display()
+    );
+    path
+}
+
+/// What a proved program prints for this input.
+pub fn printed(program: &str, input: &[u8]) -> String {
+    let mut child = Command::new(built(program))
+        .stdin(Stdio::piped())
+        .stdout(Stdio::piped())
+        .spawn()
+        .expect("the program starts");
+    let mut stdin = child.stdin.take().expect("standard input is a pipe");
+    // The program may end before it has read a long input.
+    let _ = stdin.write_all(input);
+    drop(stdin);
+    let output = child.wait_with_output().expect("the program ends");
+    assert!(output.status.success());
+    String::from_utf8(output.stdout).expect("the print is text")
 }
 
 /// A list in which all operations of all processes finish, in short bursts.

@@ -4,8 +4,9 @@
 //! between the reads of another, `helps` for those in which a refresh advances a child's block;
 //! `forecast` for the fixed forecasts; `demand3` for its terms; `desk [HOW-MANY SEED]` for calls of the
 //! delivery desk, the fixed ones and so many random ones; `price [HOW-MANY SEED]` for prices of deliveries
-//! alike; `long` for more of these that take the prover long; and `tally FILE ..`, which says how often the
-//! rows of these files meet each number and case and fails if one is never met.
+//! alike; `nodes` for the table of where nodes start, and for its rows at other L; `long` for more calls,
+//! forecasts and terms that take the prover long; and `tally FILE ..`, which says how often the rows of
+//! these files meet each number and case and fails if one is never met.
 
 mod call;
 mod decimal;
@@ -20,6 +21,7 @@ mod fixed_records;
 mod forecasts;
 mod late_begins;
 mod met;
+mod nodes;
 mod price;
 mod random_calls;
 mod row;
@@ -47,11 +49,12 @@ fn main() {
         ["desk", rows, seed] => print_desk(desk::rows(number(rows), number(seed))),
         ["price"] => print_price(price::rows(40, 7)),
         ["price", rows, seed] => print_price(price::rows(number(rows), number(seed))),
+        ["nodes"] => print_nodes(nodes::rows()),
         ["long"] => print(long()),
         [rows, seed] => print(random_calls::rows(number(rows), number(seed))),
         _ => panic!(
             "arguments: HOW-MANY SEED, calls, between, helps, demand3, forecast, \
-             desk [HOW-MANY SEED], price [HOW-MANY SEED], long, or tally FILE .."
+             desk [HOW-MANY SEED], price [HOW-MANY SEED], nodes, long, or tally FILE .."
         ),
     }
 }
@@ -86,6 +89,11 @@ fn print_desk(rows: Vec<Row>) {
 /// The file of the price's rows, which know nothing of the queue.
 fn print_price(rows: Vec<Row>) {
     print_below(include_str!("price_head.txt"), rows);
+}
+
+/// The file of the rows of node starts, which know the tree alone.
+fn print_nodes(rows: Vec<Row>) {
+    print_below(include_str!("nodes_head.txt"), rows);
 }
 
 fn print_below(head: &str, rows: Vec<Row>) {

@@ -1,13 +1,14 @@
 //! What the rows meet: the numbers and verdicts of the calls, their helps, the cases of demand 3's
-//! terms, and those of the desk and of prices.
+//! terms, and those of the desk, of prices and of the starts of nodes.
 
 use reference::helps::ChildV3;
 use std::fmt;
 
 /// Everything that the rows must meet, by what can meet it. The numbers and verdicts of the calls
 /// are those of document 01, "What each call turns down", and of requests a and b; helps are those
-/// of request e, the desk is that of request g, and prices are those of request h.
-const REQUIRED: [(&str, &[&str]); 16] = [
+/// of request e, the desk is that of request g, prices are those of request h, and the starts of nodes
+/// are those of request j.
+const REQUIRED: [(&str, &[&str]); 19] = [
     ("run", &["0", "1", "2", "3", "4", "5", "6", "7", "8", "9"]),
     ("list", &["0", "1", "2", "3", "4", "5", "6", "7", "8", "10"]),
     (
@@ -87,6 +88,13 @@ const REQUIRED: [(&str, &[&str]); 16] = [
             "the largest price",
         ],
     ),
+    (
+        "starts",
+        &["the table", "L=1", "L=24", "L=500", "another L"],
+    ),
+    ("node", &["p=2", "p=4", "p=8"]),
+    // The tree of p = 8 has all nodes of a row.
+    ("lacking node", &["p=2", "p=4"]),
 ];
 
 /// How a line of the rows' file begins that lists what a row meets.

@@ -112,11 +112,16 @@ impl<'a> Table<'a> {
         leaves.contains(&node).then(|| (node - self.p) as u8)
     }
 
+    /// The height of a node, that of a leaf being 0; `None` if there is no such node.
+    pub fn height(self, node: u32) -> Option<u32> {
+        let exists = self.nodes().contains(&node);
+        exists.then(|| self.p.ilog2() - node.ilog2())
+    }
+
     /// The last place of a node, whose places are from 0; `None` if there is no such node.
     pub fn last_place(self, node: u32) -> Option<u32> {
         // A node has place 0, and l places for each leaf below it, a leaf itself counted.
-        let leaves = |node: u32| self.p >> node.ilog2();
-        self.nodes().contains(&node).then(|| self.l * leaves(node))
+        self.height(node).map(|height| self.l << height)
     }
 
     /// The block at a place of a node, present or not; `None` if the tree has no such place.
@@ -177,9 +182,13 @@ mod tests {
     }
 
     #[test]
-    fn places_and_leaves() {
+    fn heights_places_and_leaves() {
         let words = vec![0; table_words(4, 3).unwrap()];
         let table = Table::new(4, 3, &words).unwrap();
+        let heights = (0..10).map(|node| table.height(node));
+        let expected = [2, 1, 1, 0, 0, 0, 0].map(Some);
+        let all = [&[None][..], &expected, &[None, None]].concat();
+        assert_eq!(heights.collect::<Vec<_>>(), all);
         let last = (0..10).map(|node| table.last_place(node));
         let expected = [12, 6, 6, 3, 3, 3, 3].map(Some);
         let all = [&[None][..], &expected, &[None, None]].concat();

@@ -4,8 +4,8 @@
 //! Every function takes p, the number of processes (2, 4 or 8), and l, the most operations of one
 //! process (1 to 500). What is turned down is told by a [`Refusal`]. [`play`], [`list`] and [`check`]
 //! have buffers of their own; [`run`], [`list_order`] and [`check_log`] are lent theirs. [`Table`]
-//! reads the blocks in the work table that a call left. [`forecast`] tells from begin records alone
-//! what a run will need.
+//! reads the blocks in the work table that a call left, and [`NODE_STARTS`] has constants for a viewer
+//! that reads them itself. [`forecast`] tells from begin records alone what a run will need.
 //!
 //! A put of 7 by process 0, then a take by process 1, 17 steps each:
 //!
@@ -32,12 +32,14 @@
 #[cfg_attr(not(archive = "queue"), path = "absent.rs")]
 mod archive;
 mod blocks;
+mod node_starts;
 mod records;
 mod refusal;
 mod returned;
 mod sizes;
 
 pub use blocks::{Block, Table, ROOT};
+pub use node_starts::{NODE_STARTS, NODE_STARTS_L};
 pub use records::{bytes_of, records_of, Act, Answer, Kind, NoRecord, Order, Outcome, Step};
 pub use refusal::Refusal;
 pub use sizes::{most_answer_bytes, most_order_bytes, table_words};

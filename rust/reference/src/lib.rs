@@ -23,6 +23,7 @@ pub mod list;
 pub mod lists;
 pub mod machine;
 pub mod memory;
+pub mod node_starts;
 pub mod order;
 pub mod plain_queue;
 pub mod price;

@@ -23,6 +23,7 @@ mod interleavings;
 mod known_runs;
 mod lengths;
 mod list_order;
+mod node_starts;
 mod order_recomputed;
 mod plain_queue;
 mod price;

@@ -16,7 +16,7 @@ use Rattle.calls.proofs.Played.{played-room}
 use Rattle.base.proofs.Stored.{stored-length}
 use Rattle.queue.specs.declared.Ran.{Ran}
 use Rattle.queue.specs.Left.{runLeft}
-use Rattle.print.specs.Characters.{ascii}
+use Rattle.text.specs.Characters.{ascii}
 use Rattle.print.specs.Lines.{longLine}
 use Rattle.print.specs.Printed.{runText}
 use Rattle.print.proofs.Inputs.{printed-long, printed-run}

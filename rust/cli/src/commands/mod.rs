@@ -6,6 +6,7 @@ mod delivering;
 mod explaining;
 mod forecasting;
 mod listing;
+mod locating;
 mod making;
 mod playing;
 mod pricing;
@@ -75,7 +76,7 @@ const JSON: Choice = Choice {
     about: "writes the result as JSON",
 };
 
-const COMMANDS: [Command; 13] = [
+const COMMANDS: [Command; 14] = [
     Command {
         name: "run",
         usage: "[-p P -L L] STEPS [--log OUT] [--whole] [--json]",
@@ -171,6 +172,19 @@ const COMMANDS: [Command; 13] = [
         files: (1, 1),
         libraries: &[QUEUE],
         call: tabling::table,
+    },
+    Command {
+        name: "nodes",
+        usage: "[-p P] [--json]",
+        about: "tells where each node's blocks stand in the work table, with L = 24",
+        more: "For p = 2, 4 and 8, or P alone, the words that the table needs, and a line a node: its number,\n\
+               name, height and places, seven words each, and the first and the last word of its part.\n\
+               The first words are the constants OTQ_NODE_STARTS of otq.h. In --json `starts` is a row of them,\n\
+               with 0 for a node that the tree lacks.",
+        choices: &[&P, &JSON],
+        files: (0, 0),
+        libraries: &[],
+        call: locating::nodes,
     },
     Command {
         name: "trace",

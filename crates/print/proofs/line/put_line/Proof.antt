@@ -2,7 +2,7 @@
 use native.Mathlib.Omega.{arith}
 use borrow.Author.Needs.{needs}
 use Rattle.base.proofs.Stored.{stored-then}
-use Rattle.print.specs.Characters.{ascii}
+use Rattle.text.specs.Characters.{ascii}
 use Rattle.print.specs.Lines.{answerLine}
 use Rattle.print.proofs.Lengths.{line-length}
 use Rattle.print.proofs.line.put_line.Statement.{statement}

@@ -4,7 +4,7 @@ use mathlib.Core.Path.{ap}
 use lib.ListN.{length}
 use borrow.Author.Needs.{needs}
 use Rattle.record.specs.declared.Reply.{Reply}
-use Rattle.print.specs.Characters.{ascii}
+use Rattle.text.specs.Characters.{ascii}
 use Rattle.print.specs.Lines.{operationName}
 use Rattle.print.proofs.line.put_operation.Statement.{statement}
 use Rattle.print.proofs.line.put_operation.Tie as tie

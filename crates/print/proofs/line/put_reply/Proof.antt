@@ -5,7 +5,7 @@ use lib.ListN.{length}
 use borrow.Author.Needs.{needs}
 use Rattle.record.specs.declared.Reply.{Reply}
 use Rattle.base.proofs.Stored.{stored-none}
-use Rattle.print.specs.Characters.{ascii}
+use Rattle.text.specs.Characters.{ascii}
 use Rattle.print.specs.Lines.{replyField}
 use Rattle.print.proofs.line.put_reply.Statement.{statement}
 use Rattle.print.proofs.line.put_reply.Tie as tie

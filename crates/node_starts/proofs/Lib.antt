@@ -1,0 +1,2 @@
+pub mod RuleHolds
+pub mod OnlyTable

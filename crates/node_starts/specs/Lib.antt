@@ -1,0 +1,4 @@
+pub mod NodeStarts
+pub mod Rule
+pub mod All
+pub mod NotStarts
