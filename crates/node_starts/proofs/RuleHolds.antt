@@ -3,7 +3,7 @@ use Prim.Native.Nat.{ℕ, zero, suc, _+_, _*_, _-_, _^_, _≤_, _<_}
 use native.Mathlib.Nat.{not-suc-le-zero, zero-add}
 use native.Mathlib.Omega.{arith}
 use native.Mathlib.Decide.{decLt}
-use mathlib.Core.Path.{_≡_, refl, ap, sym, _∙_}
+use mathlib.Core.Path.{_≡_, refl, ap, _∙_}
 use mathlib.Core.List.{List, [], _∷_, map}
 use lib.Dec.{eqb}
 use lib.Pow.{pow-pos}
@@ -12,7 +12,7 @@ use borrow.Author.Tests.{lt-ltb, le-ltb}
 use Rattle.base.specs.Between.{following, between}
 use Rattle.base.proofs.Cases.{both}
 use Rattle.tree.specs.Shape.{Shape, processes, heightFor, shapeFor}
-use Rattle.tree.specs.Layout.{partStart, partWords}
+use Rattle.tree.specs.Layout.{partStart}
 use Rattle.tree.proofs.Parts.{start-after}
 use Rattle.tree.proofs.Sizes.{part-within}
 use Rattle.node_starts.specs.NodeStarts.{tableMost, tableProcesses, lastNode, nodeStart, startRow, nodeStarts}

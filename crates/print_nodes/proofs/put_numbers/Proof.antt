@@ -1,7 +1,7 @@
 -- `put_numbers` meets its contract. The invariant of the loop: the numbers passed are stored. Assumes nothing.
 use Prim.Native.Nat.{_-_, _≤_}
 use native.Mathlib.Omega.{arith}
-use mathlib.Core.Path.{_≡_, ap}
+use mathlib.Core.Path.{ap}
 use mathlib.Core.List.{flatMap}
 use lib.ListN.{length, getD, take}
 use lib.Seq.{take-all}
