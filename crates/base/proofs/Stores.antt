@@ -4,9 +4,9 @@ use native.Mathlib.Omega.{arith}
 use native.Mathlib.Decide.{decLt, ℕ-discrete}
 use native.Mathlib.Nat.{not-suc-le-zero, le-refl, suc-add, add-suc, add-zero}
 use mathlib.Core.Path.{_≡_, refl, ap, _∙_}
-use mathlib.Core.List.{List, [], _∷_, _++_}
-use lib.ListN.{length, getD, set, length-set}
-use lib.Seq.{sets, getD-set-same, getD-set-other, set-out}
+use mathlib.Core.List.{List, [], _∷_, _++_, append-nil}
+use lib.ListN.{length, getD, set, length-set, drop-of-length-le}
+use lib.Seq.{sets, sets-eq, getD-set-same, getD-set-other, set-out}
 
 pub sets-before : (vs l : List ℕ) (a k : ℕ) → k < a → getD (sets l a vs) k 0 ≡ getD l k 0
 sets-before [] l a k h = refl
@@ -20,6 +20,10 @@ pub sets-here : (vs l : List ℕ) (a k : ℕ) → a + length vs ≤ length l →
 sets-here [] l a k fits h = absurd (not-suc-le-zero h)
 sets-here (v ∷ vs) l a zero fits h = rw add-zero (sets-before vs (set l a v) (suc a) a (le-refl _) ∙ getD-set-same l a v 0 (omega arith))
 sets-here (v ∷ vs) l a (suc k) fits h = rw (add-suc, ← suc-add) (sets-here vs (set l a v) (suc a) k (rw length-set (omega arith)) (omega arith))
+
+-- values stored in all places of a list are the list
+pub sets-whole : (l vs : List ℕ) → length vs ≡ length l → sets l 0 vs ≡ vs
+sets-whole l vs e = sets-eq vs l 0 (omega arith) ∙ rw (drop-of-length-le l {i = 0 + length vs} (omega arith)) (append-nil vs)
 
 -- a run of stores that follows another makes one run with it
 pub runs : (l xs ys : List ℕ) (i j : ℕ) → i + length xs ≡ j → sets (sets l i xs) j ys ≡ sets l i (xs ++ ys)

@@ -7,13 +7,14 @@ use mathlib.Core.List.{List, []}
 use lib.ListN.{length, getD, length-map}
 use lib.Seq.{ext-getD}
 use borrow.Author.Tests.{lt-ltb, le-ltb}
+use Rattle.base.proofs.Entries.{entry-map}
 use Rattle.tree.specs.Shape.{Shape, processes, shapeFor}
-use Rattle.node_starts.specs.NodeStarts.{tableMost, tableProcesses, lastNode, nodeStart, startRow, nodeStarts}
+use Rattle.node_starts.specs.NodeStarts.{tableMost, tableProcesses, rowNodes, nodeStart, startRow, nodeStarts}
 use Rattle.node_starts.specs.Rule.{entryOf, RowRule, TableRule}
-use Rattle.node_starts.proofs.RuleHolds.{entry-map, row-length, row-entry, rowFor}
+use Rattle.node_starts.proofs.RuleHolds.{row-length, row-entry, rowFor}
 
 module _ (s : Shape) (row : List ℕ) (rule : RowRule s row) where
-  only-entry : (v : ℕ) → 1 ≤ v → v ≤ lastNode → entryOf row v ≡ nodeStart s v
+  only-entry : (v : ℕ) → 1 ≤ v → v ≤ rowNodes → entryOf row v ≡ nodeStart s v
   unfolding nodeStart
   only-entry v h k = on (decLt v (2 * processes s))
     where
@@ -24,17 +25,17 @@ module _ (s : Shape) (row : List ℕ) (rule : RowRule s row) where
   only-row : row ≡ startRow s
   unfolding entryOf
   only-row =
-      ext-getD 0 row (startRow s) (rule .entries ∙ sym (row-length s))
+      ext-getD 0 row (startRow s) (omega (arith, rule .entries, row-length s))
       (λ k h.
-      let l : k < lastNode = rw (← rule .entries) h in
+      let l : k < rowNodes = omega (arith, rule .entries) in
       let e : suc k - 1 ≡ k = omega arith in
       ap (λ (n : ℕ). getD row n 0) (sym e) ∙ only-entry (suc k) (omega arith) l ∙ sym (row-entry s k l))
 
 pub only-table : (table : List (List ℕ)) → TableRule table → table ≡ nodeStarts
 unfolding nodeStarts
 only-table table rule =
-    ext-getD [] table nodeStarts (rule .rows ∙ sym (length-map tableProcesses rowFor))
+    ext-getD [] table nodeStarts (omega (arith, rule .rows, length-map tableProcesses rowFor))
     (λ i h.
-    let k : i < length tableProcesses = rw (← rule .rows) h in
+    let k : i < length tableProcesses = omega (arith, rule .rows) in
     only-row (shapeFor (getD tableProcesses i 0) tableMost) (getD table i []) (rule .row i k)
     ∙ sym (entry-map rowFor tableProcesses i [] 0 k))

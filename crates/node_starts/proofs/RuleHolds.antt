@@ -1,27 +1,27 @@
 -- The table of node starts is by its rule.
-use Prim.Native.Nat.{ℕ, zero, suc, _+_, _*_, _-_, _^_, _≤_, _<_}
-use native.Mathlib.Nat.{not-suc-le-zero, zero-add}
+use Prim.Native.Nat.{ℕ, suc, _+_, _*_, _-_, _^_, _≤_, _<_}
 use native.Mathlib.Omega.{arith}
 use native.Mathlib.Decide.{decLt}
-use mathlib.Core.Path.{_≡_, refl, ap, _∙_}
-use mathlib.Core.List.{List, [], _∷_, map}
+use mathlib.Core.Path.{_≡_, ap, _∙_}
+use mathlib.Core.List.{List, []}
 use lib.Dec.{eqb}
-use lib.Pow.{pow-pos}
 use lib.ListN.{length, getD, length-map}
 use borrow.Author.Tests.{lt-ltb, le-ltb}
-use Rattle.base.specs.Between.{following, between}
+use Rattle.base.specs.Between.{between}
 use Rattle.base.proofs.Cases.{both}
-use Rattle.tree.specs.Shape.{Shape, processes, heightFor, shapeFor}
+use Rattle.base.proofs.Entries.{entry-map, between-length, between-entry}
+use Rattle.tree.specs.Shape.{Shape, processes, heightFor, shapeFor, Node}
 use Rattle.tree.specs.Layout.{partStart}
 use Rattle.tree.proofs.Parts.{start-after}
 use Rattle.tree.proofs.Sizes.{part-within}
-use Rattle.node_starts.specs.NodeStarts.{tableMost, tableProcesses, lastNode, nodeStart, startRow, nodeStarts}
-use Rattle.node_starts.specs.Rule.{entryOf, NodeOf, InPart, Apart, Within, RowRule, TableRule}
+use Rattle.tree.proofs.Nodes.{root-node}
+use Rattle.node_starts.specs.NodeStarts.{tableMost, tableProcesses, rowNodes, nodeStart, startRow, nodeStarts}
+use Rattle.node_starts.specs.Rule.{entryOf, InPart, Apart, Within, RowRule, TableRule}
 
 -- ---- parts whose starts are those of the layout
-module _ (s : Shape) (row : List ℕ) (starts : (v : ℕ) → NodeOf s v → entryOf row v ≡ partStart s v) where
+module _ (s : Shape) (row : List ℕ) (starts : (v : ℕ) → Node s v → entryOf row v ≡ partStart s v) where
   -- a word in two parts is in no later one
-  not-later : (u v i : ℕ) → NodeOf s u → NodeOf s v → InPart s row u i → InPart s row v i → u < v → ⊥
+  not-later : (u v i : ℕ) → Node s u → Node s v → InPart s row u i → InPart s row v i → u < v → ⊥
   not-later u v i m n p q h =
       omega (arith, starts u m, starts v n, start-after s u v h, p .below, q .from)
 
@@ -39,56 +39,36 @@ module _ (s : Shape) (row : List ℕ) (starts : (v : ℕ) → NodeOf s v → ent
   within v n = rw (starts v n) (part-within s v (n .last))
 
 -- ---- entries of a row
-pub entry-map : {A B : Type 0} (f : A → B) (xs : List A) (i : ℕ) (d : B) (e : A) → i < length xs → getD (map f xs) i d ≡ f (getD xs i e)
-entry-map f [] i d e h = absurd (not-suc-le-zero h)
-entry-map f (x ∷ xs) zero d e h = refl
-entry-map f (x ∷ xs) (suc i) d e h = entry-map f xs i d e (omega arith)
+pub row-length : (s : Shape) → length (startRow s) ≡ rowNodes
+unfolding startRow
+row-length s = length-map (between 0 rowNodes) (nodeStart s) ∙ between-length 0 rowNodes ∙ omega arith
 
-following-length : (n i : ℕ) → length (following i n) ≡ n
-unfolding following
-following-length zero i = refl
-following-length (suc n) i = rw (following-length n (suc i))
-
-following-entry : (n i k : ℕ) → k < n → getD (following i n) k 0 ≡ i + suc k
-unfolding following
-following-entry zero i k h = absurd (not-suc-le-zero h)
-following-entry (suc n) i zero h = omega arith
-following-entry (suc n) i (suc k) h = following-entry n (suc i) k (omega arith) ∙ omega arith
-
-pub row-length : (s : Shape) → length (startRow s) ≡ lastNode
-unfolding startRow between lastNode
-row-length s = length-map (following 0 15) (nodeStart s) ∙ following-length 15 0
-
-pub row-entry : (s : Shape) (k : ℕ) → k < lastNode → getD (startRow s) k 0 ≡ nodeStart s (suc k)
-unfolding startRow between lastNode
+pub row-entry : (s : Shape) (k : ℕ) → k < rowNodes → getD (startRow s) k 0 ≡ nodeStart s (suc k)
+unfolding startRow
 row-entry s k h =
-    entry-map (nodeStart s) (following 0 15) k 0 0 (rw (following-length 15 0) h)
-    ∙ ap (nodeStart s) (following-entry 15 0 k h ∙ zero-add (suc k))
+    entry-map (nodeStart s) (between 0 rowNodes) k 0 0 (rw (between-length 0 rowNodes) (omega arith))
+    ∙ ap (nodeStart s) (between-entry 0 rowNodes k (omega arith) ∙ omega arith)
 
 -- ---- a row of the table, for at most 8 processes
 module _ (s : Shape) (few : processes s ≤ 8) where
-  in-row : (v : ℕ) → NodeOf s v → v ≤ lastNode
-  unfolding lastNode
+  in-row : (v : ℕ) → Node s v → v ≤ rowNodes
+  unfolding rowNodes
   in-row v n = omega (arith, n .last)
 
-  entry-of : (v : ℕ) → 1 ≤ v → v ≤ lastNode → entryOf (startRow s) v ≡ nodeStart s v
+  entry-of : (v : ℕ) → 1 ≤ v → v ≤ rowNodes → entryOf (startRow s) v ≡ nodeStart s v
   unfolding entryOf
   entry-of v h k = row-entry s (v - 1) (omega arith) ∙ ap (nodeStart s) (omega arith)
 
-  starts-of : (v : ℕ) → NodeOf s v → entryOf (startRow s) v ≡ partStart s v
+  starts-of : (v : ℕ) → Node s v → entryOf (startRow s) v ≡ partStart s v
   unfolding nodeStart
   starts-of v n = entry-of v (n .first) (in-row v n) ∙ rw (lt-ltb v (2 * processes s) (n .last))
-
-  some : 1 ≤ processes s
-  unfolding processes
-  some = pow-pos (s .height)
 
   row-rule : RowRule s (startRow s)
   unfolding nodeStart
   row-rule = record {
     entries = row-length s;
     starts = starts-of;
-    lacking = λ v h k. entry-of v (omega (arith, some)) k ∙ rw (le-ltb v (2 * processes s) (omega arith));
+    lacking = λ v h k. entry-of v (omega (arith, root-node s .last)) k ∙ rw (le-ltb v (2 * processes s) (omega arith));
     apart = apart s (startRow s) starts-of;
     within = within s (startRow s) starts-of;
   }

@@ -16,8 +16,8 @@ unfoldable pub tableProcesses : List ℕ
 tableProcesses = 2 ∷ 4 ∷ 8 ∷ []
 
 -- a row has an entry for each of nodes 1 to 15
-unfoldable pub lastNode : ℕ
-lastNode = 15
+unfoldable pub rowNodes : ℕ
+rowNodes = 15
 
 -- the entry of node v: the first word of its part, or 0 if the tree lacks it, its nodes being 1 to 2p − 1
 unfoldable pub nodeStart : Shape → ℕ → ℕ
@@ -25,7 +25,7 @@ nodeStart s v = if ltb v (2 * processes s) then partStart s v else 0
 
 -- a row
 unfoldable pub startRow : Shape → List ℕ
-startRow s = map (nodeStart s) (between 0 lastNode)
+startRow s = map (nodeStart s) (between 0 rowNodes)
 
 -- the table
 unfoldable pub nodeStarts : List (List ℕ)

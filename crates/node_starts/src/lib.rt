@@ -1,5 +1,5 @@
-// Where each node's part of the work table starts, as constants for a viewer: L = 24, a row for p = 2, 4 and 8, an entry
-// for each of nodes 1 to 15, and 0 for a node that the tree lacks.
+// Where each node's part of the work table starts, as constants for a viewer: for L = 24 a row for p = 2, 4 and 8, with
+// an entry for each of nodes 1 to 15, 0 for a node that the tree lacks.
 ghost use mathlib.Core.Path.{_≡_};
 ghost use Rattle.node_starts.specs.NodeStarts.{nodeStarts};
 ghost use Rattle.node_starts.specs.Rule.{TableRule};

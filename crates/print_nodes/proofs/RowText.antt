@@ -37,7 +37,7 @@ unfolding rowLine spaced
 row-line [] h = absurd (not-suc-le-zero h)
 row-line (x ∷ xs) h = rw (take-all (length (x ∷ xs) - 1) xs (omega arith))
 
-pub row-length : (row : List ℕ) → 1 ≤ length row
+pub line-length : (row : List ℕ) → 1 ≤ length row
     → length (rowLine row) ≡ length (decimal (getD row 0 0)) + length (flatMap numberField (take (length row - 1) (drop 1 row))) + 1
 unfolding ascii
-row-length row h = ap length (row-line row h) ∙ simp length-append
+line-length row h = ap length (row-line row h) ∙ simp length-append

@@ -1,14 +1,12 @@
 -- The three lines of the table: how long they are, and that they make its text.
-use Prim.Native.Nat.{ℕ, _+_, _≤_, _<_}
+use Prim.Native.Nat.{ℕ, _≤_, _<_}
 use native.Mathlib.Omega.{arith}
-use mathlib.Core.Path.{_≡_, refl, _∙_}
+use mathlib.Core.Path.{_≡_, refl}
 use mathlib.Core.List.{List, [], _∷_, _++_, flatMap, append-nil, append-assoc}
-use lib.ListN.{length, getD, length-append, drop-of-length-le}
-use lib.Seq.{sets-eq}
-use Rattle.base.specs.Contracts.Stored.{Stored}
+use lib.ListN.{length, getD, length-append}
 use Rattle.text.specs.Characters.{ascii}
 use Rattle.text.specs.Decimal.{digit, lastDigits, decimal, numberField}
-use Rattle.node_starts.specs.NodeStarts.{tableProcesses, lastNode, nodeStarts}
+use Rattle.node_starts.specs.NodeStarts.{tableProcesses, rowNodes, nodeStarts}
 use Rattle.node_starts.specs.All.{nodeStartRules}
 use Rattle.node_starts.proofs.RuleHolds.{table-rule}
 use Rattle.print_nodes.specs.NodesText.{spaced, rowLine, tableText}
@@ -19,7 +17,7 @@ three-lines a b c = simp (append-nil, append-assoc)
 
 module _ {table : List (List ℕ)} (e : table ≡ nodeStarts) where
   pub row-some : (i : ℕ) → i < 3 → 1 ≤ length (getD table i [])
-  unfolding tableProcesses lastNode
+  unfolding tableProcesses rowNodes
   row-some i h = rw e (omega (arith, table-rule .row i h .entries))
 
   pub line-lengths : (length (rowLine (getD table 0 [])) ≡ 34) × (length (rowLine (getD table 1 [])) ≡ 47) × (length (rowLine (getD table 2 [])) ≡ 72)
@@ -32,8 +30,3 @@ module _ {table : List (List ℕ)} (e : table ≡ nodeStarts) where
 
   pub text-length : length (rowLine (getD table 0 []) ++ rowLine (getD table 1 []) ++ rowLine (getD table 2 [])) ≡ 153
   text-length = simp length-append (omega (arith, line-lengths .0, line-lengths .1, line-lengths .2))
-
--- what fills a list is all of it
-pub stored-whole : {before xs after : List ℕ} {next : ℕ} → length xs ≡ length before → Stored before 0 xs after next → after ≡ xs
-stored-whole {before} {xs} e stored =
-    stored .bytes ∙ sets-eq xs before 0 (omega arith) ∙ rw (drop-of-length-le before {i = 0 + length xs} (omega arith)) (append-nil xs)

@@ -1,5 +1,5 @@
 -- The tree: processes, nodes, heights and places.
-use Prim.Native.Nat.{ℕ, zero, suc, _+_, _*_, _^_, _/_}
+use Prim.Native.Nat.{ℕ, zero, suc, _+_, _*_, _^_, _/_, _≤_, _<_}
 use lib.Dec.{ltb, eqb}
 use Rattle.base.specs.Choice.{if_then_else_}
 
@@ -34,6 +34,11 @@ parentOf v = v / 2
 
 unfoldable pub leafOf : Shape → ℕ → ℕ
 leafOf s k = processes s + k
+
+-- the tree has node v: nodes 1 to 2p − 1
+pub record Node (s : Shape) (v : ℕ) : Type 0 where
+  pub first : 1 ≤ v
+  pub last : v < 2 * processes s
 
 -- the height of node v in a tree of height H, a leaf's being 0: the nodes above the leaves are those of a tree of
 -- height H − 1, one higher

@@ -26,14 +26,12 @@ pub struct Programs {
 }
 
 impl Programs {
-    /// The program of a source file, in the language of the standard.
-    pub fn program(&self, standard: &str, source: &Path) -> PathBuf {
-        let name = source.file_stem().expect("a file").to_string_lossy();
+    /// The program of these source files, in the language of the standard; it is named after the first.
+    pub fn program(&self, standard: &str, sources: &[PathBuf]) -> PathBuf {
+        let name = sources[0].file_stem().expect("a file").to_string_lossy();
         let program = self.folder.join(format!("{name}-{standard}"));
-        let language = if is_cpp(standard) { "c++" } else { "c" };
         let mut compile = compiler(standard);
-        compile.args(["-x", language]).arg(source);
-        compile.args(["-x", "none"]);
+        compile.args(sources).args(["-x", "none"]);
         for library in self.libraries {
             compile.arg(repository().join(format!("target/staticlib/lib{library}.a")));
         }
@@ -43,10 +41,31 @@ impl Programs {
 
     /// The program of this source writes this, in both languages.
     pub fn assert_writes(&self, name: &str, source: &str, expected: &str) {
+        self.assert_all_write(&[(name, source)], expected);
+    }
+
+    /// The same of a program of several sources.
+    pub fn assert_all_write(&self, sources: &[(&str, &str)], expected: &str) {
+        let files = sources
+            .iter()
+            .map(|(name, source)| self.source(name, source));
+        let files: Vec<PathBuf> = files.collect();
+        for standard in STANDARDS {
+            let program = self.program(standard, &files);
+            assert_eq!(written(&mut Command::new(program)), expected, "{standard}");
+        }
+    }
+
+    /// The compiler turns this source down and says this, in both languages.
+    pub fn assert_turned_down(&self, name: &str, source: &str, said: &str) {
         let file = self.source(name, source);
         for standard in STANDARDS {
-            let program = self.program(standard, &file);
-            assert_eq!(written(&mut Command::new(program)), expected, "{standard}");
+            let mut compile = compiler(standard);
+            compile.env("LC_ALL", "C").arg("-fsyntax-only").arg(&file);
+            let output = compile.output().expect("the compiler starts");
+            let told = String::from_utf8_lossy(&output.stderr);
+            assert!(!output.status.success(), "{standard}");
+            assert!(told.contains(said), "{standard}\n{told}");
         }
     }
 
@@ -77,21 +96,18 @@ pub fn written(command: &mut Command) -> String {
     String::from_utf8(output.stdout).expect("text")
 }
 
-/// gcc or g++ with the headers, and warnings as errors.
+/// gcc or g++ for sources of its language, with the headers, and warnings as errors.
 fn compiler(standard: &str) -> Command {
-    let (name, more) = match is_cpp(standard) {
-        true => ("g++", &WARNINGS_CPP[..]),
-        false => ("gcc", &[][..]),
+    let (name, language, more) = match standard.starts_with("c++") {
+        true => ("g++", "c++", &WARNINGS_CPP[..]),
+        false => ("gcc", "c", &[][..]),
     };
     let mut compiler = Command::new(name);
     compiler.arg(format!("-std={standard}"));
     compiler.args(WARNINGS).args(more);
     compiler.arg("-I").arg(repository().join("include"));
+    compiler.args(["-x", language]);
     compiler
-}
-
-fn is_cpp(standard: &str) -> bool {
-    standard.starts_with("c++")
 }
 
 /// The folder of the whole project.

@@ -64,7 +64,7 @@ fn commands_that_do_without_it() {
     assert_eq!(bytes(&["encode", TEXT]), content(STEPS));
     assert!(written(&with_numbers("decode", &[STEPS])).starts_with("processes 2\n"));
     assert!(written(&["show", "--as", "log", LOG]).starts_with("1 put 0 1 17 0 1\n"));
-    assert!(written(&["nodes"]).starts_with("p = 2, L = 24: 693 words\n"));
+    assert!(written(&["nodes"]).starts_with("p = 2 processes, at most L = 24 operations"));
     assert!(written(&["explain", "6"]).starts_with("6 "));
     assert!(written(&["explain", "15"]).starts_with("15 "));
     assert!(written(&["run", "--help"]).starts_with("otq run "));

@@ -44,7 +44,7 @@ fn programs() -> Programs {
 
 fn assert_worked(standard: &str) {
     let example = repository().join("examples/c");
-    let program = programs().program(standard, &example.join("worked.c"));
+    let program = programs().program(standard, &[example.join("worked.c")]);
     let expected = fs::read_to_string(example.join("worked.expected")).expect("a text");
     assert_eq!(written(&mut Command::new(program)), expected);
 }

@@ -1,12 +1,17 @@
-//! Where each node starts: what the generator prints, and the constants of `rust/otq` and of the header,
-//! against the reference and against that print.
+//! Where each node starts: what the generator prints, and the constants of `rust/otq`, of the header and of
+//! the documents, against the reference and against that print.
 
 use crate::support::{printed, repository};
 use c_programs::Programs;
-use otq::{NODE_STARTS, NODE_STARTS_L};
+use otq::{Block, NODE_STARTS, NODE_STARTS_L};
 use reference::node_starts::{print_starts, start_table, starts_hold, L};
 use std::fs;
 use std::path::PathBuf;
+
+/// A file of the repository.
+fn text(file: &str) -> String {
+    fs::read_to_string(repository().join(file)).expect(file)
+}
 
 /// The generator's print; it reads no input.
 fn generated() -> String {
@@ -21,9 +26,26 @@ fn the_generator() {
 /// With the program stands what it must print, which is what it does print.
 #[test]
 fn the_stored_print() {
-    let stored = repository().join("crates/print_nodes/stdout");
-    let stored = fs::read_to_string(stored).expect("a text");
-    assert_eq!(generated(), stored);
+    assert_eq!(generated(), text("crates/print_nodes/stdout"));
+}
+
+/// The rules show the table as it is printed, and nothing else in that block.
+#[test]
+fn the_rules() {
+    let printed = generated();
+    let lines = printed.lines().map(|line| format!("    {line}\n"));
+    let block = format!("\n\n{}\n", lines.collect::<String>());
+    assert!(text("docs/RULES.md").contains(&block), "{block}");
+}
+
+/// The README counts the words of a block: with p = 4 at place 3 of leaf 1, which is node 5.
+#[test]
+fn the_counted_words() {
+    let (start, place, size) = (NODE_STARTS[1][5 - 1], 3, Block::WORDS as u32);
+    let first = start + size * place;
+    let last = first + size - 1;
+    let counted = format!("words {first} ({start} + {size} × {place}) to {last}");
+    assert!(text("README.md").contains(&counted), "{counted}");
 }
 
 #[test]

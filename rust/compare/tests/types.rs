@@ -123,6 +123,7 @@ fn blocks() {
         );
         assert_eq!(table.nodes(), 1..=shape.last_node());
         for node in table.nodes() {
+            assert_eq!(table.height(node), Some(shape.height(node)));
             assert_eq!(table.last_place(node), Some(shape.last_place(node)));
             let mut of_node = Vec::new();
             for place in 0..=shape.last_place(node) {

@@ -20,15 +20,21 @@ pub fn rows() -> Vec<Row> {
     rows
 }
 
-/// The theorem that the table is the reference's.
+/// The theorems that the table, the p of each row and L are the reference's. The table alone would not tell
+/// p = 9 from 8: the definitions give both the same tree.
 fn table() -> Row {
-    let lines = start_table(L).map(|starts| format!("({})", terms::numbers(starts)));
+    let lines = start_table(L).map(list);
+    let table = format!("({})", terms::list(lines.into_iter()));
     let mut met = vec![Met::new("starts", "the table")];
     met.extend(PROCESSES.into_iter().flat_map(|p| nodes_met(shape(p, L))));
     Row {
         about: format!("nodes: the table, L = {L}"),
         met,
-        statements: vec![equal("nodeStarts", terms::list(lines.into_iter()))],
+        statements: vec![
+            equal("starts", "nodeStarts", &table),
+            equal("processes", "tableProcesses", &list(PROCESSES)),
+            equal("most", "tableMost", &L.to_string()),
+        ],
     }
 }
 
@@ -45,12 +51,16 @@ fn row(shape: Shape) -> Row {
     Row {
         about: format!("nodes: p = {p}, L = {l}"),
         met,
-        statements: vec![equal(&left, terms::numbers(start_row(shape)))],
+        statements: vec![equal("starts", &left, &list(start_row(shape)))],
     }
 }
 
-fn equal(left: &str, right: String) -> Statement {
-    Statement::equal("starts", left, &format!("({right})")).by(UNFOLDED)
+fn equal(name: &'static str, left: &str, right: &str) -> Statement {
+    Statement::equal(name, left, right).by(UNFOLDED)
+}
+
+fn list<const N: usize>(numbers: [u32; N]) -> String {
+    format!("({})", terms::numbers(numbers))
 }
 
 /// For each entry of a row, whether the tree has its node.

@@ -43,7 +43,7 @@ fn assert_example(libraries: &'static [&'static str], name: &str) {
     let expected = fs::read_to_string(expected).expect("a text");
     for standard in STANDARDS {
         let source = example.join(format!("{name}.c"));
-        let program = programs(libraries).program(standard, &source);
+        let program = programs(libraries).program(standard, &[source]);
         assert_eq!(written(&mut Command::new(program)), expected, "{standard}");
     }
 }
@@ -170,7 +170,7 @@ fn stack_of_the_price_sheet() {
     assert!(header.contains(&format!("uses less than {PRICE_STACK} bytes of stack")));
     let source = PathBuf::from(env!("CARGO_TARGET_TMPDIR")).join("on_own_stack.c");
     fs::write(&source, ON_OWN_STACK).expect("the file is written");
-    let program = programs(&["price"]).program("c99", &source);
+    let program = programs(&["price"]).program("c99", &[source]);
     let told = written(&mut Command::new(program));
     let touched = told.strip_prefix("0 ").expect("no refusal").trim_end();
     let touched: usize = touched.parse().expect("a number");

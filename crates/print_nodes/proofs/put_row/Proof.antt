@@ -3,7 +3,7 @@ use native.Mathlib.Omega.{arith}
 use borrow.Author.Needs.{needs}
 use Rattle.base.proofs.Stored.{stored-length, stored-then}
 use Rattle.text.specs.Characters.{ascii}
-use Rattle.print_nodes.proofs.RowText.{row-line, row-length}
+use Rattle.print_nodes.proofs.RowText.{row-line, line-length}
 use Rattle.print_nodes.proofs.put_row.Statement.{statement}
 use Rattle.print_nodes.proofs.put_row.Tie as tie
 
@@ -14,7 +14,7 @@ cast-put-decimal : tie.Need-cast-put-decimal
 cast-put-decimal c = omega (arith, c .shared-slice-known2 .given 0)
 
 put-decimal-requires : tie.Need-put-decimal-requires
-put-decimal-requires c κs = let start = c .before .before .before .before in omega (arith, row-length (start .args .row .now) (start .pre .0))
+put-decimal-requires c κs = let start = c .before .before .before .before in omega (arith, line-length (start .args .row .now) (start .pre .0))
 
 sub-put-numbers : tie.Need-sub-put-numbers
 sub-put-numbers c = search needs
@@ -29,7 +29,7 @@ put-numbers-requires : tie.Need-put-numbers-requires
 put-numbers-requires c κs =
     let start = c .before .before .before .before .before .before .before .before .before in
     let first = c .before .before .before .before .put-decimal .ensures in
-    omega (arith, row-length (start .args .row .now) (start .pre .0), stored-length first, first .end)
+    omega (arith, line-length (start .args .row .now) (start .pre .0), stored-length first, first .end)
 
 slice-aggregate-put-text : tie.Need-slice-aggregate-put-text
 slice-aggregate-put-text c = search needs
@@ -39,7 +39,7 @@ put-text-requires c κs =
     let start = c .before .before .before .before .before .before .before .before .before .before .before .before .before .before in
     let first = c .before .before .before .before .before .before .before .before .before .put-decimal .ensures in
     let others = c .before .before .before .before .put-numbers .ensures in
-    omega (arith, row-length (start .args .row .now) (start .pre .0), stored-length first, first .end, stored-length others, others .end)
+    omega (arith, line-length (start .args .row .now) (start .pre .0), stored-length first, first .end, stored-length others, others .end)
 
 same-length : tie.Need-same-length
 same-length c = search needs

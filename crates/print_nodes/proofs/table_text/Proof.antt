@@ -2,8 +2,9 @@
 use native.Mathlib.Omega.{arith}
 use mathlib.Core.Path.{_∙_, sym}
 use borrow.Author.Needs.{needs}
+use Rattle.base.proofs.Stores.{sets-whole}
 use Rattle.base.proofs.Stored.{stored-length, stored-then}
-use Rattle.print_nodes.proofs.TableText.{row-some, line-lengths, text-of-lines, text-length, stored-whole}
+use Rattle.print_nodes.proofs.TableText.{row-some, line-lengths, text-of-lines, text-length}
 use Rattle.print_nodes.proofs.table_text.Statement.{statement}
 use Rattle.print_nodes.proofs.table_text.Tie as tie
 
@@ -48,7 +49,7 @@ returns : tie.Need-returns
 returns c =
     let e = c .before .before .before .before .before .before .before .before .before .before .before .before .before .before .before .node-starts .ensures .0 in
     let all = stored-then (stored-then (c .before .before .before .before .before .before .before .before .before .before .before .put-row .ensures) (c .before .before .before .before .before .before .put-row2 .ensures)) (c .before .put-row3 .ensures) in
-    stored-whole (text-length e) all ∙ sym (text-of-lines e)
+    all .bytes ∙ sets-whole _ _ (text-length e) ∙ sym (text-of-lines e)
 
 pub table-text-spec : {M : Type 1} → statement M
 table-text-spec =

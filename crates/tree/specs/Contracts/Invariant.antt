@@ -9,17 +9,14 @@ use Rattle.base.specs.Choice.{if_then_else_}
 use Rattle.tree.specs.declared.Block.{Block}
 use Rattle.tree.specs.declared.Kind.{Kind}
 use Rattle.tree.specs.Shape.{Shape, processes, leafOf, lastPlace}
+pub use Rattle.tree.specs.Shape.{Node}
 use Rattle.tree.specs.Layout.{wordsNeeded}
 use Rattle.tree.specs.Memory.{Memory, headOf, block}
 use Rattle.tree.specs.Size.{rootSize}
 use Rattle.tree.specs.Order.{total}
 use Rattle.tree.specs.Sides.{Side, onLeft, onRight, childOf, endOf}
 
--- a node of the tree, and one that has children
-pub record Node (s : Shape) (v : ℕ) : Type 0 where
-  pub first : 1 ≤ v
-  pub last : v < 2 * processes s
-
+-- a node that has children
 pub record Inner (s : Shape) (v : ℕ) : Type 0 where
   pub first : 1 ≤ v
   pub last : v < processes s

@@ -1,18 +1,19 @@
 //! `otq nodes`.
 
-use crate::arguments::Given;
+use crate::arguments::{small, Given};
 use crate::columns::{self, number, words, Column};
 use crate::failure::{Failure, Status};
 use crate::json::Json;
 use crate::tool::Tool;
 use crate::words::{count, node_name};
 use otq::{table_words, Block, Table, NODE_STARTS, NODE_STARTS_L, ROOT};
+use std::ffi::OsStr;
 
 /// The processes of each row of the constants.
 const PROCESSES: [u32; NODE_STARTS.len()] = [2, 4, 8];
 
 pub fn nodes(tool: &mut Tool, given: &Given) -> Result<Status, Failure> {
-    let trees = trees(given.small("-p")?)?;
+    let trees = trees(given.value("-p"))?;
     match given.has("--json") {
         true => tool.line(json(&trees))?,
         false => print(tool, &trees)?,
@@ -44,16 +45,20 @@ impl Node {
 }
 
 /// The trees asked for, all or one.
-fn trees(asked: Option<u32>) -> Result<Vec<Tree>, Failure> {
+fn trees(asked: Option<&OsStr>) -> Result<Vec<Tree>, Failure> {
     let rows = PROCESSES.into_iter().zip(&NODE_STARTS);
-    let trees = rows.filter(|(p, _)| asked.is_none_or(|asked| asked == *p));
-    let trees: Vec<Tree> = trees.map(|(p, starts)| tree(p, starts)).collect();
-    match asked {
-        Some(p) if trees.is_empty() => Err(Failure::mistake(format!(
-            "-p: expected 2, 4 or 8, found `{p}`"
-        ))),
-        _ => Ok(trees),
+    let mut trees: Vec<Tree> = rows.map(|(p, starts)| tree(p, starts)).collect();
+    if let Some(asked) = asked {
+        let p = small("-p", asked).ok();
+        trees.retain(|tree| Some(tree.p) == p);
+        if trees.is_empty() {
+            let found = asked.display();
+            return Err(Failure::mistake(format!(
+                "-p: expected 2, 4 or 8, found `{found}`"
+            )));
+        }
     }
+    Ok(trees)
 }
 
 fn tree(p: u32, starts: &'static [u32]) -> Tree {
@@ -87,9 +92,11 @@ const COLUMNS: [Column<Node>; 6] = [
 ];
 
 fn print(tool: &mut Tool, trees: &[Tree]) -> Result<(), Failure> {
-    for tree in trees {
-        let words = count(tree.words_needed, "word");
-        tool.line(format!("p = {}, L = {NODE_STARTS_L}: {words}", tree.p))?;
+    for (index, tree) in trees.iter().enumerate() {
+        if index > 0 {
+            tool.line("")?;
+        }
+        tool.line(heading(tree))?;
         for line in columns::lines(&COLUMNS, &tree.nodes) {
             tool.line(format!("  {line}"))?;
         }
@@ -102,6 +109,11 @@ fn print(tool: &mut Tool, trees: &[Tree]) -> Result<(), Failure> {
         }
     }
     Ok(())
+}
+
+fn heading(tree: &Tree) -> String {
+    let (p, words) = (tree.p, count(tree.words_needed, "word"));
+    format!("p = {p} processes, at most L = {NODE_STARTS_L} operations each: a table of {words}")
 }
 
 fn json(trees: &[Tree]) -> Json {

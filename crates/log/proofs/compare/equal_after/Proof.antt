@@ -4,11 +4,12 @@ use Prim.Native.Nat.{ℕ, _+_, _*_}
 use native.Mathlib.Omega.{arith}
 use mathlib.Core.Path.{_≡_, sym, _∙_}
 use mathlib.Core.Bool.{Bool, true, false}
-use mathlib.Core.List.{List, append-nil}
-use lib.ListN.{length, take, drop, replicate, drop-of-length-le}
-use lib.Seq.{sets, sets-eq}
+use mathlib.Core.List.{List}
+use lib.ListN.{take, drop, replicate}
+use lib.Seq.{sets}
 use borrow.Author.Needs.{needs}
 use borrow.Author.Tests.{eq-eqb, ne-eqb}
+use Rattle.base.proofs.Stores.{sets-whole}
 use Rattle.record.specs.declared.AnswerRecord.{AnswerRecord}
 use Rattle.record.specs.AnswerRecords.{answerSize, answerBytes}
 use Rattle.record.proofs.Lengths.{answer-length}
@@ -19,16 +20,12 @@ use Rattle.log.proofs.Cuts.{no-record}
 use Rattle.log.proofs.compare.equal_after.Statement.{statement}
 use Rattle.log.proofs.compare.equal_after.Tie as tie
 
--- values stored in all places of a list are the list
-stored-whole : (l vs : List ℕ) → length vs ≡ length l → sets l 0 vs ≡ vs
-stored-whole l vs e = sets-eq vs l 0 (omega arith) ∙ rw (drop-of-length-le l {i = 0 + length vs} (omega arith)) (append-nil vs)
-
 -- the answer's bytes and the record of the log that the code compared
 compared-as : (log : List ℕ) (a : AnswerRecord) (n : ℕ) (bytes : List ℕ) (b : Bool) → bytes ≡ sets (replicate 16 0) 0 (answerBytes a)
     → b ≡ sameBytes bytes (take 16 (drop (16 * n) log)) → sameBytes (answerBytes a) (take 16 (drop (16 * n) log)) ≡ b
 unfolding answerSize
 compared-as log a n bytes b put test =
-    let whole : bytes ≡ answerBytes a = put ∙ stored-whole (replicate 16 0) (answerBytes a) (answer-length a) in
+    let whole : bytes ≡ answerBytes a = put ∙ sets-whole (replicate 16 0) (answerBytes a) (answer-length a) in
     rw (← whole) (sym test)
 
 returns : tie.Need-returns
