@@ -1,7 +1,6 @@
 -- `compare::equal_after` meets its contract. An answer stored in sixteen bytes is its bytes, and the record of the log
 -- at its place decides. Assumes nothing.
-use Prim.Native.Nat.{ℕ, _+_, _*_}
-use native.Mathlib.Omega.{arith}
+use Prim.Native.Nat.{ℕ, _*_}
 use mathlib.Core.Path.{_≡_, sym, _∙_}
 use mathlib.Core.Bool.{Bool, true, false}
 use mathlib.Core.List.{List}
