@@ -35,7 +35,7 @@
    Block 0 is all zero. A later place is absent if its puts and takes are both 0. The subblocks of a block
    in a child are those at the places after the end in the block before it, up to the end in the block.
 
-   A node's head is the place of its next block; who writes a block there raises the head past it, in
+   A node's head is the place of its next block; an advance raises the head past it once it is there, in
    step V3. A help is such a move in the advance of a child, begun by R3 or R5: the operation raises the
    child's head past a block that it found there. A V3 that finds the head raised already is no help, and
    neither is the advance of the own leaf or of the refreshed node (docs/RULES.md, 5.3). */

@@ -1,5 +1,4 @@
--- A process whose next step is Q: its operation stands in the root, and where it stands gives its answer. Used by
--- proofs; no exported promise names it.
+-- A process whose next step is Q: its operation stands in the root, and where it stands gives its answer.
 use Prim.Native.Nat.{ℕ, zero, suc, _+_, _-_, _^_, _≤_, _<_}
 use native.Mathlib.Omega.{arith}
 use mathlib.Core.Path.{_≡_, refl, subst, _∙_}

@@ -1,4 +1,4 @@
--- What is known of a process that is being played. Used by proofs; no exported promise names it.
+-- What is known of a process that is being played.
 use Prim.Native.Nat.{ℕ, _≤_, _<_}
 use native.Mathlib.Omega.{arith}
 use mathlib.Core.Path.{_≡_, ap, _∙_}

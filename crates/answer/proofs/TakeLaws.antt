@@ -1,5 +1,4 @@
--- The root blocks that the reply of a take reads, and what its margin says of the put whose value it gets. Used by
--- proofs; no exported promise names it.
+-- The root blocks that the reply of a take reads, and what its margin says of the put whose value it gets.
 use Prim.Native.Nat.{ℕ, _+_, _-_, _≤_}
 use native.Mathlib.Omega.{arith}
 use mathlib.Core.Path.{_≡_, sym, ap, _∙_}

@@ -6,7 +6,7 @@ use search::climb::root_block;
 use search::climb::standing;
 use steps::Operation;
 use steps::Process;
-use tree::layout::height_for;
+use table::layout::height_for;
 ghost use mathlib.Core.Path.{_≡_};
 ghost use mathlib.Core.List.{List};
 ghost use Prim.Native.Nat.{_<_};

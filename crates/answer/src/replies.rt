@@ -2,7 +2,7 @@
 use crate::margin::margin;
 use record::Reply;
 use search::find::put_value;
-use tree::access::block_at;
+use table::access::block_at;
 ghost use mathlib.Core.Path.{_≡_};
 ghost use mathlib.Core.List.{List};
 ghost use Prim.Native.Nat.{ℕ};

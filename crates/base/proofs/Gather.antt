@@ -1,5 +1,4 @@
--- Lists gathered over the numbers between two numbers: flatMap f (between i j). Used by proofs; no exported promise
--- names it.
+-- Lists gathered over the numbers between two numbers: flatMap f (between i j).
 use Prim.Native.Nat.{ℕ, zero, suc, _+_, _-_, _≤_, _<_}
 use native.Mathlib.Omega.{arith}
 use native.Mathlib.Nat.{le-refl, zero-add, add-zero, add-suc, suc-add, sub-self}

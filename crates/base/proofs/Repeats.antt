@@ -1,4 +1,4 @@
--- The first of many equal things are as many equal things. Used by proofs; no exported promise names it.
+-- The first of many equal things are as many equal things.
 use Prim.Native.Nat.{ℕ, zero, suc, _≤_}
 use native.Mathlib.Omega.{arith}
 use mathlib.Core.Path.{_≡_, refl, ap}

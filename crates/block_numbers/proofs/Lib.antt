@@ -1,3 +1,4 @@
 pub mod NumbersSound
 pub mod Wrote
 pub mod RunNumbers
+pub mod ClaimLaws

@@ -1,6 +1,6 @@
 -- The invariant of the numbers: they rise with place, a block's number is above those of all blocks up to its ends, and
 -- none is past that of the last record. It stands apart from the memory invariant, which says of numbers only that an
--- absent place and block 0 have 0. Used by proofs; no exported promise names it.
+-- absent place and block 0 have 0.
 use Prim.Native.Nat.{ℕ, zero, suc, _≤_, _<_}
 use native.Mathlib.Omega.{arith}
 use native.Mathlib.Decide.{ℕ-discrete}

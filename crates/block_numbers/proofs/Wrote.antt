@@ -1,5 +1,4 @@
--- Every block was written by a record of the list: the one whose number it has. For general H. Used by proofs; no
--- exported promise names it.
+-- Every block was written by a record of the list: the one whose number it has. For general H.
 use Prim.Native.Nat.{ℕ, suc, _≤_, _<_}
 use native.Mathlib.Omega.{arith}
 use native.Mathlib.Decide.{decLe}

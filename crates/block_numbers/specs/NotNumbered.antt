@@ -9,7 +9,7 @@ use Rattle.record.specs.declared.StepRecord.{StepRecord}
 use Rattle.record.specs.StepRecords.{stepRecords}
 use Rattle.tree.specs.Shape.{shapeFor}
 use Rattle.tree.specs.Sides.{onLeft, onRight}
-use Rattle.calls.specs.KnownRuns.{beginPut, steps}
+use Rattle.calls.specs.Lists.{beginPut, steps}
 use Rattle.calls.specs.All.{rules}
 use Rattle.block_numbers.specs.BlockNumbers.{tableAfter, NumbersTell}
 

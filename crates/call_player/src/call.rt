@@ -2,10 +2,10 @@
 use base::as_index;
 use player::Outcome;
 use player::play::play;
-use tree::layout::clear;
-use tree::layout::height_for;
-use tree::layout::starts;
-use tree::layout::words_needed;
+use table::layout::clear;
+use table::layout::height_for;
+use table::layout::starts;
+use table::layout::words_needed;
 ghost use mathlib.Core.Path.{_≡_};
 ghost use mathlib.Core.List.{[]};
 ghost use Prim.Native.Nat.{_*_};

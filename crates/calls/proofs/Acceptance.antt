@@ -1,4 +1,4 @@
--- What it says that a test refuses nothing. Used by proofs; no exported promise names it.
+-- What it says that a test refuses nothing.
 use Prim.Native.Nat.{ℕ}
 use mathlib.Core.Path.{_≡_, refl, sym, _∙_}
 use mathlib.Core.Logic.{_≢_}

@@ -1,5 +1,4 @@
 -- The history, the counts and the answers agree with the machine that the records left. This is the invariant of a run.
--- Used by proofs; no exported promise names it.
 use Prim.Native.Nat.{ℕ, _≤_, _<_}
 use mathlib.Core.Path.{_≡_}
 use mathlib.Core.Bool.{true, false, _&&_}

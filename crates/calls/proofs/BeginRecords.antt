@@ -1,5 +1,4 @@
--- The begin records of a list: how many they are, over all processes and in a part of the list. Used by proofs; no
--- exported promise names it.
+-- The begin records of a list: how many they are, over all processes and in a part of the list.
 use Prim.Native.Nat.{ℕ, suc, _+_, _*_, _≤_, _<_}
 use native.Mathlib.Omega.{arith}
 use mathlib.Core.Path.{_≡_, refl, ap, sym, _∙_}

@@ -1,4 +1,4 @@
--- What is known of a call that is not turned down. Used by proofs; no exported promise names it.
+-- What is known of a call that is not turned down.
 use Prim.Native.Nat.{ℕ, _*_, _%_, _≤_}
 use mathlib.Core.Path.{_≡_, refl}
 use mathlib.Core.Bool.{true, false, not}

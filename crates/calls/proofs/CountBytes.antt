@@ -9,7 +9,7 @@ use mathlib.Core.List.{List, [], _∷_, map, flatMap}
 use lib.ListN.{length, getD, take, length-map, List·getD-map}
 use lib.Seq.{take-at, drop-append-add}
 use Rattle.record.specs.declared.AnswerRecord.{AnswerRecord}
-use Rattle.record.specs.Bytes.{bytesOf}
+use Rattle.encoding.specs.Bytes.{bytesOf}
 use Rattle.record.specs.StepRecords.{stepRecords}
 use Rattle.record.specs.AnswerRecords.{answerSize, answerBytes, logBytes}
 use Rattle.record.proofs.Lengths.{answer-length}

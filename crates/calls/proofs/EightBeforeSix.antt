@@ -28,10 +28,10 @@ use Rattle.calls.proofs.Played.{played-all, whole-machine, whole-legal}
 use Rattle.calls.proofs.Runs.{runs}
 use Rattle.calls.proofs.Acceptance.{zero-accepted}
 use Rattle.calls.proofs.Theorem.{tall-for}
-use Rattle.calls.proofs.RunsBy.{playBy, playAllBy, runBy, listOrderBy, checkLogBy}
+use Rattle.calls.specs.CallsBy.{playBy, playAllBy, runBy, listOrderBy, checkLogBy}
 use Rattle.calls.proofs.FormerRuns.{InLast, now-eight, then-six, alike, six-formed, left, Ends, taken, refused, ends}
-use Rattle.calls.proofs.FormerOrder.{formerRecord, StoppedInLast, runNumbered, listNumbered, checkNumbered, Stopped, Compared, equal, moved}
-use Rattle.calls.proofs.FormerOrder.{RunCompared, ListCompared, CheckCompared, EightBeforeSix}
+use Rattle.calls.specs.FormerOrder.{formerRecord, StoppedInLast, runNumbered, listNumbered, checkNumbered, Stopped, Compared, equal, moved}
+use Rattle.calls.specs.FormerOrder.{RunCompared, ListCompared, CheckCompared, EightBeforeSix}
 
 -- ---- where they stop at a begin of a process that is not idle and has begun L
 module _ (s : Shape) (tall : 1 ≤ s .height) (room : ℕ) (rs : List StepRecord) where

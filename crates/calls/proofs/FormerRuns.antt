@@ -20,8 +20,9 @@ use Rattle.calls.specs.declared.Refusal.the-variants.{BeginWhileBusy, Be
 use Rattle.calls.specs.Refusals.{refusalNumber, accepted, beginRefusal, stepRefusal, recordRefusal}
 use Rattle.calls.specs.Run.{Played, atStart, taking, refusing, play}
 use Rattle.calls.proofs.Played.{play-taken, play-refused}
-use Rattle.calls.proofs.RunsBy.{playBy, by-taken, by-refused}
-use Rattle.calls.proofs.FormerOrder.{formerRecord}
+use Rattle.calls.specs.CallsBy.{playBy}
+use Rattle.calls.proofs.RunsBy.{by-taken, by-refused}
+use Rattle.calls.specs.FormerOrder.{formerRecord}
 
 -- ---- one record, whose process is q
 module _ (s : Shape) (room : ℕ) (q : Process) (r : StepRecord) where

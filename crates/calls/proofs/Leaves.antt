@@ -1,5 +1,4 @@
--- What each leaf's block is: that of the operation of its process with that serial. Used by proofs and by contracts of
--- functions; no exported promise names it.
+-- What each leaf's block is: that of the operation of its process with that serial.
 use Prim.Native.Nat.{ℕ, suc, _+_, _<_}
 use mathlib.Core.Path.{_≡_}
 use mathlib.Core.List.{List}

@@ -1,5 +1,4 @@
--- Legal lists of records, which no record is refused in, and the answers that they give: only proofs use this, and no
--- exported promise names it.
+-- Legal lists of records, which no record is refused in, and the answers that they give.
 use Prim.Native.Nat.{ℕ, _*_, _≤_, _<_}
 use native.Mathlib.Omega.{arith}
 use mathlib.Core.Path.{_≡_, refl}

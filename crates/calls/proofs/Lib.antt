@@ -35,7 +35,6 @@ pub mod ListLimits
 pub mod CountBytes
 pub mod CallAccepted
 pub mod Unrefused
-pub mod FormerOrder
 pub mod FormerRuns
 pub mod EightBeforeSix
 pub mod HistoryGrows

@@ -152,9 +152,15 @@ module _ {s : Shape} {m : Machine} {c : ℕ → ℕ} {h : List Event} {log : Lis
   pub unanswered : (x : OpId) → isFinished x h ≡ false → response log x ≡ Nothing
   unanswered x e = ap (λ (l : List AnswerRecord). response l x) (ag .answers) ∙ response-none s t h x (finishing h) (finishing-none x h e)
 
+  names : (xs : List OpId) → map (λ (a : AnswerRecord). operation (a .process) (a .serial)) (map (queueRecord s t h) xs) ≡ xs
+  unfolding queueRecord operation
+  names [] = refl
+  names (x ∷ xs) = ap {B = List OpId} (λ r. x ∷ r) (names xs)
+
   pub linearizable : Linearizable h log
   linearizable =
       record {
+        told = ap (map (λ (a : AnswerRecord). operation (a .process) (a .serial))) (ag .answers) ∙ names (finishing h);
         order = rootOperations s t;
         responded = holds .finishedOnce;
         once = holds .atMostOnce;

@@ -13,11 +13,11 @@ use lib.Dec.{eqb}
 use borrow.Author.Tests.{eqb-true, not-false}
 use Rattle.base.proofs.Cases.{cases, contradiction}
 use Rattle.record.specs.declared.AnswerRecord.{AnswerRecord}
-use Rattle.record.specs.Bytes.{cut}
+use Rattle.encoding.specs.Bytes.{cut}
 use Rattle.record.specs.StepRecords.{stepRecords}
 use Rattle.record.specs.AnswerRecords.{answerSize, answerBytes, logBytes}
 use Rattle.record.proofs.Lengths.{answer-length}
-use Rattle.record.proofs.Numbers.{inner-part}
+use Rattle.encoding.proofs.Numbers.{inner-part}
 use Rattle.calls.specs.declared.Refusal.{Refusal}
 use Rattle.calls.specs.declared.Verdict.{Verdict}
 use Rattle.calls.specs.declared.Verdict.the-variants.{Same, Differs, Refused}

@@ -1,5 +1,5 @@
 -- What each record does to the numbers of blocks, and that a block keeps its number as more records are played. For
--- general H. Used by proofs; no exported promise names it.
+-- general H.
 use Prim.Native.Nat.{ℕ, _≤_}
 use mathlib.Core.Path.{_≡_, ap, sym, _∙_, subst}
 use mathlib.Core.List.{List, [], _∷_, _++_, append-nil}

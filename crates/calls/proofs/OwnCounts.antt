@@ -1,5 +1,4 @@
--- What an operation has taken so far, own steps and helps, by its history and by its process. Used by proofs; no
--- exported promise names it.
+-- What an operation has taken so far, own steps and helps, by its history and by its process.
 use Prim.Native.Nat.{ℕ, suc, _≤_}
 use native.Mathlib.Omega.{arith}
 use mathlib.Core.Bool.{Bool, true, false, _&&_}

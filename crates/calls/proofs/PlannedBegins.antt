@@ -1,5 +1,5 @@
 -- A list of begin records in which the forecast refuses nothing: all are begins of processes below p, and no process
--- has more than L. Used by proofs; no exported promise names it.
+-- has more than L.
 use Prim.Native.Nat.{ℕ, _+_, _*_, _≤_, _<_}
 use native.Mathlib.Omega.{arith}
 use mathlib.Core.Path.{_≡_, refl, ap}

@@ -1,5 +1,4 @@
--- What a run leaves is what the records that it took leave. The invariant is only used by proofs, and no exported
--- promise names it.
+-- What a run leaves is what the records that it took leave.
 use Prim.Native.Nat.{ℕ, _+_, _*_, _-_, _≤_}
 use native.Mathlib.Omega.{arith}
 use mathlib.Core.Path.{_≡_, refl, ap, sym, _∙_, subst}
@@ -23,7 +22,8 @@ use Rattle.calls.specs.History.{courseStart, courseAfter, machineAfter}
 use Rattle.calls.proofs.Numbers.{numbered-snoc}
 use Rattle.calls.proofs.Legal.{Accepted, Legal, none, more, answersAfter, answersAlong, accept, answers-room}
 use Rattle.calls.proofs.Histories.{machine-snoc, answers-snoc}
-use Rattle.calls.proofs.RunsBy.{playRecordBy, playBy, by-append, by-over, by-taken, by-refused}
+use Rattle.calls.specs.CallsBy.{playRecordBy, playBy}
+use Rattle.calls.proofs.RunsBy.{by-append, by-over, by-taken, by-refused}
 
 -- a run over records rs, so far: it took the first of them, and all while nothing was refused
 record Tracks (s : Shape) (room : ℕ) (rs : List StepRecord) (g : Played) : Type 0 where

@@ -30,7 +30,8 @@ use Rattle.calls.specs.ListOrder.{playAll}
 use Rattle.calls.specs.History.{machineAfter}
 use Rattle.calls.specs.Forecast.{beginRecords}
 use Rattle.calls.proofs.Legal.{Legal, formed-low}
-use Rattle.calls.proofs.RunsBy.{Tests, playRecordBy, playBy, by-append}
+use Rattle.calls.specs.CallsBy.{Tests, playRecordBy, playBy}
+use Rattle.calls.proofs.RunsBy.{by-append}
 use Rattle.calls.proofs.Played.{whole-machine, whole-legal, whole-answers, play-append}
 use Rattle.calls.proofs.BeginRecords.{begin-records-first, begin-records-most}
 use Rattle.calls.proofs.RecordLimit.{list-spent, list-begins}
@@ -171,3 +172,7 @@ module _ (s : Shape) where
   pub roomy-fits : (rs : List StepRecord) → Fits (refusalNumber (playRoomy s rs .refusal))
   unfolding playBy atStart refusalNumber
   roomy-fits rs = fits-on rs (atStart s) refl
+
+-- so list the order and check a log refuse no record with 9
+pub all-fits : (s : Shape) → 1 ≤ s .height → (rs : List StepRecord) → Fits (refusalNumber (playAll s rs .refusal))
+all-fits s tall rs = rw (all-roomy s tall rs) (roomy-fits s rs)

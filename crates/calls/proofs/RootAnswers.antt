@@ -1,5 +1,4 @@
--- The plain queue fed the root order answers each operation that stands there as the tree's answer rule does. Used by
--- proofs; no exported promise names it.
+-- The plain queue fed the root order answers each operation that stands there as the tree's answer rule does.
 use Prim.Native.Nat.{ℕ, suc, _+_, _-_, _≤_, _<_}
 use native.Mathlib.Omega.{arith}
 use native.Mathlib.Decide.{decLt}

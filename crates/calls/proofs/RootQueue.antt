@@ -1,5 +1,5 @@
 -- The plain queue fed the root order: after each root block it holds the values of the last puts, as many as the
--- block's size. Used by proofs; no exported promise names it.
+-- block's size.
 use Prim.Native.Nat.{ℕ, zero, suc, _+_, _-_, _≤_, _<_}
 use native.Mathlib.Omega.{arith}
 use native.Mathlib.Nat.{le-refl}

@@ -1,56 +1,19 @@
--- The calls by what tests their records: with the tests of the rules they are Run, list the order and check a log. Used
--- by proofs; no exported promise names it.
+-- Laws of the calls by what tests their records.
 use Prim.Native.Nat.{ℕ, _*_, _-_}
 use mathlib.Core.Path.{_≡_, refl, _∙_}
-use mathlib.Core.Bool.{true, false, not}
+use mathlib.Core.Bool.{true, false}
 use mathlib.Core.List.{List, [], _∷_, _++_, foldl, foldl-append}
 use lib.ListN.{length}
-use Rattle.base.specs.Choice.{if_then_else_}
 use Rattle.record.specs.declared.StepRecord.{StepRecord}
-use Rattle.record.specs.StepRecords.{stepRecords}
 use Rattle.record.specs.AnswerRecords.{answerSize}
-use Rattle.tree.specs.Shape.{Shape, shapeFor}
-use Rattle.steps.specs.declared.Process.{Process}
+use Rattle.tree.specs.Shape.{Shape}
 use Rattle.steps.specs.Machine.{processOf}
 use Rattle.calls.specs.declared.Refusal.{Refusal}
-use Rattle.calls.specs.declared.Verdict.the-variants.{Refused}
-use Rattle.calls.specs.Refusals.{accepted, callRefusal, recordRefusal}
-use Rattle.calls.specs.Run.{Played, atStart, taking, refusing, playRecord, play, RunResult, runPlayed, runTurnedDown, run}
-use Rattle.calls.specs.ListOrder.{playAll, ListResult, listed, listPlayed, listOrder}
-use Rattle.calls.specs.CheckLog.{CheckResult, checkRefusal, checked, checkPlayed, checkLog}
-
--- what refuses a record, where there are so many answer bytes left, by its process
-abbrev pub Tests : Type 0
-Tests = Shape → ℕ → Process → StepRecord → Refusal
-
-unfoldable pub playRecordBy : Tests → Shape → ℕ → Played → StepRecord → Played
-playRecordBy tests s room g r =
-    let n = tests s (room - answerSize * length (g .answers)) (processOf (g .machine) (r .process)) r in
-    if not (accepted (g .refusal)) then g else if accepted n then taking s g r else refusing g n
-
-unfoldable pub playBy : Tests → Shape → ℕ → List StepRecord → Played
-playBy tests s room rs = foldl (playRecordBy tests s room) (atStart s) rs
-
-unfoldable pub playAllBy : Tests → Shape → List StepRecord → Played
-playAllBy tests s rs = playBy tests s (answerSize * length rs) rs
-
-unfoldable pub runBy : Tests → ℕ → ℕ → List ℕ → List ℕ → List ℕ → RunResult
-runBy tests p l records table answers =
-    let n = callRefusal p l (length table) (length records) in
-    let s = shapeFor p l in
-    if accepted n then runPlayed s (playBy tests s (length answers) (stepRecords records)) table answers else runTurnedDown n table answers
-
-unfoldable pub listOrderBy : Tests → ℕ → ℕ → List ℕ → List ℕ → List ℕ → ListResult
-listOrderBy tests p l records table output =
-    let n = callRefusal p l (length table) (length records) in
-    let s = shapeFor p l in
-    if accepted n then listPlayed s (playAllBy tests s (stepRecords records)) table output else listed n [] table output
-
-unfoldable pub checkLogBy : Tests → ℕ → ℕ → List ℕ → List ℕ → List ℕ → CheckResult
-checkLogBy tests p l records log table =
-    let n = checkRefusal p l (length table) (length records) (length log) in
-    let s = shapeFor p l in
-    if accepted n then checkPlayed s (playAllBy tests s (stepRecords records)) log table else checked (Refused n) table
+use Rattle.calls.specs.Refusals.{accepted, recordRefusal}
+use Rattle.calls.specs.Run.{Played, atStart, taking, refusing, playRecord, play, run}
+use Rattle.calls.specs.ListOrder.{playAll, listOrder}
+use Rattle.calls.specs.CheckLog.{checkLog}
+use Rattle.calls.specs.CallsBy.{Tests, playRecordBy, playBy, playAllBy, runBy, listOrderBy, checkLogBy}
 
 -- ---- with the tests of the rules they are the calls
 pub run-by : (p l : ℕ) (records table answers : List ℕ) → run p l records table answers ≡ runBy recordRefusal p l records table answers

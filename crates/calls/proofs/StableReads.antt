@@ -175,7 +175,7 @@ module _ (s : Shape) (tall : 1 ≤ s .height) (ns ts : List Numbered) (legal : L
         c3l = λ o w l r at. come o (C3L w l r) at .hand .0 .below;
         c3r = λ o w l r puts takes at. come o (C3R w l r puts takes) at .hand .1 .below;
         c3n = λ o w l r puts takes at. let re = come o (C3N w l r puts takes) at .refreshing in omega (arith, re .first, re .last);
-        q = λ o at. rw serial (below-root o at);
+        q = λ o at. rw serial (omega (arith, root-block s (m .memory .table) (x o at) (here o at) .is), below-root o at);
         rootBlock = λ o at. rw serial (same-block o at);
         reply = λ o at. rw serial (same-reply o at);
       }

@@ -1,4 +1,4 @@
--- What Run and list the order leave where they refuse nothing. Used by proofs; no exported promise names it.
+-- What Run and list the order leave where they refuse nothing.
 use Prim.Native.Nat.{ℕ}
 use mathlib.Core.Path.{_≡_, refl, ap, sym, _∙_}
 use mathlib.Core.Bool.{true, false}

@@ -38,13 +38,12 @@ module _ {s : Shape} {m : Machine} {c : ℕ → ℕ} {h : List Event} {log : Lis
   unfolding stepLimit
   unopened-fewer x e = omega (arith, ap (λ (z : OwnCounts). z .steps) (ag .unstarted x e))
 
-  responds : (x : OpId) → stepLimit s ≤ ownSteps x h → isFinished x h ≡ true
-  responds x l = on (isFinished x h) refl (isOpened x h) refl
+  responds : (x : OpId) → isFinished x h ≡ false → ownSteps x h < stepLimit s
+  responds x e = on (isOpened x h) refl
     where
-      on : (f : Bool) → isFinished x h ≡ f → (o : Bool) → isOpened x h ≡ o → f ≡ true
-      on true e o p = refl
-      on false e true p = absurd (omega (arith, running-fewer x (ag .unfinished x p e)))
-      on false e false p = absurd (omega (arith, unopened-fewer x p))
+      on : (o : Bool) → isOpened x h ≡ o → ownSteps x h < stepLimit s
+      on true p = running-fewer x (ag .unfinished x p e)
+      on false p = unopened-fewer x p
 
   pub wait-free : WaitFree (stepLimit s) h
   wait-free = record { within = kept ag tall .stepsBounded; responds = responds }

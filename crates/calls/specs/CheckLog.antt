@@ -5,7 +5,7 @@ use mathlib.Core.List.{List, [], _∷_, _++_, map}
 use lib.ListN.{length, drop}
 use lib.Dec.{eqb}
 use Rattle.base.specs.Choice.{if_then_else_}
-use Rattle.record.specs.Bytes.{cut}
+use Rattle.encoding.specs.Bytes.{cut}
 use Rattle.record.specs.StepRecords.{stepRecords}
 use Rattle.record.specs.AnswerRecords.{answerSize, answerBytes}
 use Rattle.tree.specs.Shape.{Shape, shapeFor}

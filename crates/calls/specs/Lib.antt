@@ -12,10 +12,7 @@ pub mod Linearizable
 pub mod Continuation
 pub mod StableReads
 pub mod Forecast
+pub mod CallsBy
+pub mod FormerOrder
 pub mod All
-pub mod KnownRuns
-pub mod NotJudged
-pub mod NotKept
-pub mod NotLinearizable
-pub mod NotForeseen
-pub mod NotStable
+pub mod Lists

@@ -35,7 +35,7 @@ pub record StableReads (s : Shape) (m n : Machine) (k : ℕ) : Type 0 where
   pub c3r : (o : Operation) (w : Visit) (l r puts takes : ℕ) → processOf m k .status ≡ Busy o (C3R w l r puts takes) → r < headOf (m .memory) (rightOf (w .node))
   pub c3n : (o : Operation) (w : Visit) (l r puts takes : ℕ) → processOf m k .status ≡ Busy o (C3N w l r puts takes) → w .head - 1 < headOf (m .memory) (w .node)
   pub q : (o : Operation) → processOf m k .status ≡ Busy o Q
-      → rootBlockOf s (m .memory .table) (operation k (processOf m k .begun)) < headOf (m .memory) root
+      → let b = rootBlockOf s (m .memory .table) (operation k (processOf m k .begun)) in (1 ≤ b) × (b < headOf (m .memory) root)
   pub rootBlock : (o : Operation) → processOf m k .status ≡ Busy o Q
       → let x = operation k (processOf m k .begun) in rootBlockOf s (n .memory .table) x ≡ rootBlockOf s (m .memory .table) x
   pub reply : (o : Operation) → processOf m k .status ≡ Busy o Q

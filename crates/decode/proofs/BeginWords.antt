@@ -1,4 +1,4 @@
--- What the words of a record say that is no step. Used by proofs; no exported promise names it.
+-- What the words of a record say that is no step.
 use Prim.Native.Nat.{ℕ, _+_, _*_, _-_, _≤_, _<_}
 use native.Mathlib.Omega.{arith}
 use mathlib.Core.Path.{_≡_, refl, ap, sym, _∙_}

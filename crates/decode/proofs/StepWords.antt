@@ -1,5 +1,4 @@
--- A step record is told by its two words: the first is its process, the second 0. Used by proofs; no exported promise
--- names it.
+-- A step record is told by its two words: the first is its process, the second 0.
 use Prim.Native.Nat.{ℕ, _+_, _*_, _≤_, _<_}
 use native.Mathlib.Omega.{arith}
 use mathlib.Core.Path.{_≡_, ap, _∙_, sym, subst}
@@ -11,9 +10,9 @@ use lib.Dec.{ltb, leb, eqb}
 use borrow.Author.Tests.{ltb-false, leb-false, lt-leb, eqb-true, not-false}
 use Rattle.base.proofs.Cases.{or-false}
 use Rattle.record.specs.declared.StepRecord.{StepRecord}
-use Rattle.record.specs.Bytes.{numberOf}
+use Rattle.encoding.specs.Bytes.{numberOf}
 use Rattle.record.specs.StepRecords.{isStep, isBeginPut, stepRecord, illFormed}
-use Rattle.record.proofs.Numbers.{number-parts, part-of-part}
+use Rattle.encoding.proofs.Numbers.{number-parts, part-of-part}
 use Rattle.decode.specs.Contracts.Begins.{firstWord}
 
 -- the step record of process k

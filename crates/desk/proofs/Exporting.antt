@@ -8,9 +8,10 @@ use Rattle.desk_rules.specs.DeskRefusals.{deskNumber}
 use Rattle.desk_rules.specs.Desk.{DeskResult, desk}
 use Rattle.desk_rules.specs.Deliveries.{DeliversInOrder}
 use Rattle.desk_rules.proofs.DeskOrder.{desk-order}
-use Rattle.desk.specs.declared.Delivered.{Delivered}
+use Rattle.desk_listed.specs.declared.Delivered.{Delivered}
 use Rattle.desk.specs.declared.DeskDelivery.{DeskDelivery}
-use Rattle.desk.specs.Left.{deskLeft, deskExported}
+use Rattle.desk_listed.specs.Left.{deskLeft}
+use Rattle.desk.specs.Exported.{deskExported}
 
 pub exported : (d : Delivered) (n : ℕ) (table output : List ℕ) (e : DeskResult) → n ≡ deskNumber (d .refusal) → deskLeft d table output ≡ e
     → deskExported (record { refusal = n; count = d .count }) table output ≡ e

@@ -1,7 +1,3 @@
-pub mod Slots
-pub mod Received
-pub mod RunAnswers
-pub mod ListedTerms
 pub mod Listing
 pub mod Foreign
 pub mod Tests

@@ -5,7 +5,7 @@ use mathlib.Core.Logic.{_≢_}
 use mathlib.Core.Bool.{Bool, true, false}
 use mathlib.Core.List.{List, []}
 use Rattle.record.specs.StepRecords.{stepSize, stepRecords}
-use Rattle.record.specs.Bytes.{cut}
+use Rattle.encoding.specs.Bytes.{cut}
 use Rattle.calls.specs.declared.Refusal.{Refusal}
 use Rattle.calls.specs.Refusals.{refusalNumber, accepted, torn, firstRefusal, settingsRefusal, bytesRefusal}
 use Rattle.calls.specs.Forecast.{ForecastResult, beginsRefusal, forecastRefusal, foreseen, forecast}
@@ -16,8 +16,8 @@ use Rattle.desk_rules.specs.declared.DeskRefusal.the-variants.{Queue, Licence}
 use Rattle.desk_rules.specs.DeskRefusals.{deskNumber}
 use Rattle.desk_rules.specs.Desk.{desk}
 use Rattle.desk_rules.proofs.Calls.{turnedDown, desk-settings, desk-licence}
-use Rattle.desk.specs.declared.Delivered.{Delivered}
-use Rattle.desk.specs.Left.{deskLeft}
+use Rattle.desk_listed.specs.declared.Delivered.{Delivered}
+use Rattle.desk_listed.specs.Left.{deskLeft}
 use Rattle.desk.specs.Contracts.Deliverable.{Allowed}
 use Rattle.desk.proofs.Listing.{left-refused}
 

@@ -1,2 +1,2 @@
-pub mod Left
+pub mod Exported
 pub mod Contracts

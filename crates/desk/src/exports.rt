@@ -7,7 +7,7 @@ ghost use Rattle.record.specs.StepRecords.{stepRecords};
 ghost use Rattle.desk_rules.specs.DeskRefusals.{deskNumber};
 ghost use Rattle.desk_rules.specs.Desk.{desk};
 ghost use Rattle.desk_rules.specs.Deliveries.{DeliversInOrder};
-ghost use Rattle.desk.specs.Left.{deskExported};
+ghost use Rattle.desk.specs.Exported.{deskExported};
 
 // The paper's number of a refusal.
 fn number(x: DeskRefusal) -> u32
@@ -22,7 +22,7 @@ fn number(x: DeskRefusal) -> u32
     }
 }
 
-// The call.
+// The delivery of the terms that the finished takes of a list received.
 #[no_mangle]
 pub extern "C" fn desk_deliver(
     p: u32,

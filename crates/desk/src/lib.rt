@@ -3,15 +3,7 @@
 pub mod deliver;
 pub mod exports;
 
-use desk_rules::DeskRefusal;
-
-// What the desk returns: a refusal, or none and the number of terms.
-pub struct Delivered {
-    pub refusal: DeskRefusal,
-    pub count: usize,
-}
-
-// The same for C: a refusal is its number.
+// What the desk returns: the number of a refusal, or 0 and the number of terms.
 #[repr(C)]
 pub struct DeskDelivery {
     pub refusal: u32,

@@ -16,11 +16,11 @@ use Rattle.record.specs.declared.StepRecord.{StepRecord}
 use Rattle.record.specs.declared.Reply.{Reply}
 use Rattle.record.specs.declared.Reply.the-variants.{Done, Value, Nothing}
 use Rattle.record.specs.declared.AnswerRecord.{AnswerRecord}
-use Rattle.record.specs.Bytes.{bytesOf, numberOf, cut}
+use Rattle.encoding.specs.Bytes.{bytesOf, numberOf, cut}
 use Rattle.record.specs.StepRecords.{stepRecords}
 use Rattle.record.specs.AnswerRecords.{answerSize, replyValue}
-use Rattle.record.proofs.Lengths.{bytes-length}
-use Rattle.record.proofs.ReadBack.{number-back, list-back}
+use Rattle.encoding.proofs.Lengths.{bytes-length}
+use Rattle.encoding.proofs.ReadBack.{number-back, list-back}
 use Rattle.tree.specs.Shape.{Shape, shapeFor}
 use Rattle.tree.specs.Layout.{wordsNeeded}
 use Rattle.tree.specs.Order.{OpId, rootOperations}

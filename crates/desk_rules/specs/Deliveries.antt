@@ -9,7 +9,7 @@ use Rattle.base.specs.Members.{All}
 use Rattle.record.specs.declared.StepRecord.{StepRecord}
 use Rattle.record.specs.declared.Reply.{Reply}
 use Rattle.record.specs.declared.Reply.the-variants.{Value, Nothing}
-use Rattle.record.specs.Bytes.{numberOf, cut}
+use Rattle.encoding.specs.Bytes.{numberOf, cut}
 use Rattle.tree.specs.Shape.{shapeFor}
 use Rattle.tree.specs.Layout.{wordsNeeded}
 use Rattle.tree.specs.Order.{OpId, rootOperations}

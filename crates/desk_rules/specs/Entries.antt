@@ -4,7 +4,7 @@ use mathlib.Core.Bool.{Bool, not, _&&_}
 use mathlib.Core.List.{List, flatMap}
 use lib.Dec.{leb, eqb}
 use Rattle.record.specs.declared.StepRecord.{StepRecord}
-use Rattle.record.specs.Bytes.{bytesOf}
+use Rattle.encoding.specs.Bytes.{bytesOf}
 use Rattle.record.specs.StepRecords.{isBeginPut}
 
 -- 2^31

@@ -10,7 +10,7 @@ use lib.ListN.{length, getD, take, drop, replicate, length-map}
 use Rattle.base.specs.Members.{All}
 use Rattle.record.specs.declared.Reply.the-variants.{Done, Value, Nothing}
 use Rattle.record.specs.declared.StepRecord.{StepRecord}
-use Rattle.record.specs.Bytes.{numberOf, cut}
+use Rattle.encoding.specs.Bytes.{numberOf, cut}
 use Rattle.record.specs.AnswerRecords.{replyKind, replyValue}
 use Rattle.record.specs.StepRecords.{stepRecords}
 use Rattle.tree.specs.Shape.{shapeFor}
@@ -21,7 +21,7 @@ use Rattle.steps.specs.declared.Operation.the-variants.{Put, Take}
 use Rattle.calls.specs.Numbered.{numbered}
 use Rattle.calls.specs.Run.{run}
 use Rattle.calls.specs.History.{Event, opens, finishes, operation, history, isFinished, does}
-use Rattle.calls.specs.KnownRuns.{beginPut, beginTake, steps}
+use Rattle.calls.specs.Lists.{beginPut, beginTake, steps}
 use Rattle.desk_rules.specs.Deliveries.{Rising, valuesPut, withNumbers, replies, Delivery, operationsOf, Received, InPutOrder, DeliversInOrder}
 use Rattle.desk_rules.specs.All.{deskRules}
 

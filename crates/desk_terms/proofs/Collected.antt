@@ -10,7 +10,7 @@ use lib.Seq.{take-all, take-suc, take-suc-set}
 use Rattle.base.proofs.Gather.{flatMap-append}
 use Rattle.record.specs.declared.OrderRecord.{OrderRecord}
 use Rattle.record.specs.ReadOrders.{readOrder}
-use Rattle.record.proofs.Cuts.{read-length, read-at}
+use Rattle.encoding.proofs.Cuts.{read-length, read-at}
 use Rattle.desk_rules.specs.Entries.{isEntry, termOf}
 use Rattle.desk_terms.specs.Contracts.Slots.{ordersIn, slotOf, termAt, collected}
 

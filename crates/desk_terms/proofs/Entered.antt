@@ -8,7 +8,7 @@ use lib.Seq.{drop-cons}
 use Rattle.record.specs.declared.AnswerRecord.{AnswerRecord}
 use Rattle.record.specs.AnswerRecords.{answerSize, replyValue}
 use Rattle.record.specs.ReadAnswers.{answerRecord}
-use Rattle.record.proofs.Cuts.{read-length, read-at}
+use Rattle.encoding.proofs.Cuts.{read-length, read-at}
 use Rattle.desk_terms.specs.Contracts.Slots.{answersIn, slotOf, entered}
 
 pub entered-length : (l : ℕ) (log : List AnswerRecord) (ws : List ℕ) → length (entered l log ws) ≡ length ws

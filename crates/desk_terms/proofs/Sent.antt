@@ -9,8 +9,8 @@ use lib.Seq.{sets, sets-eq, take-suc, take-length}
 use Rattle.base.specs.Contracts.Stored.{Stored}
 use Rattle.base.proofs.Gather.{flatMap-append}
 use Rattle.base.proofs.Stored.{stored-none, stored-then}
-use Rattle.record.specs.Bytes.{bytesOf}
-use Rattle.record.proofs.Lengths.{bytes-length}
+use Rattle.encoding.specs.Bytes.{bytesOf}
+use Rattle.encoding.proofs.Lengths.{bytes-length}
 use Rattle.desk_rules.specs.Entries.{termSize, termBytes}
 
 -- the bytes of the first i terms are stored

@@ -1,5 +1,5 @@
 // Terms as their bytes.
-use record::bytes::put_word;
+use encoding::put_word;
 ghost use mathlib.Core.Path.{_≡_};
 ghost use mathlib.Core.List.{_++_};
 ghost use Prim.Native.Nat.{_*_, _≤_};

@@ -1,4 +1,4 @@
--- What the call returns, by the tests that it made. Used by proofs; no exported promise names it.
+-- What the call returns, by the tests that it made.
 use Prim.Native.Nat.{ℕ, _*_, _/_, _≤_}
 use native.Mathlib.Omega.{arith}
 use mathlib.Core.Path.{_≡_, ap, sym, _∙_, subst}

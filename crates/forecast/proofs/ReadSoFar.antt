@@ -1,5 +1,4 @@
--- The begin records read so far: how many operations each process begins in them, and which records are left. Used by
--- proofs; no exported promise names it.
+-- The begin records read so far: how many operations each process begins in them, and which records are left.
 use Prim.Native.Nat.{ℕ, suc, _+_, _*_, _/_, _≤_, _<_}
 use native.Mathlib.Numerals.{add-one}
 use native.Mathlib.Omega.{arith}

@@ -1,4 +1,4 @@
--- What settings that are not refused say of a record. Used by proofs; no exported promise names it.
+-- What settings that are not refused say of a record.
 use Prim.Native.Nat.{ℕ, _<_}
 use native.Mathlib.Omega.{arith}
 use mathlib.Core.Path.{_≡_, ap, sym, _∙_}

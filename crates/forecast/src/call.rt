@@ -1,4 +1,4 @@
-// The call.
+// The forecast: what a list with some begins will need.
 use crate::Forecast;
 use crate::begins::begins_refusal;
 use base::as_index;
@@ -6,8 +6,8 @@ use calls::Refusal;
 use refusals::before::of_bytes;
 use refusals::before::settings;
 use refusals::numbers::accepted;
-use tree::layout::height_for;
-use tree::layout::words_needed;
+use table::layout::height_for;
+use table::layout::words_needed;
 ghost use mathlib.Core.Path.{_≡_};
 ghost use Prim.Native.Nat.{_≤_};
 ghost use Rattle.tree.specs.Shape.{Shape};

@@ -16,7 +16,7 @@ use Rattle.record.specs.AnswerRecords.{answerSize, answerBytes}
 use Rattle.calls.specs.CheckLog.{sameBytes}
 use Rattle.calls.specs.LogVerdict.{recordAt}
 use Rattle.log.specs.Contracts.Leading.{leading, leadingOf, countAfter}
-use Rattle.record.proofs.Cuts.{cut-at}
+use Rattle.encoding.proofs.Cuts.{cut-at}
 use Rattle.log.proofs.Cuts.{recordsOf, records-length, no-record}
 
 -- a record counts, and those after it, only if it is equal

@@ -6,10 +6,10 @@ use mathlib.Core.Path.{_≡_, ap, _∙_}
 use mathlib.Core.List.{List}
 use lib.ListN.{length, take, drop, length-drop}
 use lib.Seq.{take-all}
-use Rattle.record.specs.Bytes.{cut}
+use Rattle.encoding.specs.Bytes.{cut}
 use Rattle.record.specs.declared.AnswerRecord.{AnswerRecord}
 use Rattle.record.specs.AnswerRecords.{answerSize, answerBytes}
-use Rattle.record.proofs.Cuts.{cut-length}
+use Rattle.encoding.proofs.Cuts.{cut-length}
 use Rattle.record.proofs.Lengths.{answer-length}
 use Rattle.calls.specs.CheckLog.{sameBytes}
 use Rattle.calls.specs.LogVerdict.{recordAt}

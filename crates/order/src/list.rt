@@ -1,12 +1,12 @@
 // The root order, written as order records: root block by root block, each opened down to the leaves.
 use crate::Listing;
 use crate::Subtree;
+use node_parts::blocks;
 use record::OrderRecord;
 use record::order_records;
+use table::access;
+use table::layout;
 use tree::Kind;
-use tree::access;
-use tree::blocks;
-use tree::layout;
 ghost use mathlib.Core.Path.{_≡_};
 ghost use mathlib.Core.List.{List, _++_};
 ghost use Prim.Native.Nat.{ℕ, _-_, _≤_};

@@ -1,7 +1,7 @@
 // The last root block, and how long the list of the root order is.
 use base::as_index;
-use tree::access;
-use tree::heads;
+use node_parts::heads;
+use table::access;
 ghost use mathlib.Core.Path.{_≡_};
 ghost use mathlib.Core.List.{List};
 ghost use Prim.Native.Nat.{ℕ, _≤_};

@@ -1,5 +1,4 @@
--- A record in the loop of `play` that is not a step: it is ill-formed, or a begin. Used by proofs; no exported promise
--- names it.
+-- A record in the loop of `play` that is not a step: it is ill-formed, or a begin.
 use Prim.Native.Nat.{ℕ, _+_, _*_, _≤_, _<_}
 use native.Mathlib.Omega.{arith}
 use mathlib.Core.Path.{_≡_, refl, ap, sym, _∙_, subst}
@@ -8,9 +7,9 @@ use mathlib.Core.Logic.{_≢_}
 use mathlib.Core.List.{List}
 use lib.ListN.{length, take, drop, getD}
 use Rattle.record.specs.declared.StepRecord.{StepRecord}
-use Rattle.record.specs.Bytes.{numberOf}
+use Rattle.encoding.specs.Bytes.{numberOf}
 use Rattle.record.specs.StepRecords.{isStep, stepRecord, illFormed}
-use Rattle.record.proofs.ByteNumbers.{Bytes, drop-bytes, take-bytes, bytes-below}
+use Rattle.encoding.proofs.ByteNumbers.{Bytes, drop-bytes, take-bytes, bytes-below}
 use Rattle.tree.specs.Shape.{processes, shapeFor}
 use Rattle.steps.specs.declared.Operation.{Operation}
 use Rattle.steps.specs.declared.Process.{Process}

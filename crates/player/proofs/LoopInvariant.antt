@@ -1,4 +1,4 @@
--- What the loop of `play` keeps, and what each record needs and leaves. Used by proofs; no exported promise names it.
+-- What the loop of `play` keeps, and what each record needs and leaves.
 use Prim.Native.Nat.{ℕ, _+_, _*_, _≤_, _<_}
 use native.Mathlib.Omega.{arith}
 use mathlib.Core.Path.{_≡_, refl, sym, _∙_, subst}

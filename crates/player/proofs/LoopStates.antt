@@ -1,4 +1,4 @@
--- A call of `play`, the state of its loop, and what is said of both. Used by proofs; no exported promise names it.
+-- A call of `play`, the state of its loop, and what is said of both.
 use Prim.Native.Nat.{ℕ, _+_, _-_, _/_}
 use mathlib.Core.List.{List}
 use lib.ListN.{length, take, set, replicate}

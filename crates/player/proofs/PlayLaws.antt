@@ -1,4 +1,4 @@
--- A run of some records and one more, by what that one does. Used by proofs; no exported promise names it.
+-- A run of some records and one more, by what that one does.
 use Prim.Native.Nat.{ℕ, _+_, _*_, _-_, _≤_}
 use mathlib.Core.Path.{_≡_, ap, sym, _∙_, subst}
 use mathlib.Core.Bool.{true, false}
@@ -39,31 +39,31 @@ module _ (s : Shape) (room : ℕ) (rs : List StepRecord) (going : play s room rs
   g = play s room rs
 
   -- the answer bytes left
-  abbrev pub leftOf : ℕ
-  leftOf = room - 16 * length (g .answers)
+  abbrev pub roomLeft : ℕ
+  roomLeft = room - 16 * length (g .answers)
 
   on : accepted (g .refusal) ≡ true
   unfolding accepted refusalNumber
   on = ap accepted going
 
-  pub result-refused : (n : Memory) (x : Refusal) → ResultOf s leftOf (g .taken) (g .machine) r n (Refused x) → play s room (rs ++ (r ∷ [])) ≡ refusing g x
+  pub result-refused : (n : Memory) (x : Refusal) → ResultOf s roomLeft (g .taken) (g .machine) r n (Refused x) → play s room (rs ++ (r ∷ [])) ≡ refusing g x
   unfolding answerSize
   result-refused n x t = play-refused s room rs r on (ap accepted (t .0) ∙ t .1) [] ∙ ap (refusing g) (t .0)
 
   -- a record that is accepted: the machine and the answers are those that it leaves
-  taken-as : accepted (recordRefusal s leftOf (processOf (g .machine) (r .process)) r) ≡ true → (m : Machine) → takeRecord s (g .machine) (nextAfter (g .taken) r) ≡ m
+  taken-as : accepted (recordRefusal s roomLeft (processOf (g .machine) (r .process)) r) ≡ true → (m : Machine) → takeRecord s (g .machine) (nextAfter (g .taken) r) ≡ m
       → (xs : List AnswerRecord) → recordAnswers s (g .machine) r ≡ xs
       → play s room (rs ++ (r ∷ [])) ≡ record { machine = m; answers = g .answers ++ xs; taken = g .taken + 1; refusal = None }
   unfolding answerSize taking
   taken-as ok m em xs ea = play-taken s room rs r on ok ∙ rw (em, ea)
 
-  pub result-moved : (n : Memory) (q : Process) → ResultOf s leftOf (g .taken) (g .machine) r n (Moved q)
+  pub result-moved : (n : Memory) (q : Process) → ResultOf s roomLeft (g .taken) (g .machine) r n (Moved q)
       → play s room (rs ++ (r ∷ [])) ≡ record { machine = withProcess (g .machine) (r .process) q n; answers = g .answers; taken = g .taken + 1; refusal = None }
   result-moved n q t =
       taken-as (t .0) _ (t .2) [] (t .1)
       ∙ ap (λ (x : List AnswerRecord). record { machine = withProcess (g .machine) (r .process) q n; answers = x; taken = g .taken + 1; refusal = None }) (append-nil (g .answers))
 
-  pub result-finished : (n : Memory) (o : Operation) → ResultOf s leftOf (g .taken) (g .machine) r n (Finished o)
+  pub result-finished : (n : Memory) (o : Operation) → ResultOf s roomLeft (g .taken) (g .machine) r n (Finished o)
       → play s room (rs ++ (r ∷ []))
       ≡ record {
         machine = withProcess (g .machine) (r .process) (rested (processOf (g .machine) (r .process))) n;

@@ -1,4 +1,4 @@
--- The records played so far: what the loop keeps of a run that goes on. Used by proofs; no exported promise names it.
+-- The records played so far: what the loop keeps of a run that goes on.
 use Prim.Native.Nat.{ℕ, zero, suc, _+_, _*_, _-_, _≤_, _<_}
 use native.Mathlib.Numerals.{add-one}
 use native.Mathlib.Omega.{arith}

@@ -1,4 +1,4 @@
--- What one record does to the process that it names and to the memory. Used by proofs; no exported promise names it.
+-- What one record does to the process that it names and to the memory.
 use Prim.Native.Nat.{ℕ}
 use mathlib.Core.Path.{_≡_}
 use mathlib.Core.Bool.{true, false}

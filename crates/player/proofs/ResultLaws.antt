@@ -1,4 +1,4 @@
--- What one record does, by the status of the process that it names. Used by proofs; no exported promise names it.
+-- What one record does, by the status of the process that it names.
 use Prim.Native.Nat.{ℕ, _+_, _≤_, _<_}
 use mathlib.Core.Path.{_≡_, refl, ap, _∙_}
 use mathlib.Core.Bool.{true, false, _&&_}

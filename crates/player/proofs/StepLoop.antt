@@ -1,4 +1,4 @@
--- A step record in the loop of `play`: what each step needs and leaves. Used by proofs; no exported promise names it.
+-- A step record in the loop of `play`: what each step needs and leaves.
 use Prim.Native.Nat.{ℕ, _+_, _*_, _%_, _≤_, _<_}
 use native.Mathlib.Nat.{mod-eq-of-lt}
 use native.Mathlib.Omega.{arith}
@@ -7,7 +7,7 @@ use mathlib.Core.Bool.{false}
 use mathlib.Core.List.{List, []}
 use lib.ListN.{length, take, drop, getD}
 use Rattle.record.specs.declared.AnswerRecord.{AnswerRecord}
-use Rattle.record.specs.Bytes.{numberOf}
+use Rattle.encoding.specs.Bytes.{numberOf}
 use Rattle.record.specs.AnswerRecords.{answerSize}
 use Rattle.record.specs.StepRecords.{isStep, stepRecord, illFormed}
 use Rattle.tree.specs.Shape.{Shape, processes, leafOf}
@@ -21,7 +21,7 @@ use Rattle.steps.specs.Process.{idle}
 use Rattle.steps.specs.Rules.{Stepped, step, goTelling, go}
 use Rattle.tree.specs.Contracts.Access.{Begins}
 use Rattle.steps.specs.Contracts.Ready.{Ready}
-use Rattle.stepping.specs.Contracts.Next.{PartsBegin, Fits, FitsLeaf, operationIn, stepIn, Moves}
+use Rattle.stepping.specs.Contracts.Next.{PartsBegin, Fits, FitsLeaf, operationIn, stepIn, Moves, NextByHeads, NextByTable}
 use Rattle.steps.specs.Contracts.Operations.{rested}
 use Rattle.tree.proofs.NodeReads.{begins}
 use Rattle.steps.specs.Machine.{isIdle, isQ, stepped}
@@ -163,6 +163,15 @@ module _ {c : Call} {t : State} {i first j : ℕ} (w : StepAt c t i first j) whe
     step-moves is goes table heads r eh et left =
         telling-moves is goes table heads r eh et
         (λ told ready begins. let e = left told ready begins in (e .0 ∙ ap (stepped q) (sym (e .1)), ap (λ (z : Stepped). z .memory) (e .1)))
+
+    -- of a step that looks at heads alone, and of one that looks at the table alone
+    pub heads-move : {y : Step} → x ≡ y → isQ y ≡ false → (heads : List ℕ) (r : Process) → length heads ≡ length (t .heads)
+        → (stepIn (q .status) ≡ y → NextByHeads (t .heads) heads q r) → LoopInvariant c (afterMove t j r (memoryOf (t .table) heads)) (i + 1)
+    heads-move is goes heads r eh next = step-moves is goes (t .table) heads r eh refl (λ told _ _. let e = next told in (e .0, e .1 _ _ _ _ _))
+
+    pub table-moves : {y : Step} → x ≡ y → isQ y ≡ false → (table : List ℕ) (r : Process) → length table ≡ length (t .table)
+        → (stepIn (q .status) ≡ y → NextByTable (i + 1) (c .starts) (t .table) table q r) → LoopInvariant c (afterMove t j r (memoryOf table (t .heads))) (i + 1)
+    table-moves is goes table r et next = step-moves is goes table (t .heads) r refl et (λ told _ begins. let e = next told in (e .0, e .1 _ _ _ _ begins))
 
   -- Q
   module _ {o : Operation} (finish-busy : q .status ≡ Busy o Q) where

@@ -1,4 +1,4 @@
--- What a step record does, told of the process as it is given. Used by proofs; no exported promise names it.
+-- What a step record does, told of the process as it is given.
 use Prim.Native.Nat.{ℕ, _+_, _≤_, _<_}
 use mathlib.Core.Path.{_≡_, ap, _∙_, subst}
 use mathlib.Core.Bool.{true, false}

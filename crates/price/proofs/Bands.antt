@@ -4,8 +4,8 @@ use mathlib.Core.Path.{_≡_}
 use mathlib.Core.List.{List, _∷_}
 use lib.ListN.{length, take, drop}
 use lib.Seq.{drop-cons}
-use Rattle.record.specs.Bytes.{numberOf}
-use Rattle.record.proofs.Cuts.{read-length, read-at}
+use Rattle.encoding.specs.Bytes.{numberOf}
+use Rattle.encoding.proofs.Cuts.{read-length, read-at}
 use Rattle.price.specs.declared.Band.{Band}
 use Rattle.price.specs.Sheet.{bandSize, band, bands, bandOf}
 

@@ -4,7 +4,7 @@ use mathlib.Core.Bool.{Bool, true, _&&_}
 use mathlib.Core.List.{List, [], _∷_, map}
 use lib.ListN.{length, getD, take, drop}
 use lib.Dec.{ltb, leb}
-use Rattle.record.specs.Bytes.{numberOf, cut}
+use Rattle.encoding.specs.Bytes.{numberOf, cut}
 use Rattle.price.specs.declared.Band.{Band}
 
 -- the bytes of a band's record

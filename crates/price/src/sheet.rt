@@ -1,6 +1,6 @@
 // The bands of a sheet, and whether its ends and its prices are allowed.
 use crate::Band;
-use record::bytes::word_at;
+use encoding::word_at;
 ghost use mathlib.Core.Path.{_≡_};
 ghost use Prim.Native.Nat.{_+_, _*_, _≤_};
 ghost use lib.ListN.{length, take, drop};

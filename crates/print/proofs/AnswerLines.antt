@@ -8,12 +8,12 @@ use mathlib.Core.List.{List, [], _∷_, _++_, flatMap, append-nil}
 use lib.ListN.{length, take, drop, length-append}
 use lib.Seq.{drop-drop}
 use Rattle.base.proofs.Gather.{flatMap-append}
-use Rattle.record.specs.Bytes.{cut}
+use Rattle.encoding.specs.Bytes.{cut}
 use Rattle.record.specs.AnswerRecords.{answerSize}
 use Rattle.record.specs.ReadAnswers.{answerRecord}
 use Rattle.print.specs.Lines.{answerLine, lastLine}
 use Rattle.print.specs.Printed.{answerLines}
-use Rattle.record.proofs.ByteNumbers.{Bytes, drop-bytes, take-bytes}
+use Rattle.encoding.proofs.ByteNumbers.{Bytes, drop-bytes, take-bytes}
 use Rattle.print.proofs.Lengths.{line-most, last-most}
 
 cut-more : (size n : ℕ) (bs : List ℕ) → cut size (suc n) bs ≡ cut size n bs ++ (take size (drop (size * n) bs) ∷ [])

@@ -1,12 +1,14 @@
 -- What is printed of an input, from what is read of it.
-use Prim.Native.Nat.{ℕ, _-_, _≤_, _<_, min}
+use Prim.Native.Nat.{ℕ, _+_, _-_, _≤_, _<_, min}
 use native.Mathlib.Decide.{decLt}
 use native.Mathlib.Omega.{arith}
 use mathlib.Core.Path.{_≡_, ap, sym, _∙_}
 use mathlib.Core.List.{List, [], _∷_, _++_, append-nil}
-use lib.ListN.{length, replicate, length-take, length-drop, drop-of-length-le}
-use lib.Seq.{take-all, take-at, drop-at}
+use lib.ListN.{length, take, drop, replicate, length-take, length-drop, drop-of-length-le}
+use lib.Seq.{sets-eq, take-all, take-at, drop-at}
 use borrow.Author.Tests.{lt-ltb, le-ltb}
+use Rattle.base.specs.Contracts.Stored.{Stored}
+use Rattle.base.proofs.Stored.{stored-length}
 use Rattle.calls.specs.Run.{run}
 use Rattle.print.specs.Lines.{longLine}
 use Rattle.print.specs.Printed.{ReadFrom, runText, printRun}
@@ -43,3 +45,9 @@ module _ (records : List ℕ) (most : length records ≤ 65536) where
             first = sym (take-at records (b ∷ bs) 65536 full);
             after = rw (drop-at records (b ∷ bs) 65536 full) (sym (take-all 1 (b ∷ bs) one));
           }
+
+-- text that is stored from the start on is what the buffer begins with
+pub text-stored : {before xs after : List ℕ} {next : ℕ} → Stored before 0 xs after next → next ≤ length after → take next after ≡ xs
+text-stored {before} {xs} {after} {next} s fits =
+    ap (take next) (s .bytes ∙ sets-eq xs before 0 (omega (arith, s .end, stored-length s)))
+    ∙ take-at xs (drop (0 + length xs) before) next (omega (arith, s .end))

@@ -9,8 +9,8 @@ use Rattle.base.proofs.Cases.{both}
 use Rattle.record.specs.declared.Reply.{Reply}
 use Rattle.record.specs.declared.Reply.the-variants.{Done, Value, Nothing}
 use Rattle.record.specs.declared.AnswerRecord.{AnswerRecord}
-use Rattle.record.specs.Bytes.{numberOf}
-use Rattle.record.proofs.ByteNumbers.{Bytes, drop-bytes, bytes-below}
+use Rattle.encoding.specs.Bytes.{numberOf}
+use Rattle.encoding.proofs.ByteNumbers.{Bytes, drop-bytes, bytes-below}
 use Rattle.text.specs.Characters.{ascii}
 use Rattle.text.specs.Decimal.{numberField}
 use Rattle.text.proofs.Digits.{number-most}

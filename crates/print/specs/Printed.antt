@@ -5,7 +5,7 @@ use mathlib.Core.List.{List, _++_, flatMap}
 use lib.ListN.{length, take, drop, replicate}
 use lib.Dec.{ltb}
 use Rattle.base.specs.Choice.{if_then_else_}
-use Rattle.record.specs.Bytes.{cut}
+use Rattle.encoding.specs.Bytes.{cut}
 use Rattle.record.specs.AnswerRecords.{answerSize}
 use Rattle.calls.specs.Run.{RunResult, run}
 use Rattle.record.specs.ReadAnswers.{answerRecord}

@@ -6,8 +6,8 @@ use text::put_text;
 ghost use mathlib.Core.Path.{_≡_};
 ghost use mathlib.Core.List.{List, _++_};
 ghost use Prim.Native.Nat.{ℕ, _<_};
+ghost use lib.ListN.{take};
 ghost use Rattle.io.specs.Counts.{Counts};
-ghost use Rattle.base.specs.Contracts.Stored.{Stored};
 ghost use Rattle.print.specs.Printed.{printRun, ReadFrom};
 
 // Writes the text of every input of which this was read: `records`, the bytes that the record buffer holds, and `next`,
@@ -16,7 +16,7 @@ ghost use Rattle.print.specs.Printed.{printRun, ReadFrom};
 fn print_input(records: &[u8], next: &[u8], out: &mut [u8; 4836]) -> usize
     requires { ⌜ ReadFrom (now records ++ now next) (now records) (now next) ⌝ }
     ensures { λ r. ⌜ Counts r (now (out .exit)) ⌝ }
-    ensures { λ r. ⌜ ((input : List ℕ) → ReadFrom input (now (records .entry)) (now (next .entry)) → Stored (now (out .entry)) 0 (printRun input) (now (out .exit)) r) ⌝ }
+    ensures { λ r. ⌜ ((input : List ℕ) → ReadFrom input (now (records .entry)) (now (next .entry)) → take r (now (out .exit)) ≡ printRun input) ⌝ }
 {
     if next.len() != 0 {
         return put_text(b"long\n", out, 0);

@@ -1,5 +1,4 @@
--- What check a log leaves, by whether the call is turned down or a record refused. Used by proofs; no exported promise
--- names it.
+-- What check a log leaves, by whether the call is turned down or a record refused.
 use Prim.Native.Nat.{ℕ, _*_, _<_}
 use native.Mathlib.Omega.{arith}
 use mathlib.Core.Path.{_≡_, sym, _∙_, subst}

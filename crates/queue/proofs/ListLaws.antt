@@ -1,5 +1,4 @@
 -- What list the order leaves, by whether the call is turned down, a record refused, or the list longer than the output.
--- Used by proofs; no exported promise names it.
 use Prim.Native.Nat.{ℕ, _*_, _≤_, _<_}
 use mathlib.Core.Path.{_≡_, ap, sym, _∙_, subst}
 use mathlib.Core.Bool.{true, false}

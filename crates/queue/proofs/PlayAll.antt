@@ -1,5 +1,4 @@
--- Records played without an answer buffer: there is room for the answer of each, and all that they leave. Used by
--- proofs; no exported promise names it.
+-- Records played without an answer buffer: there is room for the answer of each, and all that they leave.
 use Prim.Native.Nat.{ℕ, _*_}
 use native.Mathlib.Omega.{arith}
 use mathlib.Core.Path.{_≡_, ap, sym, _∙_}

@@ -1,4 +1,4 @@
--- What Run leaves, by whether the call is turned down. Used by proofs; no exported promise names it.
+-- What Run leaves, by whether the call is turned down.
 use Prim.Native.Nat.{ℕ, _*_}
 use mathlib.Core.Path.{_≡_, sym, _∙_, subst}
 use mathlib.Core.Bool.{true, false}

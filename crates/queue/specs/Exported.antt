@@ -1,6 +1,6 @@
--- The results of the exported calls, and the buffers that they leave.
+-- What the exported calls leave: the results that they return and the buffers, each as one result of the definitions, so
+-- that a promise of all of it is one equation.
 use Prim.Native.Nat.{ℕ}
-use mathlib.Core.Path.{_≡_}
 use mathlib.Core.List.{List}
 use Rattle.calls.specs.Run.{RunResult}
 use Rattle.calls.specs.ListOrder.{ListResult}
@@ -11,28 +11,18 @@ use Rattle.queue.specs.declared.OtqList.{OtqList}
 use Rattle.queue.specs.declared.OtqCheck.{OtqCheck}
 use Rattle.queue.specs.declared.OtqForecast.{OtqForecast}
 
--- r, the table and the answer bytes are what Run leaves
-pub record RunExport (e : RunResult) (r : OtqRun) (table answers : List ℕ) : Type 0 where
-  pub refusal : r .refusal ≡ e .refusal
-  pub taken : r .taken ≡ e .taken
-  pub answered : r .answers ≡ e .answered
-  pub words : table ≡ e .table
-  pub bytes : answers ≡ e .answers
+-- of Run: the table and the answer bytes too
+unfoldable pub runExported : OtqRun → List ℕ → List ℕ → RunResult
+runExported r table answers = record { refusal = r .refusal; taken = r .taken; answered = r .answers; table = table; answers = answers }
 
--- r, the table and the output are what list the order leaves
-pub record ListExport (e : ListResult) (r : OtqList) (table output : List ℕ) : Type 0 where
-  pub refusal : r .refusal ≡ e .refusal
-  pub size : r .length ≡ e .length
-  pub words : table ≡ e .table
-  pub bytes : output ≡ e .output
+-- of list the order: the table and the output too
+unfoldable pub listExported : OtqList → List ℕ → List ℕ → ListResult
+listExported r table output = record { refusal = r .refusal; length = r .length; table = table; output = output }
 
--- r and the table are what check a log leaves
-pub record CheckExport (e : CheckResult) (r : OtqCheck) (table : List ℕ) : Type 0 where
-  pub refusal : r .refusal ≡ e .refusal
-  pub verdict : r .verdict ≡ e .verdict
-  pub index : r .index ≡ e .index
-  pub words : table ≡ e .table
+-- of check a log: the table too
+unfoldable pub checkExported : OtqCheck → List ℕ → CheckResult
+checkExported r table = record { refusal = r .refusal; verdict = r .verdict; index = r .index; table = table }
 
--- r as the forecast that it tells
+-- of the forecast, which is lent no buffer to write
 unfoldable pub forecastExported : OtqForecast → ForecastResult
 forecastExported r = record { refusal = r .refusal; words = r .words; answerBytes = r .«answer_bytes»; records = r .records }

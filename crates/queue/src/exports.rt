@@ -27,7 +27,7 @@ ghost use Rattle.calls.specs.Demand3.{Demand3};
 ghost use Rattle.calls.specs.Forecast.{forecast as forecastOf, Forecasts};
 ghost use Rattle.superblocks.specs.Supers.{SupersNear};
 ghost use Rattle.block_numbers.specs.BlockNumbers.{NumbersTell};
-ghost use Rattle.queue.specs.Exported.{RunExport, ListExport, CheckExport, forecastExported};
+ghost use Rattle.queue.specs.Exported.{runExported, listExported, checkExported, forecastExported};
 
 // Run.
 #[no_mangle]
@@ -38,7 +38,7 @@ pub extern "C" fn otq_run(
     table: &mut [u32],
     answers: &mut [u8],
 ) -> OtqRun
-    ensures rules { λ r. ⌜ RunExport (runOf p l (now (records .entry)) (now (table .entry)) (now (answers .entry))) r (now (table .exit)) (now (answers .exit)) ⌝ }
+    ensures rules { λ r. ⌜ runExported r (now (table .exit)) (now (answers .exit)) ≡ runOf p l (now (records .entry)) (now (table .entry)) (now (answers .entry)) ⌝ }
     ensures demand3 { λ r. ⌜ (accepted (callRefusal p l (length (now (table .entry))) (length (now (records .entry)))) ≡ true →
         Demand3 p l (take (r .taken) (stepRecords (now (records .entry)))) (take (answerSize * r .answers) (now (answers .exit))) (take (wordsNeeded (shapeFor p l)) (now (table .exit)))) ⌝ }
     ensures supers { λ r. ⌜ (accepted (callRefusal p l (length (now (table .entry))) (length (now (records .entry)))) ≡ true →
@@ -64,7 +64,7 @@ pub extern "C" fn otq_list_order(
     table: &mut [u32],
     output: &mut [u8],
 ) -> OtqList
-    ensures { λ r. ⌜ ListExport (listOrder p l (now (records .entry)) (now (table .entry)) (now (output .entry))) r (now (table .exit)) (now (output .exit)) ⌝ }
+    ensures { λ r. ⌜ listExported r (now (table .exit)) (now (output .exit)) ≡ listOrder p l (now (records .entry)) (now (table .entry)) (now (output .entry)) ⌝ }
 {
     let r = list_order(p, l, records, table, output);
     let why = r.refusal;
@@ -76,7 +76,7 @@ pub extern "C" fn otq_list_order(
 
 // A verdict as three numbers.
 fn checked(v: Verdict) -> OtqCheck
-    ensures { λ r. ⌜ ((table : List ℕ) → CheckExport (checkedAs v table) r table) ⌝ }
+    ensures { λ r. ⌜ ((table : List ℕ) → checkExported r table ≡ checkedAs v table) ⌝ }
 {
     match v {
         Verdict::Same => OtqCheck {
@@ -106,7 +106,7 @@ pub extern "C" fn otq_check_log(
     log: &[u8],
     table: &mut [u32],
 ) -> OtqCheck
-    ensures rules { λ r. ⌜ CheckExport (checkLog p l (now (records .entry)) (now (log .entry)) (now (table .entry))) r (now (table .exit)) ⌝ }
+    ensures rules { λ r. ⌜ checkExported r (now (table .exit)) ≡ checkLog p l (now (records .entry)) (now (log .entry)) (now (table .entry)) ⌝ }
     ensures judges { λ r. ⌜ Judges p l (length (now (table .entry))) (now (records .entry)) (now (log .entry)) (r .verdict) (r .index) ⌝ }
 {
     checked(check_log(p, l, records, log, table))

@@ -1,4 +1,4 @@
-// Run.
+// Run: plays a list and writes its answers.
 use crate::Ran;
 use base::as_index;
 use call_player::call::play_call;

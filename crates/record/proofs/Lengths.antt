@@ -1,19 +1,14 @@
--- How many bytes a number, an answer record, a log and an order record have.
-use Prim.Native.Nat.{ℕ, zero, suc, _*_}
+-- How many bytes an answer record, a log and an order record have.
+use Prim.Native.Nat.{_*_}
 use native.Mathlib.Omega.{arith}
-use mathlib.Core.Path.{_≡_, refl, ap, _∙_}
+use mathlib.Core.Path.{_≡_, refl, _∙_}
 use mathlib.Core.List.{List, [], _∷_, flatMap}
 use lib.ListN.{length, length-append}
+use Rattle.encoding.proofs.Lengths.{bytes-length}
 use Rattle.record.specs.declared.AnswerRecord.{AnswerRecord}
 use Rattle.record.specs.declared.OrderRecord.{OrderRecord}
-use Rattle.record.specs.Bytes.{bytesOf}
 use Rattle.record.specs.AnswerRecords.{answerSize, answerBytes, logBytes}
 use Rattle.record.specs.OrderRecords.{orderBytes}
-
-pub bytes-length : (n x : ℕ) → length (bytesOf n x) ≡ n
-unfolding bytesOf
-bytes-length zero x = refl
-bytes-length (suc n) x = ap suc (bytes-length n _)
 
 pub answer-length : (a : AnswerRecord) → length (answerBytes a) ≡ answerSize
 unfolding answerBytes answerSize

@@ -1,18 +1,12 @@
--- Answer records and order records whose fields fit their bytes are read as they were written; so are the records of a
--- list of them.
-use Prim.Native.Nat.{ℕ, zero, suc, _/_, _^_, _<_}
-use native.Mathlib.Nat.{pow-succ'}
-use native.Mathlib.Omega.{arith}
+-- Answer records and order records whose fields fit their bytes are read as they were written.
+use Prim.Native.Nat.{_^_, _<_}
 use mathlib.Core.Path.{_≡_, refl, ap}
-use mathlib.Core.List.{List, [], _∷_, _++_, map, flatMap, append-assoc}
-use lib.ListN.{length}
-use lib.Seq.{take-at, drop-at}
-use Rattle.base.specs.Members.{All}
+use Rattle.encoding.specs.Bytes.{bytesOf, numberOf}
+use Rattle.encoding.proofs.ReadBack.{number-back}
 use Rattle.record.specs.declared.Reply.{Reply}
 use Rattle.record.specs.declared.Reply.the-variants.{Done, Value, Nothing}
 use Rattle.record.specs.declared.AnswerRecord.{AnswerRecord}
 use Rattle.record.specs.declared.OrderRecord.{OrderRecord}
-use Rattle.record.specs.Bytes.{bytesOf, numberOf, cut}
 use Rattle.record.specs.AnswerRecords.{replyKind, replyValue, answerBytes}
 use Rattle.record.specs.ReadAnswers.{replyFor, answerRecord}
 use Rattle.record.specs.OrderRecords.{orderBytes}
@@ -26,11 +20,6 @@ pub record Fitting (a : AnswerRecord) : Type 0 where
   pub value : replyValue (a .reply) < 2 ^ 32
   pub serial : a .serial < 2 ^ 32
   pub block : a .block < 2 ^ 32
-
-pub number-back : (n x : ℕ) → x < 256 ^ n → numberOf (bytesOf n x) ≡ x
-unfolding bytesOf numberOf
-number-back zero x h = omega arith
-number-back (suc n) x h = omega (arith, number-back n (x / 256) (omega (arith, pow-succ' 256 n)))
 
 reply-back : (x : Reply) → replyValue x < 2 ^ 32 → replyFor (numberOf (bytesOf 1 (replyKind x))) (numberOf (bytesOf 4 (replyValue x))) ≡ x
 unfolding replyFor replyKind replyValue bytesOf numberOf
@@ -67,17 +56,3 @@ order-back x f =
       serial = number-back 2 (x .serial) (f .serial) i;
       block = number-back 4 (x .block) (f .block) i;
     }
-
--- records of `size` bytes each, read from the bytes that they were written as
-pub list-back : {A : Type 0} (size : ℕ) (write : A → List ℕ) (read : List ℕ → A) → ((x : A) → length (write x) ≡ size)
-    → (xs : List A) (rest : List ℕ) → All (λ x. read (write x) ≡ x) xs → map read (cut size (length xs) (flatMap write xs ++ rest)) ≡ xs
-unfolding cut flatMap
-list-back size write read long [] rest back = refl
-list-back size write read long (x ∷ xs) rest back =
-    rw (
-      append-assoc (write x) (flatMap write xs) rest,
-      take-at (write x) (flatMap write xs ++ rest) size (long x),
-      drop-at (write x) (flatMap write xs ++ rest) size (long x),
-      back .0,
-    )
-    (ap (λ l. x ∷ l) (list-back size write read long xs rest (back .1)))

@@ -4,7 +4,7 @@ use mathlib.Core.List.{List, _++_, flatMap}
 use Rattle.record.specs.declared.Reply.{Reply}
 use Rattle.record.specs.declared.Reply.the-variants.{Done, Value, Nothing}
 use Rattle.record.specs.declared.AnswerRecord.{AnswerRecord}
-use Rattle.record.specs.Bytes.{bytesOf}
+use Rattle.encoding.specs.Bytes.{bytesOf}
 
 -- the kinds of an answer: 1 put done, 2 value, 3 none
 unfoldable pub replyKind : Reply → ℕ

@@ -1,4 +1,3 @@
-pub mod Bytes
 pub mod StepRecords
 pub mod AnswerRecords
 pub mod ReadAnswers

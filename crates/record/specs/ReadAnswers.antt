@@ -7,7 +7,7 @@ use Rattle.base.specs.Choice.{if_then_else_}
 use Rattle.record.specs.declared.Reply.{Reply}
 use Rattle.record.specs.declared.Reply.the-variants.{Done, Value, Nothing}
 use Rattle.record.specs.declared.AnswerRecord.{AnswerRecord}
-use Rattle.record.specs.Bytes.{numberOf}
+use Rattle.encoding.specs.Bytes.{numberOf}
 
 -- the reply that a kind and a value stand for: 1 put done, 2 value, 3 none, and Run writes no other kind
 unfoldable pub replyFor : ℕ → ℕ → Reply

@@ -3,7 +3,7 @@ use Prim.Native.Nat.{ℕ}
 use mathlib.Core.List.{List}
 use lib.ListN.{take, drop}
 use Rattle.record.specs.declared.OrderRecord.{OrderRecord}
-use Rattle.record.specs.Bytes.{numberOf}
+use Rattle.encoding.specs.Bytes.{numberOf}
 
 -- the order record that 8 bytes hold
 unfoldable pub readOrder : List ℕ → OrderRecord

@@ -5,7 +5,7 @@ use mathlib.Core.List.{List, map}
 use lib.ListN.{length, take, drop}
 use lib.Dec.{ltb, leb, eqb}
 use Rattle.record.specs.declared.StepRecord.{StepRecord}
-use Rattle.record.specs.Bytes.{numberOf, cut}
+use Rattle.encoding.specs.Bytes.{numberOf, cut}
 
 -- the bytes of a step record
 unfoldable pub stepSize : ℕ

@@ -7,7 +7,6 @@ ghost use Rattle.record.specs.AnswerRecords.{replyKind, replyValue, answ
 ghost use Rattle.record.specs.ReadAnswers.{replyFor, answerRecord};
 use crate::AnswerRecord;
 use crate::Reply;
-use crate::bytes;
 
 pub fn reply_kind(x: Reply) -> u32
     ensures { λ r. ⌜ r ≡ replyKind x ⌝ }
@@ -37,10 +36,10 @@ pub fn put_answer(out: &mut [u8], at: usize, a: AnswerRecord)
 {
     // A field that is an enum is copied before it is passed on.
     let reply = a.reply;
-    bytes::put_four(out, at, a.process, reply_kind(reply), a.steps, a.helps);
-    bytes::put_word(out, at + 4, reply_value(reply));
-    bytes::put_word(out, at + 8, a.serial);
-    bytes::put_word(out, at + 12, a.block);
+    encoding::put_four(out, at, a.process, reply_kind(reply), a.steps, a.helps);
+    encoding::put_word(out, at + 4, reply_value(reply));
+    encoding::put_word(out, at + 8, a.serial);
+    encoding::put_word(out, at + 12, a.block);
 }
 
 // The reply that a kind and a value stand for.
@@ -61,14 +60,14 @@ pub fn answer_record(answers: &[u8], at: usize) -> AnswerRecord
     requires { ⌜ at + 16 ≤ length (now answers) ⌝ }
     ensures { λ r. ⌜ r ≡ answerRecord (take 16 (drop at (now (answers .entry)))) ⌝ }
 {
-    let kind = bytes::byte_at(answers, at + 1);
-    let value = bytes::word_at(answers, at + 4);
+    let kind = encoding::byte_at(answers, at + 1);
+    let value = encoding::word_at(answers, at + 4);
     AnswerRecord {
-        process: bytes::byte_at(answers, at),
+        process: encoding::byte_at(answers, at),
         reply: reply_for(kind, value),
-        steps: bytes::byte_at(answers, at + 2),
-        helps: bytes::byte_at(answers, at + 3),
-        serial: bytes::word_at(answers, at + 8),
-        block: bytes::word_at(answers, at + 12),
+        steps: encoding::byte_at(answers, at + 2),
+        helps: encoding::byte_at(answers, at + 3),
+        serial: encoding::word_at(answers, at + 8),
+        block: encoding::word_at(answers, at + 12),
     }
 }

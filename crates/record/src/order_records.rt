@@ -6,15 +6,14 @@ ghost use lib.Seq.{sets};
 ghost use Rattle.record.specs.OrderRecords.{orderBytes};
 ghost use Rattle.record.specs.ReadOrders.{readOrder};
 use crate::OrderRecord;
-use crate::bytes;
 
 // Stores an order record in the eight bytes from an index on. The caller shows that each field fits its bytes.
 pub fn put_order(out: &mut [u8], at: usize, x: OrderRecord)
     requires { ⌜ (at + 8 ≤ length (now out)) × (x .process < 256) × (x .kind < 256) × (x .serial < 65536) ⌝ }
     ensures { λ _. ⌜ now (out .exit) ≡ sets (now (out .entry)) at (orderBytes x) ⌝ }
 {
-    bytes::put_head(out, at, x.process, x.kind, x.serial);
-    bytes::put_word(out, at + 4, x.block);
+    encoding::put_head(out, at, x.process, x.kind, x.serial);
+    encoding::put_word(out, at + 4, x.block);
 }
 
 // The record in the eight bytes from an index on.
@@ -23,9 +22,9 @@ pub fn order_record(order: &[u8], at: usize) -> OrderRecord
     ensures { λ r. ⌜ r ≡ readOrder (take 8 (drop at (now (order .entry)))) ⌝ }
 {
     OrderRecord {
-        process: bytes::byte_at(order, at),
-        kind: bytes::byte_at(order, at + 1),
-        serial: bytes::half_at(order, at + 2),
-        block: bytes::word_at(order, at + 4),
+        process: encoding::byte_at(order, at),
+        kind: encoding::byte_at(order, at + 1),
+        serial: encoding::half_at(order, at + 2),
+        block: encoding::word_at(order, at + 4),
     }
 }

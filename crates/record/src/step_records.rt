@@ -4,7 +4,6 @@ ghost use Prim.Native.Nat.{_+_, _≤_};
 ghost use lib.ListN.{length, take, drop};
 ghost use Rattle.record.specs.StepRecords.{stepRecord, isBeginPut, illFormed};
 use crate::StepRecord;
-use crate::bytes;
 
 // The record in the eight bytes from an index on.
 pub fn step_record(records: &[u8], at: usize) -> StepRecord
@@ -12,10 +11,10 @@ pub fn step_record(records: &[u8], at: usize) -> StepRecord
     ensures { λ r. ⌜ r ≡ stepRecord (take 8 (drop at (now (records .entry)))) ⌝ }
 {
     StepRecord {
-        process: bytes::byte_at(records, at),
-        kind: bytes::byte_at(records, at + 1),
-        zeros: bytes::half_at(records, at + 2),
-        value: bytes::word_at(records, at + 4),
+        process: encoding::byte_at(records, at),
+        kind: encoding::byte_at(records, at + 1),
+        zeros: encoding::half_at(records, at + 2),
+        value: encoding::word_at(records, at + 4),
     }
 }
 

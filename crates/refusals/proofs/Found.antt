@@ -1,4 +1,4 @@
--- What the code's test of a refusal tells of the definition's. Used by proofs; no exported promise names it.
+-- What the code's test of a refusal tells of the definition's.
 use mathlib.Core.Path.{_≡_, ap, sym, _∙_}
 use mathlib.Core.Bool.{Bool, true, false, not}
 use borrow.Author.Tests.{not-true, not-false}

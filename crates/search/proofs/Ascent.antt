@@ -1,5 +1,5 @@
 -- One level up from a block that holds an operation: what finding the parent's block needs, and what holds of the block
--- found. Used by proofs; no exported promise names it.
+-- found.
 use Prim.Native.Nat.{ℕ, zero, suc, _+_, _-_, _%_, _≤_, _<_}
 use native.Mathlib.Omega.{arith}
 use mathlib.Core.Path.{_≡_}

@@ -1,5 +1,4 @@
--- The ends of an inner node's block, read by the starts: places of the children, with the totals there. Used by proofs;
--- no exported promise names it.
+-- The ends of an inner node's block, read by the starts: places of the children, with the totals there.
 use Prim.Native.Nat.{ℕ}
 use mathlib.Core.Path.{_≡_, ap}
 use mathlib.Core.List.{List}

@@ -1,5 +1,5 @@
 -- The climb by node numbers: what each level of it needs and gives, at the root and below it, without and with the
--- count. Used by proofs; no exported promise names it.
+-- count.
 use Prim.Native.Nat.{ℕ, suc, _+_, _-_, _/_, _≤_, _<_}
 use native.Mathlib.Omega.{arith}
 use mathlib.Core.Path.{_≡_, sym, ap, subst, _∙_}

@@ -1,5 +1,5 @@
 -- One level down from a block that has a put: the child and the number there, the search there, and the put in the
--- subblock found. Used by proofs; no exported promise names it.
+-- subblock found.
 use Prim.Native.Nat.{ℕ, zero, suc, _+_, _-_, _≤_, _<_}
 use native.Mathlib.Omega.{arith}
 use native.Mathlib.Decide.{decLe}

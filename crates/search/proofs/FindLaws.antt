@@ -1,5 +1,4 @@
--- Finding a put, at heights and places as the code has them: in an inner node, in a leaf, and in the root. Used by
--- proofs; no exported promise names it.
+-- Finding a put, at heights and places as the code has them: in an inner node, in a leaf, and in the root.
 use Prim.Native.Nat.{ℕ, zero, suc, _-_, _≤_, _<_}
 use native.Mathlib.Omega.{arith}
 use mathlib.Core.Path.{_≡_, refl, sym, ap, subst}

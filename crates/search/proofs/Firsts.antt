@@ -1,5 +1,4 @@
--- Search of a part: there is a place to find, and the place that the halving finds is the one. Used by proofs; no
--- exported promise names it.
+-- Search of a part: there is a place to find, and the place that the halving finds is the one.
 use Prim.Native.Nat.{ℕ, _-_, _≤_, _<_}
 use native.Mathlib.Omega.{arith}
 use native.Mathlib.Decide.{ℕ-discrete}

@@ -1,5 +1,4 @@
--- An operation that the root's blocks hold is held below the head of every node above its leaf. Used by proofs; no
--- exported promise names it.
+-- An operation that the root's blocks hold is held below the head of every node above its leaf.
 use Prim.Native.Nat.{ℕ, zero, suc, _-_, _≤_, _<_}
 use native.Mathlib.Omega.{arith}
 use native.Mathlib.Nat.{le-refl}

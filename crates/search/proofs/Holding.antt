@@ -1,5 +1,5 @@
 -- Which block of a node holds an operation, and its number there: the invariants of the climb, without and with the
--- count. Used by proofs; no exported promise names it.
+-- count.
 use Prim.Native.Nat.{ℕ, _+_, _-_, _≤_, _<_}
 use mathlib.Core.Path.{_≡_}
 use mathlib.Core.List.{List}

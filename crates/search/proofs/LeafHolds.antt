@@ -1,4 +1,4 @@
--- Where the climb begins: an operation's own block in its leaf. Used by proofs; no exported promise names it.
+-- Where the climb begins: an operation's own block in its leaf.
 use Prim.Native.Nat.{ℕ, suc, _-_, _<_}
 use native.Mathlib.Omega.{arith}
 use native.Mathlib.Nat.{le-refl}

@@ -1,5 +1,5 @@
 -- The number of an operation in a node, counted from the node's first block on, and its number in the parent: they
--- differ by the sibling's total where its operations stop to come before. Used by proofs; no exported promise names it.
+-- differ by the sibling's total where its operations stop to come before.
 use Prim.Native.Nat.{ℕ, suc, _+_, _-_, _≤_, _<_}
 use native.Mathlib.Omega.{arith}
 use mathlib.Core.Path.{_≡_}

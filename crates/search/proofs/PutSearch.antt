@@ -1,5 +1,4 @@
--- Search of a node's blocks for a put by its number, counted from the node's first block on. Used by proofs; no
--- exported promise names it.
+-- Search of a node's blocks for a put by its number, counted from the node's first block on.
 use Prim.Native.Nat.{ℕ, zero, suc, _-_, _≤_}
 use native.Mathlib.Omega.{arith}
 use native.Mathlib.Decide.{ℕ-discrete}

@@ -1,5 +1,4 @@
--- Where the climb ends: the root block of an operation, and its number there. Used by proofs; no exported promise names
--- it.
+-- Where the climb ends: the root block of an operation, and its number there.
 use Prim.Native.Nat.{ℕ, suc, _-_, _≤_}
 use native.Mathlib.Omega.{arith}
 use mathlib.Core.Path.{_≡_, sym, ap}

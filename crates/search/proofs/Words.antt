@@ -1,5 +1,4 @@
--- What the words of a node's part are in a sound tree: the ends and the puts of its blocks. Used by proofs; no exported
--- promise names it.
+-- What the words of a node's part are in a sound tree: the ends and the puts of its blocks.
 use Prim.Native.Nat.{ℕ, _+_, _*_, _%_, _≤_}
 use native.Mathlib.Omega.{arith}
 use native.Mathlib.Decide.{ℕ-discrete}

@@ -2,9 +2,9 @@
 use crate::Standing;
 use crate::places::first_place;
 use base::as_index;
+use node_parts::heads::head_of;
+use table::access::block_at;
 use tree::LEFT_WORD;
-use tree::access::block_at;
-use tree::heads::head_of;
 ghost use mathlib.Core.Path.{_≡_};
 ghost use Prim.Native.Nat.{ℕ};
 ghost use Rattle.base.specs.Contracts.Some.{SomeTwo};
@@ -13,8 +13,8 @@ ghost use Rattle.tree.specs.Shape.{Shape};
 ghost use Rattle.search.specs.Contracts.Stands.{Stands, StandsOf, RootBlockIs, StandsAt};
 ghost use Rattle.search.specs.Contracts.Climbing.{Ascends, FirstAbove, Beside, besideOf};
 
-// The block of v's parent that holds v's block `place`: the first whose end towards v reaches it. The superblock word
-// of v's block is a guess only: the parent's head may have been raised after it was read.
+// The block of v's parent that holds v's block `place`: the first whose end towards v reaches it. Super of v's
+// block is a guess only: the parent's head may have been raised after it was read.
 fn holder(heads: &[u32], table: &[u32], starts: &[usize; 17], v: u32, place: u32) -> u32
     requires { ⌜ Ascends (now starts) (now heads) (now table) v place ⌝ }
     ensures { λ r. ⌜ FirstAbove (now (starts .entry)) (now (heads .entry)) (now (table .entry)) v place r ⌝ }

@@ -1,7 +1,7 @@
 // From a put's number in the root order down to its leaf, where its value is.
 use crate::places::first_place;
+use table::access::block_at;
 use tree::PUTS_WORD;
-use tree::access::block_at;
 ghost use mathlib.Core.Path.{_≡_};
 ghost use mathlib.Core.List.{List};
 ghost use Prim.Native.Nat.{ℕ};

@@ -1,8 +1,8 @@
 // Search of a node's places for the first whose word reaches a number.
 use base::as_index;
+use node_parts::bisect;
+use table::access::start_of;
 use tree::BLOCK_WORDS;
-use tree::access::start_of;
-use tree::bisect;
 ghost use mathlib.Core.Path.{_≡_};
 ghost use mathlib.Core.Bool.{true};
 ghost use Prim.Native.Nat.{_+_, _*_, _≤_, _<_};

@@ -1,4 +1,4 @@
--- Which step a process is at, by the number of its name. Used by proofs; no exported promise names it.
+-- Which step a process is at, by the number of its name.
 use Prim.Native.Nat.{ℕ, _+_}
 use mathlib.Core.Path.{_≡_, refl, sym, subst}
 use mathlib.Core.Bool.{false, not}

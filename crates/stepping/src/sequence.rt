@@ -48,7 +48,7 @@ pub fn after_own(a: After, w: Visit) -> Step
     }
 }
 
-// The first step of an advance. A root block has no superblock, so at the root only the head is raised.
+// The first step of an advance. Super of a root block stays 0, so at the root only the head is raised.
 pub fn advance(w: Visit, a: After, v: u32, h: u32) -> Step
     ensures { λ r. ⌜ r ≡ advanceOf w a v h ⌝ }
 {

@@ -1,5 +1,4 @@
 -- An operation takes at most 40H + 1 own steps: each step lowers a bound on those still to take, which is 40H + 1 at A.
--- Used by proofs and by contracts of functions; no exported promise names it.
 use Prim.Native.Nat.{ℕ, zero, suc, _+_, _*_, _-_, _≤_, _<_}
 use native.Mathlib.Omega.{arith}
 use mathlib.Core.Path.{_≡_, refl, ap, _∙_}

@@ -1,5 +1,4 @@
--- The invariant of the machine: the memory's, and each process's. Used by proofs and by contracts of functions; no
--- exported promise names it.
+-- The invariant of the machine: the memory's, and each process's.
 use Prim.Native.Nat.{ℕ, _+_, _≤_, _<_}
 use mathlib.Core.Path.{_≡_}
 use lib.ListN.{length}

@@ -1,4 +1,4 @@
--- What the limits on p and L say of the tree. Used by proofs; no exported promise names it.
+-- What the limits on p and L say of the tree.
 use Prim.Native.Nat.{ℕ, _^_, _≤_}
 use native.Mathlib.Omega.{arith}
 use mathlib.Core.Path.{_≡_, refl, ap, sym}

@@ -1,5 +1,4 @@
--- What is known of a process stays known after a turn of any process. Used by proofs and by contracts of functions; no
--- exported promise names it.
+-- What is known of a process stays known after a turn of any process.
 use Prim.Native.Nat.{ℕ, zero, suc, _-_, _≤_, _<_}
 use native.Mathlib.Omega.{arith}
 use native.Mathlib.Decide.{ℕ-discrete}

@@ -1,5 +1,5 @@
 -- A number for each process by its status, summed over all processes: what a begin and a step do to the sum. What the
--- processes may still take, and how many are inside an operation. Used by proofs; no exported promise names it.
+-- processes may still take, and how many are inside an operation.
 use Prim.Native.Nat.{ℕ, _+_, _≤_, _<_}
 use native.Mathlib.Omega.{arith}
 use mathlib.Core.Path.{_≡_, refl, ap, sym}

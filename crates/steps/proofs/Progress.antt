@@ -1,5 +1,4 @@
--- The process invariant: how far operation b of process k has come, by its stage. Used by proofs and by contracts of
--- functions; no exported promise names it.
+-- The process invariant: how far operation b of process k has come, by its stage.
 use Prim.Native.Nat.{ℕ, suc, _+_, _-_, _≤_, _<_}
 use mathlib.Core.Path.{_≡_}
 use mathlib.Core.Logic.{_⊎_}

@@ -1,5 +1,4 @@
--- The stage of an operation that a step is in, with what the process holds there. Used by proofs and by contracts of
--- functions; no exported promise names it.
+-- The stage of an operation that a step is in, with what the process holds there.
 use Prim.Native.Nat.{ℕ}
 use mathlib.Core.Path.{_≡_, refl}
 use lib.Dec.{eqb}

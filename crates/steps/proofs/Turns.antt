@@ -1,5 +1,5 @@
 -- Every step is one of fourteen turns: what it does to the memory and to the stage. This is where the named steps are
--- read off the rules; the laws above go by turns. Used by proofs; no exported promise names it.
+-- read off the rules; the laws above go by turns.
 use Prim.Native.Nat.{ℕ, _+_, _-_}
 use native.Mathlib.Omega.{arith}
 use mathlib.Core.Path.{_≡_, refl}

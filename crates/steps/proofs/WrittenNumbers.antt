@@ -1,5 +1,4 @@
 -- What a step does to the numbers of blocks: what is written keeps its number, and what is new has that of the record.
--- Used by proofs; no exported promise names it.
 use Prim.Native.Nat.{ℕ, _≤_, _<_}
 use native.Mathlib.Omega.{arith}
 use mathlib.Core.Path.{_≡_, refl, sym, subst}

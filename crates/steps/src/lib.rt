@@ -1,4 +1,5 @@
-// Processes and their named steps: what they are. This crate knows nothing of records.
+// Processes and their named steps: what they are. Of records this crate knows
+// only their numbers.
 ghost use mathlib.Core.Path.{_≡_};
 ghost use Prim.Native.Nat.{_<_};
 ghost use Rattle.steps.specs.Machine.{isIdle};

@@ -1,5 +1,4 @@
--- What the machine's invariant says of the processes that supers depend on. Used by proofs; no exported promise names
--- it.
+-- What the machine's invariant says of the processes that supers depend on.
 use Prim.Native.Nat.{ℕ, _≤_, _<_}
 use native.Mathlib.Omega.{arith}
 use mathlib.Core.Path.{_≡_}

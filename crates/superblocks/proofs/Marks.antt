@@ -1,5 +1,5 @@
--- The invariant of supers, used by proofs; no exported promise names it. It says where the superblock of a block stands
--- or may still come to stand, whatever the order of steps.
+-- The invariant of supers. It says where the superblock of a block stands or may still come to stand, whatever the
+-- order of steps.
 use Prim.Native.Nat.{ℕ, _≤_, _<_}
 use native.Mathlib.Omega.{arith}
 use mathlib.Core.Path.{_≡_}

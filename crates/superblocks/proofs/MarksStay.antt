@@ -1,5 +1,4 @@
--- A step of any process keeps the invariant of supers, given what it leaves its own process with. Used by proofs; no
--- exported promise names it.
+-- A step of any process keeps the invariant of supers, given what it leaves its own process with.
 use Prim.Native.Nat.{ℕ, zero, suc, _≤_, _<_}
 use native.Mathlib.Omega.{arith}
 use native.Mathlib.Decide.{ℕ-discrete, decLt, decLe}

@@ -1,5 +1,5 @@
 -- What each named step leaves of supers and heads, and where it leads: V2 alone sets a super and V3 alone raises a
--- head; V1 alone leads to V2, and below the root V2 alone to V3. Used by proofs; no exported promise names it.
+-- head; V1 alone leads to V2, and below the root V2 alone to V3.
 use Prim.Native.Nat.{ℕ, _+_, _-_, _≤_, _<_}
 use native.Mathlib.Omega.{arith}
 use mathlib.Core.Path.{_≡_, refl, ap, sym, _∙_, subst}

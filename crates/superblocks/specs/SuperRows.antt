@@ -14,7 +14,7 @@ use Rattle.tree.specs.Order.{lastRoot}
 use Rattle.tree.specs.Standing.{firstOf}
 use Rattle.calls.specs.Run.{run}
 use Rattle.calls.specs.All.{rules}
-use Rattle.calls.specs.KnownRuns.{beginPut, steps, lent}
+use Rattle.calls.specs.Lists.{beginPut, steps, lent}
 use Rattle.superblocks.specs.Supers.{nearSuper}
 
 -- two processes of at most `most` operations, and what their records leave of block 1 of the root's child on a side:

@@ -1,4 +1,4 @@
--- The nodes above a process's leaf. Used by proofs.
+-- The nodes above a process's leaf.
 use Prim.Native.Nat.{ℕ, zero, suc, _*_, _-_, _^_, _≤_, _<_}
 use native.Mathlib.Omega.{arith}
 use native.Mathlib.Decide.{decLt, ℕ-discrete}

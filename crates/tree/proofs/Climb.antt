@@ -1,5 +1,4 @@
--- Climbing from a leaf to the root: which block of each node above it holds an operation. Used by proofs; no exported
--- promise names it.
+-- Climbing from a leaf to the root: which block of each node above it holds an operation.
 use Prim.Native.Nat.{ℕ, suc, _+_, _-_, _≤_, _<_}
 use native.Mathlib.Omega.{arith}
 use native.Mathlib.Nat.{le-refl}

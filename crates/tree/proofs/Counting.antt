@@ -1,5 +1,4 @@
--- How often an operation is in what the blocks of a node, up to a place, open to. Used by proofs; no exported promise
--- names it.
+-- How often an operation is in what the blocks of a node, up to a place, open to.
 use Prim.Native.Nat.{ℕ, zero, suc, _+_, _-_, _≤_, _<_}
 use native.Mathlib.Omega.{arith}
 use native.Mathlib.Decide.{ℕ-discrete, decLt, decLe}

@@ -1,5 +1,5 @@
 -- The operation of a given number in a block, from 0: on which side, in which subblock, and its number there; and the
--- put of a given number in the root. Used by proofs; no exported promise names it.
+-- put of a given number in the root.
 use Prim.Native.Nat.{ℕ, suc, _+_, _-_, _≤_, _<_}
 use native.Mathlib.Omega.{arith}
 use mathlib.Core.Path.{_≡_, ap, _∙_}

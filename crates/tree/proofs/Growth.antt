@@ -1,4 +1,4 @@
--- How one step may make a memory grow, and that such growth keeps the memory invariant. Used by proofs.
+-- How one step may make a memory grow, and that such growth keeps the memory invariant.
 use Prim.Native.Nat.{ℕ, zero, suc, _+_, _≤_, _<_}
 use native.Mathlib.Omega.{arith}
 use native.Mathlib.Decide.{decLt, decLe}

@@ -21,7 +21,7 @@ height-level (suc H) d j h l = on (decLe d H) (λ k. height-level H d j k l)
     on (yes k) ih = rw (lt-ltb (2 ^ d + j) (2 ^ suc H) (omega (arith, pow-mono {i = d} {j = H} k))) (omega (arith, ih k))
     on (no k) ih = rw (le-ltb (2 ^ d + j) (2 ^ suc H) (omega (arith, pow-mono {i = suc H} {j = d} (omega arith)))) (omega arith)
 
-height-low : (H v : ℕ) → 2 ^ H ≤ v → heightIn H v ≡ 0
+pub height-low : (H v : ℕ) → 2 ^ H ≤ v → heightIn H v ≡ 0
 unfolding heightIn
 height-low zero v h = refl
 height-low (suc H) v h = rw (le-ltb v (2 ^ suc H) h)

@@ -1,5 +1,5 @@
 -- The root's blocks: those up to the last are present and no later one is; how many operations they have, and what
--- holds of all of these. Used by proofs; no exported promise names it.
+-- holds of all of these.
 use Prim.Native.Nat.{ℕ, zero, suc, _+_, _-_, _≤_, _<_}
 use native.Mathlib.Omega.{arith}
 use native.Mathlib.Decide.{ℕ-discrete, decLe}

@@ -1,5 +1,4 @@
--- What stays over any number of steps: heads never fall, and what is written stays but for super. Used by proofs; no
--- exported promise names it.
+-- What stays over any number of steps: heads never fall, and what is written stays but for super.
 use Prim.Native.Nat.{ℕ, _≤_, _<_}
 use native.Mathlib.Omega.{arith}
 use native.Mathlib.Nat.{le-refl}

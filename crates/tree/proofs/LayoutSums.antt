@@ -8,7 +8,7 @@ use mathlib.Core.Logic.{⊎-elim}
 use mathlib.Core.List.{List, _∷_}
 use lib.ListN.{length, getD, set, replicate, getD-replicate}
 use lib.Seq.{getD-set-same, getD-set-other}
-use borrow.Author.Tests.{lt-ltb, le-ltb}
+use borrow.Author.Tests.{lt-ltb}
 use Rattle.tree.specs.Shape.{Shape, heightIn}
 use Rattle.tree.specs.Layout.{partWords, partStart}
 
@@ -30,11 +30,6 @@ pub height-above : (h v : ℕ) → (h ≡ 0 → ⊥) → v < 2 ^ h → heightIn 
 unfolding heightIn
 height-above zero v ne l = absurd (ne refl)
 height-above (suc h) v ne l = let e : suc h - 1 ≡ h = omega arith in rw (lt-ltb v (2 ^ suc h) l, e) (omega arith)
-
-pub height-none : (h v : ℕ) → 2 ^ h ≤ v → heightIn h v ≡ 0
-unfolding heightIn
-height-none zero v l = refl
-height-none (suc h) v l = rw (le-ltb v (2 ^ suc h) l)
 
 pub height-zero : (h v : ℕ) → h ≡ 0 → heightIn h v ≡ 0
 unfolding heightIn

@@ -1,5 +1,4 @@
--- Nodes by height: those of height h in a tree of height H are numbered from 2^(H − h) up to its double. Used by
--- proofs.
+-- Nodes by height: those of height h in a tree of height H are numbered from 2^(H − h) up to its double.
 use Prim.Native.Nat.{ℕ, zero, suc, _*_, _-_, _^_, _≤_, _<_}
 use native.Mathlib.Omega.{arith}
 use native.Mathlib.Nat.{le-refl, pow-suc, sub-self}

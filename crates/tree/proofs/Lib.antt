@@ -28,7 +28,6 @@ pub mod OpenedOnce
 pub mod SideTotals
 pub mod Rank
 pub mod Find
-pub mod BlockStores
 pub mod LayoutSums
 pub mod NodeParts
 pub mod NodeReads

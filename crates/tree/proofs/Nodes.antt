@@ -1,4 +1,4 @@
--- Nodes of the tree, inner nodes, and the nodes on the two sides of an inner one. Used by proofs.
+-- Nodes of the tree, inner nodes, and the nodes on the two sides of an inner one.
 use Prim.Native.Nat.{ℕ, _%_, _≤_, _<_}
 use native.Mathlib.Omega.{arith}
 use mathlib.Core.Path.{_≡_, refl}

@@ -1,5 +1,5 @@
 -- Each operation that the root reaches stands in the root order once, in the block that reaches it first, and no other
--- stands there. Used by proofs; no exported promise names it.
+-- stands there.
 use Prim.Native.Nat.{ℕ, zero, suc, _+_, _-_, _≤_, _<_}
 use native.Mathlib.Omega.{arith}
 use native.Mathlib.Nat.{le-refl}

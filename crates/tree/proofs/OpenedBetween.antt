@@ -1,15 +1,13 @@
--- What a block of a node above a leaf opens to: of the leaf's process, just the operations past the reach of the block
--- before it, up to its own reach, each once.
+-- What a block of a node above a leaf opens to: of the leaf's process, each operation past the reach of the block before
+-- it, up to its own reach, once.
 use Prim.Native.Nat.{ℕ, zero, suc, _+_, _*_, _-_, _^_, _≤_, _<_}
 use native.Mathlib.Omega.{arith}
 use native.Mathlib.Nat.{pow-suc}
-use native.Mathlib.Decide.{decLt, decLe}
 use mathlib.Core.Path.{_≡_, ap, sym, _∙_}
 use mathlib.Core.Logic.{inr}
-use mathlib.Core.Bool.{_&&_, and-false}
-use lib.Dec.{ltb, leb}
-use borrow.Author.Tests.{lt-ltb, le-ltb, le-leb, lt-leb}
-use Rattle.base.specs.Choice.{if_then_else_}
+use mathlib.Core.Bool.{_&&_}
+use lib.Dec.{leb}
+use borrow.Author.Tests.{le-leb, lt-leb}
 use Rattle.tree.specs.declared.Kind.{Kind}
 use Rattle.tree.specs.declared.Kind.the-variants.{Puts, Takes}
 use Rattle.tree.specs.Shape.{Shape, processes, parentOf, leafOf}
@@ -19,7 +17,7 @@ use Rattle.tree.specs.Standing.{times}
 use Rattle.tree.proofs.Nodes.{leaf-node}
 use Rattle.tree.specs.Contracts.Invariant.{Present, Sound}
 use Rattle.tree.proofs.Ancestors.{ancestor}
-use Rattle.tree.proofs.Reach.{reach, reach-zero, reach-rises, reach-below}
+use Rattle.tree.proofs.Reach.{reach, reach-zero, reach-below}
 use Rattle.tree.proofs.Levels.{Level}
 use Rattle.tree.proofs.Counting.{mark, ofKind, kinds-one, held-opened, held-path}
 
@@ -70,34 +68,3 @@ module _ (s : Shape) (m : Memory) (sound : Sound s m) (k : ℕ) (kp : k < proces
       where
         added : (κ : Kind) → inBlock κ + 0 ≡ mark (ofKind s m κ k i)
         added κ = rw (lt-leb i (reach s m k h b) past, le-leb i (reach s m k h (suc b)) upto) at (kind-between κ)
-
-    pub opened-outside : (reach s m k h b < i → i ≤ reach s m k h (suc b) → ⊥) → timesOpened s m k h (suc b) i ≡ 0
-    opened-outside not = on (decLt (reach s m k h b) i)
-      where
-        upward : reach s m k h b ≤ reach s m k h (suc b)
-        upward = reach-rises s m sound k kp h low b (suc b) (omega arith) (inr has)
-
-        -- reached by the blocks before already, or not yet by this one
-        old : i ≤ reach s m k h b → (κ : Kind) → inBlock κ + mark (ofKind s m κ k i) ≡ mark (ofKind s m κ k i)
-        old l κ = rw (le-leb i (reach s m k h b) l, le-leb i (reach s m k h (suc b)) (omega (arith, upward))) at (kind-between κ)
-
-        late : reach s m k h (suc b) < i → (κ : Kind) → inBlock κ + 0 ≡ 0
-        late l κ = rw (lt-leb i (reach s m k h b) (omega (arith, upward)), lt-leb i (reach s m k h (suc b)) l) at (kind-between κ)
-
-        on : Dec (reach s m k h b < i) → inBlock Puts + inBlock Takes ≡ 0
-        on (no l) = omega (arith, old (omega arith) Puts, old (omega arith) Takes)
-        on (yes l) = further (decLe i (reach s m k h (suc b)))
-          where
-            further : Dec (i ≤ reach s m k h (suc b)) → inBlock Puts + inBlock Takes ≡ 0
-            further (yes u) = absurd (not l u)
-            further (no u) = omega (arith, late (omega arith) Puts, late (omega arith) Takes)
-
-    -- both in one
-    pub opened-between : timesOpened s m k h (suc b) i ≡ (if ltb (reach s m k h b) i && leb i (reach s m k h (suc b)) then 1 else 0)
-    opened-between = on (decLt (reach s m k h b) i) (decLe i (reach s m k h (suc b)))
-      where
-        on : Dec (reach s m k h b < i) → Dec (i ≤ reach s m k h (suc b))
-            → inBlock Puts + inBlock Takes ≡ (if ltb (reach s m k h b) i && leb i (reach s m k h (suc b)) then 1 else 0)
-        on (yes p) (yes q) = opened-inside p q ∙ rw (lt-ltb (reach s m k h b) i p, le-leb i (reach s m k h (suc b)) q)
-        on (no p) q = opened-outside (λ u v. p u) ∙ rw (le-ltb (reach s m k h b) i (omega arith))
-        on (yes p) (no q) = opened-outside (λ u v. q v) ∙ rw (lt-leb i (reach s m k h (suc b)) (omega arith), and-false (ltb (reach s m k h b) i))

@@ -1,5 +1,4 @@
--- An operation is in what a block opens to once at most, whatever the node. Used by proofs; no exported promise names
--- it.
+-- An operation is in what a block opens to once at most, whatever the node.
 use Prim.Native.Nat.{ℕ, zero, suc, _-_, _≤_}
 use native.Mathlib.Omega.{arith}
 use native.Mathlib.Decide.{ℕ-discrete}

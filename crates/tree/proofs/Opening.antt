@@ -1,5 +1,4 @@
--- Opening a block of a sound memory: where its operations come from, how many they are, and that they stay. Used by
--- proofs; no exported promise names it.
+-- Opening a block of a sound memory: where its operations come from, how many they are, and that they stay.
 use Prim.Native.Nat.{ℕ, zero, suc, _+_, _-_, _≤_, _<_}
 use native.Mathlib.Omega.{arith}
 use native.Mathlib.Decide.{decLt}

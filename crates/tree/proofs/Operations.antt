@@ -1,5 +1,4 @@
--- The operations in root order, counted: of each root block the puts and the takes. Used by proofs; no exported promise
--- names it.
+-- The operations in root order, counted: of each root block the puts and the takes.
 use Prim.Native.Nat.{ℕ, _+_}
 use native.Mathlib.Omega.{arith}
 use mathlib.Core.Path.{_≡_, refl, ap, ap₂, _∙_}

@@ -1,4 +1,4 @@
--- Presence of a block as a number: it has puts or takes. Used by proofs.
+-- Presence of a block as a number: it has puts or takes.
 use Prim.Native.Nat.{_≤_}
 use native.Mathlib.Omega.{arith}
 use native.Mathlib.Decide.{decLe}

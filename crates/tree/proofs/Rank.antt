@@ -1,5 +1,4 @@
--- The number of an operation in a block, from its number in the subblock that holds it. Used by proofs; no exported
--- promise names it.
+-- The number of an operation in a block, from its number in the subblock that holds it.
 use Prim.Native.Nat.{ℕ, zero, suc, _+_, _-_, _≤_, _<_}
 use native.Mathlib.Omega.{arith}
 use mathlib.Core.Path.{_≡_, ap, _∙_}

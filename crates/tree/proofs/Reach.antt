@@ -1,4 +1,4 @@
--- How many of a process's operations the first blocks of a node above its leaf hold. Used by proofs.
+-- How many of a process's operations the first blocks of a node above its leaf hold.
 use Prim.Native.Nat.{ℕ, zero, suc, _≤_, _<_}
 use native.Mathlib.Omega.{arith}
 use mathlib.Core.Path.{_≡_, refl, ap, _∙_}

@@ -1,4 +1,4 @@
--- How many operations of a process the root's blocks up to a place hold. Used by proofs; no exported promise names it.
+-- How many operations of a process the root's blocks up to a place hold.
 use Prim.Native.Nat.{ℕ, zero, suc, _≤_, _<_}
 use native.Mathlib.Omega.{arith}
 use native.Mathlib.Nat.{le-refl}

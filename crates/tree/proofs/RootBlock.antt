@@ -1,5 +1,4 @@
--- The root block of an operation: the first that it stands in, and the only one. Used by proofs; no exported promise
--- names it.
+-- The root block of an operation: the first that it stands in, and the only one.
 use Prim.Native.Nat.{ℕ, zero, suc, _+_, _-_, _≤_, _<_}
 use native.Mathlib.Omega.{arith}
 use native.Mathlib.Nat.{le-refl}

@@ -1,5 +1,4 @@
--- How many operations of a kind a block has on each side: a difference of its child's totals. Used by proofs; no
--- exported promise names it.
+-- How many operations of a kind a block has on each side: a difference of its child's totals.
 use Prim.Native.Nat.{ℕ, suc, _+_, _-_, _≤_}
 use native.Mathlib.Omega.{arith}
 use native.Mathlib.Nat.{le-refl}

@@ -1,4 +1,4 @@
--- The memory invariant: what holds of the blocks and heads whatever the order of steps. Used by proofs.
+-- The memory invariant: what holds of the blocks and heads whatever the order of steps.
 use Prim.Native.Nat.{ℕ, zero, suc, _+_, _-_, _≤_, _<_}
 use native.Mathlib.Omega.{arith}
 use native.Mathlib.Decide.{decLe, ℕ-discrete}

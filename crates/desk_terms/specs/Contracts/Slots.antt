@@ -5,7 +5,7 @@ use lib.ListN.{getD, set}
 use Rattle.base.specs.Choice.{if_then_else_}
 use Rattle.record.specs.declared.AnswerRecord.{AnswerRecord}
 use Rattle.record.specs.declared.OrderRecord.{OrderRecord}
-use Rattle.record.specs.Bytes.{cut}
+use Rattle.encoding.specs.Bytes.{cut}
 use Rattle.record.specs.AnswerRecords.{answerSize, replyValue}
 use Rattle.record.specs.ReadAnswers.{answerRecord}
 use Rattle.record.specs.ReadOrders.{readOrder}

@@ -8,7 +8,7 @@ use lib.Seq.{sets}
 use lib.Dec.{leb, eqb}
 use Rattle.base.specs.Choice.{if_then_else_}
 use Rattle.record.specs.declared.AnswerRecord.{AnswerRecord}
-use Rattle.record.specs.Bytes.{cut}
+use Rattle.encoding.specs.Bytes.{cut}
 use Rattle.record.specs.AnswerRecords.{answerSize, answerBytes, logBytes}
 use Rattle.calls.specs.declared.Verdict.{Verdict}
 use Rattle.calls.specs.declared.Verdict.the-variants.{Same, Differs}

@@ -1,5 +1,5 @@
 -- `node_starts` meets its contract: antt computes the table that the layout gives and finds the constants, and a law
--- turns that into the rule at each entry. Assumes nothing.
+-- turns that into the rule at each entry.
 use mathlib.Core.Path.{refl}
 use Rattle.node_starts.specs.All.{nodeStartRules}
 use Rattle.node_starts.proofs.RuleHolds.{table-rule}

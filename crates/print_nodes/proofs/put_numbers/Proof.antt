@@ -1,4 +1,4 @@
--- `put_numbers` meets its contract. The invariant of the loop: the numbers passed are stored. Assumes nothing.
+-- `put_numbers` meets its contract. The invariant of the loop: the numbers passed are stored.
 use Prim.Native.Nat.{_-_, _≤_}
 use native.Mathlib.Omega.{arith}
 use mathlib.Core.Path.{ap}

@@ -1,4 +1,4 @@
--- `put_row` meets its contract. Assumes nothing.
+-- `put_row` meets its contract.
 use native.Mathlib.Omega.{arith}
 use borrow.Author.Needs.{needs}
 use Rattle.base.proofs.Stored.{stored-length, stored-then}

@@ -1,4 +1,4 @@
--- `table_text` meets its contract. Assumes nothing.
+-- `table_text` meets its contract.
 use native.Mathlib.Omega.{arith}
 use mathlib.Core.Path.{_∙_, sym}
 use borrow.Author.Needs.{needs}

@@ -1,4 +1,4 @@
--- `main` meets its contract. Assumes nothing.
+-- `main` meets its contract.
 use native.Mathlib.Omega.{arith}
 use mathlib.Core.Path.{sym, _∙_}
 use lib.ListN.{take}

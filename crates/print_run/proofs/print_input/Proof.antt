@@ -1,4 +1,4 @@
--- `print_input` meets its contract. Assumes nothing.
+-- `print_input` meets its contract.
 use Prim.Native.Nat.{ℕ, _*_, _≤_}
 use native.Mathlib.Omega.{arith}
 use mathlib.Core.Path.{_≡_, ap}
@@ -19,7 +19,7 @@ use Rattle.queue.specs.Left.{runLeft}
 use Rattle.text.specs.Characters.{ascii}
 use Rattle.print.specs.Lines.{longLine}
 use Rattle.print.specs.Printed.{runText}
-use Rattle.print.proofs.Inputs.{printed-long, printed-run}
+use Rattle.print.proofs.Inputs.{printed-long, printed-run, text-stored}
 use Rattle.print_run.proofs.print_input.Statement.{statement}
 use Rattle.print_run.proofs.print_input.Tie as tie
 
@@ -43,7 +43,11 @@ put-text-requires c κs = search needs
 
 returns : tie.Need-returns
 unfolding longLine ascii
-returns c = (counts _ _ (omega (arith, stored-length (c .put-text .ensures))), λ input read. rw (printed-long read (c .before .before .before .if1 .taken)) (c .put-text .ensures))
+returns c =
+    let stored = c .put-text .ensures in (
+      counts _ _ (omega (arith, stored-length stored)),
+      λ input read. rw (printed-long read (c .before .before .before .if1 .taken)) (text-stored stored (omega (arith, stored-length stored))),
+    )
 
 slice-aggregate-run : tie.Need-slice-aggregate-run
 slice-aggregate-run c = search needs
@@ -67,9 +71,12 @@ returns-2 : tie.Need-returns-2
 unfolding runText runLeft
 returns-2 c =
     let ran = c .before .before .before .before .before .before .run in
-    let short = c .before .before .before .before .before .before .before .before .before .if1 .left in (
-      counts _ _ (omega (arith, stored-length (c .put-printed .ensures .0), few _ _ _ _ (ran .ensures .0))),
-      λ input read. rw (printed-run read short, ← ran .ensures .0, ← c .before .before .number .ensures) (c .put-printed .ensures .0),
+    let short = c .before .before .before .before .before .before .before .before .before .if1 .left in
+    let stored = c .put-printed .ensures .0 in (
+      counts _ _ (omega (arith, stored-length stored, few _ _ _ _ (ran .ensures .0))),
+      λ input read.
+          rw (printed-run read short, ← ran .ensures .0, ← c .before .before .number .ensures)
+          (text-stored stored (omega (arith, stored-length stored, few _ _ _ _ (ran .ensures .0)))),
     )
 
 pub print-input-spec : {M : Type 1} → statement M

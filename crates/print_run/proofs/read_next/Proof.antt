@@ -1,4 +1,4 @@
--- `read_next` meets its contract. Assumes nothing.
+-- `read_next` meets its contract.
 use native.Mathlib.Omega.{arith}
 use borrow.Author.Needs.{needs}
 use Rattle.print_run.proofs.read_next.Statement.{statement}

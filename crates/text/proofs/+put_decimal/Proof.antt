@@ -1,5 +1,5 @@
 -- `text::put_decimal` meets its contract. The measure is the number itself: a tenth of a number that is not below ten
--- is smaller. Assumes nothing.
+-- is smaller.
 use Prim.Native.Nat.{ℕ, _<_}
 use native.Mathlib.Omega.{arith}
 use mathlib.Core.Path.{ap}

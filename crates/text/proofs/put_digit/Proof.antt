@@ -1,4 +1,4 @@
--- `text::put_digit` meets its contract. Assumes nothing.
+-- `text::put_digit` meets its contract.
 use mathlib.Core.Path.{refl}
 use borrow.Author.Needs.{needs}
 use Rattle.text.specs.Decimal.{digit}

@@ -1,4 +1,4 @@
--- `text::put_number` meets its contract. Assumes nothing.
+-- `text::put_number` meets its contract.
 use native.Mathlib.Omega.{arith}
 use borrow.Author.Needs.{needs}
 use Rattle.base.proofs.Stored.{stored-then}

@@ -1,4 +1,4 @@
--- `text::put_text` meets its contract. The invariant of the loop: the bytes passed are stored. Assumes nothing.
+-- `text::put_text` meets its contract. The invariant of the loop: the bytes passed are stored.
 use Prim.Native.Nat.{ℕ, _+_, _-_, _≤_, _<_}
 use native.Mathlib.Numerals.{add-one}
 use native.Mathlib.Omega.{arith}

@@ -1,4 +1,4 @@
--- `answers::answer` meets its contract. Assumes nothing.
+-- `answers::answer` meets its contract.
 use borrow.Author.Needs.{needs}
 use Rattle.answer.proofs.answers.answer.Statement.{statement}
 use Rattle.answer.proofs.answers.answer.Tie as tie

@@ -1,4 +1,4 @@
--- `answers::answer_of` meets its contract. Assumes nothing.
+-- `answers::answer_of` meets its contract.
 use Prim.Native.Nat.{ℕ, _<_}
 use native.Mathlib.Omega.{arith}
 use mathlib.Core.Path.{_∙_}

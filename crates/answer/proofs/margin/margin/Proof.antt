@@ -1,4 +1,4 @@
--- `margin::margin` meets its contract. Assumes nothing.
+-- `margin::margin` meets its contract.
 use Prim.Native.Nat.{_+_, _^_}
 use native.Mathlib.Omega.{arith}
 use mir.Facts.{toZ-pos, toZ-ofZ}

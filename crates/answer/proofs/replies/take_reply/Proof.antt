@@ -1,4 +1,4 @@
--- `replies::take_reply` meets its contract. Assumes nothing.
+-- `replies::take_reply` meets its contract.
 use native.Mathlib.Omega.{arith}
 use borrow.Author.Needs.{needs}
 use Rattle.base.proofs.Somes.{some-two}

@@ -1,4 +1,4 @@
--- `call::play_call` meets its contract. Assumes nothing.
+-- `call::play_call` meets its contract.
 use native.Mathlib.Omega.{arith}
 use mathlib.Core.Path.{sym, _∙_}
 use lib.ListN.{length}

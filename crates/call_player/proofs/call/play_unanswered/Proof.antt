@@ -1,4 +1,4 @@
--- `call::play_unanswered` meets its contract. Assumes nothing.
+-- `call::play_unanswered` meets its contract.
 use mathlib.Core.Path.{refl, sym}
 use mathlib.Core.Logic.{inl}
 use mathlib.Core.List.{[]}

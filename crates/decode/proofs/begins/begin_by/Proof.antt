@@ -1,4 +1,4 @@
--- `begins::begin_by` meets its contract. Assumes nothing.
+-- `begins::begin_by` meets its contract.
 use borrow.Author.Tests.{le-leb, lt-leb}
 use Rattle.decode.proofs.begins.begin_by.Statement.{statement}
 use Rattle.decode.proofs.begins.begin_by.Tie as tie

@@ -1,4 +1,4 @@
--- `begins::begin_of` meets its contract. Assumes nothing.
+-- `begins::begin_of` meets its contract.
 use mathlib.Core.Path.{_∙_}
 use borrow.Author.Needs.{needs}
 use Rattle.decode.proofs.BeginWords.{begin-none, begin-put, begin-valued, begin-take}

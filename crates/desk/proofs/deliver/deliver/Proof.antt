@@ -1,4 +1,4 @@
--- `deliver::deliver` meets its contract. Assumes nothing.
+-- `deliver::deliver` meets its contract.
 use Prim.Native.Nat.{ℕ, _+_, _*_, _/_, _≤_, _<_}
 use native.Mathlib.Omega.{arith}
 use mathlib.Core.Path.{refl, sym}

@@ -1,4 +1,4 @@
--- `deliver::deliver_plain` meets its contract. Assumes nothing.
+-- `deliver::deliver_plain` meets its contract.
 use Prim.Native.Nat.{ℕ}
 use mathlib.Core.Path.{sym}
 use lib.ListN.{replicate, length-replicate}

@@ -1,4 +1,4 @@
--- `deliver::refuse_foreign` meets its contract. Assumes nothing.
+-- `deliver::refuse_foreign` meets its contract.
 use Prim.Native.Nat.{ℕ}
 use lib.ListN.{replicate, length-replicate}
 use borrow.Author.Needs.{needs}

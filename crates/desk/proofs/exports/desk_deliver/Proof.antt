@@ -1,4 +1,4 @@
--- `exports::desk_deliver` meets its contract. Assumes nothing.
+-- `exports::desk_deliver` meets its contract.
 use native.Mathlib.Omega.{arith}
 use borrow.Author.Needs.{needs}
 use Rattle.desk.proofs.Exporting.{exported, in-order}

@@ -1,4 +1,4 @@
--- `exports::number` meets its contract. Assumes nothing.
+-- `exports::number` meets its contract.
 use borrow.Author.Needs.{needs}
 use Rattle.desk_rules.specs.DeskRefusals.{deskNumber}
 use Rattle.desk.proofs.exports.number.Statement.{statement}

@@ -1,5 +1,5 @@
 -- `collect::collect` meets its contract. The loop's invariant: the terms of the first i orders are collected. The
--- measure is what is left of them. Assumes nothing.
+-- measure is what is left of them.
 use Prim.Native.Nat.{_-_, _<_}
 use native.Mathlib.Omega.{arith}
 use mathlib.Core.Path.{_≡_, refl, sym, _∙_}
@@ -9,7 +9,7 @@ use borrow.Author.Needs.{needs}
 use borrow.Author.Tests.{leb-true}
 use Rattle.record.specs.declared.OrderRecord.{OrderRecord}
 use Rattle.record.specs.ReadOrders.{readOrder}
-use Rattle.record.proofs.Cuts.{read-member}
+use Rattle.encoding.proofs.Cuts.{read-member}
 use Rattle.desk_rules.specs.Entries.{firstEntry, isEntry, termOf}
 use Rattle.desk_terms.specs.Contracts.Slots.{ordersIn, HasSlot}
 use Rattle.desk_terms.proofs.Collected.{CollectedFirst, collected-none, collected-all, collected-entry, collected-other}

@@ -1,5 +1,5 @@
 -- `entries::before_foreign` meets its contract. The loop's invariant: no record before the i-th is a foreign entry. The
--- measure is what is left of them. Assumes nothing.
+-- measure is what is left of them.
 use Prim.Native.Nat.{_-_, _≤_}
 use native.Mathlib.Omega.{arith}
 use mathlib.Core.Path.{sym, _∙_}

@@ -1,4 +1,4 @@
--- `entries::is_foreign` meets its contract. The tests are passed in the order of the definition. Assumes nothing.
+-- `entries::is_foreign` meets its contract. The tests are passed in the order of the definition.
 use borrow.Author.Needs.{needs}
 use borrow.Author.Tests.{not-true, not-false}
 use Rattle.desk_rules.specs.Entries.{isForeign}

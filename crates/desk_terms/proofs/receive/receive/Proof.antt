@@ -1,5 +1,5 @@
 -- `receive::receive` meets its contract. The loop's invariant: the values of the last i answers are stored. The measure
--- is what is left of them. Assumes nothing.
+-- is what is left of them.
 use Prim.Native.Nat.{_-_, _<_}
 use native.Mathlib.Omega.{arith}
 use mathlib.Core.Path.{_≡_, ap, sym, _∙_}
@@ -8,7 +8,7 @@ use borrow.Author.Needs.{needs}
 use Rattle.record.specs.declared.AnswerRecord.{AnswerRecord}
 use Rattle.record.specs.AnswerRecords.{answerSize}
 use Rattle.record.specs.ReadAnswers.{answerRecord}
-use Rattle.record.proofs.Cuts.{read-member}
+use Rattle.encoding.proofs.Cuts.{read-member}
 use Rattle.desk_terms.specs.Contracts.Slots.{answersIn, HasSlot}
 use Rattle.desk_terms.proofs.Entered.{enteredLast, entered-length, entered-none, entered-more, entered-all}
 use Rattle.desk_terms.proofs.receive.receive.Statement.{statement}

@@ -1,4 +1,4 @@
--- `receive::slot_of` meets its contract. Assumes nothing.
+-- `receive::slot_of` meets its contract.
 use native.Mathlib.Nat.{mul-le-mul-left}
 use native.Mathlib.Omega.{arith}
 use mathlib.Core.Path.{refl}

@@ -1,5 +1,5 @@
 -- `send::send` meets its contract. The loop's invariant: the bytes of the first i terms are stored. The measure is what
--- is left of them. Assumes nothing.
+-- is left of them.
 use Prim.Native.Nat.{_-_, _≤_}
 use native.Mathlib.Omega.{arith}
 use mathlib.Core.Path.{_≡_}

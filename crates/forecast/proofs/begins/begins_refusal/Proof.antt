@@ -1,5 +1,5 @@
 -- `begins::begins_refusal` meets its contract. The loop's invariant: the records before the i-th are read. The measure
--- is what is left of them. Assumes nothing.
+-- is what is left of them.
 use Prim.Native.Nat.{_-_, _<_}
 use native.Mathlib.Omega.{arith}
 use mathlib.Core.Bool.{true}

@@ -1,4 +1,4 @@
--- `begins::planned_refusal` meets its contract. Assumes nothing.
+-- `begins::planned_refusal` meets its contract.
 use native.Mathlib.Omega.{arith}
 use borrow.Author.Needs.{needs}
 use borrow.Author.Tests.{le-leb, lt-leb}

@@ -1,4 +1,4 @@
--- `call::forecast` meets its contract. Assumes nothing.
+-- `call::forecast` meets its contract.
 use Prim.Native.Nat.{ℕ, _*_, _/_, _≤_}
 use native.Mathlib.Omega.{arith}
 use mathlib.Core.Path.{_≡_, ap, sym, _∙_}

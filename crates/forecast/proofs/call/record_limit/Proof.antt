@@ -1,4 +1,4 @@
--- `call::record_limit` meets its contract. Assumes nothing.
+-- `call::record_limit` meets its contract.
 use native.Mathlib.Omega.{arith}
 use borrow.Author.Needs.{needs}
 use Rattle.calls.specs.Demand3.{stepLimit}

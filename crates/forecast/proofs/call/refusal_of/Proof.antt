@@ -1,4 +1,4 @@
--- `call::refusal_of` meets its contract. Assumes nothing.
+-- `call::refusal_of` meets its contract.
 use mathlib.Core.Path.{ap, sym, _∙_}
 use borrow.Author.Needs.{needs}
 use borrow.Author.Tests.{not-true, not-false}

@@ -1,5 +1,5 @@
 -- `compare::equal_after` meets its contract. An answer stored in sixteen bytes is its bytes, and the record of the log
--- at its place decides. Assumes nothing.
+-- at its place decides.
 use Prim.Native.Nat.{ℕ, _*_}
 use mathlib.Core.Path.{_≡_, sym, _∙_}
 use mathlib.Core.Bool.{Bool, true, false}

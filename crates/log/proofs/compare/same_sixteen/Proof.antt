@@ -1,5 +1,5 @@
 -- `compare::same_sixteen` meets its contract. The loop's invariant: the bytes from i on are equal just where all
--- sixteen are. The measure is what is left of the sixteen. Assumes nothing.
+-- sixteen are. The measure is what is left of the sixteen.
 use Prim.Native.Nat.{ℕ, _+_, _-_, _≤_, _<_}
 use native.Mathlib.Omega.{arith}
 use native.Mathlib.Numerals.{add-one}

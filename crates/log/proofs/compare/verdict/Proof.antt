@@ -1,4 +1,4 @@
--- `compare::verdict` meets its contract. Assumes nothing.
+-- `compare::verdict` meets its contract.
 use borrow.Author.Needs.{needs}
 use borrow.Author.Tests.{eq-eqb, ne-eqb}
 use Rattle.record.specs.AnswerRecords.{answerSize}

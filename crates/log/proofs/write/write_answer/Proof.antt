@@ -1,4 +1,4 @@
--- `write::write_answer` meets its contract. Assumes nothing.
+-- `write::write_answer` meets its contract.
 use borrow.Author.Needs.{needs}
 use borrow.Author.Tests.{le-leb, lt-leb}
 use Rattle.record.specs.AnswerRecords.{answerSize}

@@ -1,6 +1,6 @@
 -- `list::list_block` and `list::list_range` meet their contracts. Both measures are the node's height, which list_block
 -- lowers by one; a range counts for more than a block of its node. The invariant of the loop: the blocks after `from`,
--- up to b, are stored. Assumes nothing.
+-- up to b, are stored.
 use Prim.Native.Nat.{ℕ, _+_, _*_, _-_, _≤_, _<_}
 use native.Mathlib.Omega.{arith}
 use mathlib.Core.Path.{_≡_, refl, ap}
@@ -23,7 +23,7 @@ use Rattle.order.proofs.list.list_range.Reads as list-range
 use Rattle.order.proofs.list.list_range.Kinds as list-range-kinds
 use Rattle.order.proofs.list.+list_block+list_range.Lts-list_range as list-range-lts
 use Rattle.order.proofs.list.list_leaf.Reads as list-leaf-reads
-use Rattle.tree.proofs.access.block_at.Reads as block-at-reads
+use Rattle.table.proofs.access.block_at.Reads as block-at-reads
 use Rattle.order.proofs.list.child.Reads as child-reads
 use Rattle.order.proofs.list.+list_block+list_range.{statement}
 use Rattle.order.proofs.list.+list_block+list_range.Tie.{close}

@@ -1,4 +1,4 @@
--- `list::adds` meets its contract. Assumes nothing.
+-- `list::adds` meets its contract.
 use borrow.Author.Needs.{needs}
 use Rattle.order.proofs.list.adds.Statement.{statement}
 use Rattle.order.proofs.list.adds.Tie as tie

@@ -1,4 +1,4 @@
--- `list::list_leaf` meets its contract. Assumes nothing.
+-- `list::list_leaf` meets its contract.
 use native.Mathlib.Omega.{arith}
 use Rattle.record.proofs.Lengths.{order-record-length}
 use Rattle.base.proofs.Stored.{stored-none, stored-all}

@@ -1,4 +1,4 @@
--- `list::list_root` meets its contract. Assumes nothing.
+-- `list::list_root` meets its contract.
 use borrow.Author.Needs.{needs}
 use Rattle.order.proofs.Storing.{room-first, room-second, lists-both}
 use Rattle.order.proofs.RootRecords.{root-parts}

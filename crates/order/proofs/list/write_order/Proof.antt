@@ -1,5 +1,5 @@
 -- `list::write_order` meets its contract. The loop's invariant: root blocks 1 to b are stored. The measure is the
--- number of those left. Assumes nothing.
+-- number of those left.
 use Prim.Native.Nat.{_-_, _≤_}
 use native.Mathlib.Omega.{arith}
 use mathlib.Core.Path.{_≡_, refl}

@@ -1,4 +1,4 @@
--- `roots::last_root` meets its contract. Assumes nothing.
+-- `roots::last_root` meets its contract.
 use Rattle.order.proofs.LastBlock.{root-head, root-part, head-first, last-at-head, last-before-head}
 use Rattle.order.proofs.roots.last_root.Statement.{statement}
 use Rattle.order.proofs.roots.last_root.Tie as tie

@@ -1,4 +1,4 @@
--- `roots::list_length` meets its contract. Assumes nothing.
+-- `roots::list_length` meets its contract.
 use borrow.Author.Needs.{needs}
 use native.Mathlib.Omega.{arith}
 use Rattle.order.proofs.LastBlock.{root-small, last-place, last-counts}

@@ -1,5 +1,4 @@
 -- `play::play` meets its contract. The loop's invariant is `LoopInvariant`; the measure is what is left of the records.
--- Assumes nothing.
 mod Places
 mod Arms
 mod Begins

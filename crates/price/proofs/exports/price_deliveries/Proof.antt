@@ -1,4 +1,4 @@
--- `exports::price_deliveries` meets its contract. Assumes nothing.
+-- `exports::price_deliveries` meets its contract.
 use mathlib.Core.Path.{sym, _∙_}
 use borrow.Author.Needs.{needs}
 use Rattle.price.specs.Price.{priceRefused, priceIs}

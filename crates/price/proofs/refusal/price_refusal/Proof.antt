@@ -1,4 +1,4 @@
--- `refusal::price_refusal` meets its contract. The tests are passed in the order of the definition. Assumes nothing.
+-- `refusal::price_refusal` meets its contract. The tests are passed in the order of the definition.
 use mathlib.Core.Path.{_≡_, sym, _∙_}
 use mathlib.Core.Bool.{not}
 use borrow.Author.Needs.{needs}

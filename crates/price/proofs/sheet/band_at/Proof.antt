@@ -1,9 +1,9 @@
--- `sheet::band_at` meets its contract. Each number is read where it stands in the whole sheet. Assumes nothing.
+-- `sheet::band_at` meets its contract. Each number is read where it stands in the whole sheet.
 use native.Mathlib.Omega.{arith}
 use lib.ListN.{drop}
 use lib.Seq.{take-take}
 use borrow.Author.Needs.{needs}
-use Rattle.record.proofs.Numbers.{part-of-part}
+use Rattle.encoding.proofs.Numbers.{part-of-part}
 use Rattle.price.specs.Sheet.{band}
 use Rattle.price.proofs.sheet.band_at.Statement.{statement}
 use Rattle.price.proofs.sheet.band_at.Tie as tie

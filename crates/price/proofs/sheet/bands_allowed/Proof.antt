@@ -1,4 +1,4 @@
--- `sheet::bands_allowed` meets its contract. The tests are passed in the order of the definition. Assumes nothing.
+-- `sheet::bands_allowed` meets its contract. The tests are passed in the order of the definition.
 use borrow.Author.Needs.{needs}
 use borrow.Author.Tests.{le-leb, lt-leb}
 use Rattle.price.specs.Sheet.{mostBands, bandsAllowed}

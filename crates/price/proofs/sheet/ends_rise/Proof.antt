@@ -1,5 +1,5 @@
 -- `sheet::ends_rise` meets its contract. The loop's invariant: the ends rise up to that of the band before number i.
--- The measure is what is left of the bands. Assumes nothing.
+-- The measure is what is left of the bands.
 use Prim.Native.Nat.{_-_, _/_, _≤_}
 use native.Mathlib.Omega.{arith}
 use mathlib.Core.Path.{refl, sym, _∙_}

@@ -1,5 +1,5 @@
 -- `sheet::prices_allowed` meets its contract. The loop's invariant: no price before band i is too high. The measure is
--- what is left of the bands. Assumes nothing.
+-- what is left of the bands.
 use Prim.Native.Nat.{_-_, _/_}
 use native.Mathlib.Omega.{arith}
 use mathlib.Core.Path.{refl, sym, _∙_}

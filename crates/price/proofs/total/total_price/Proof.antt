@@ -1,5 +1,5 @@
 -- `total::total_price` meets its contract. The loop's invariant: the bands before number i price the deliveries up to
--- their ends. The measure is what is left of the bands but the last. Assumes nothing.
+-- their ends. The measure is what is left of the bands but the last.
 use Prim.Native.Nat.{_-_, _/_, _≤_}
 use native.Mathlib.Omega.{arith}
 use mathlib.Core.Path.{_≡_, _∙_}

@@ -1,4 +1,4 @@
--- `line::put_line` meets its contract. Assumes nothing.
+-- `line::put_line` meets its contract.
 use native.Mathlib.Omega.{arith}
 use borrow.Author.Needs.{needs}
 use Rattle.base.proofs.Stored.{stored-then}

@@ -1,4 +1,4 @@
--- `line::put_operation` meets its contract. Assumes nothing.
+-- `line::put_operation` meets its contract.
 use native.Mathlib.Omega.{arith}
 use mathlib.Core.Path.{ap}
 use lib.ListN.{length}

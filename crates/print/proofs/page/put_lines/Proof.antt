@@ -1,5 +1,4 @@
--- `page::put_lines` meets its contract. The invariant of the loop: the lines of the answers passed are stored. Assumes
--- nothing.
+-- `page::put_lines` meets its contract. The invariant of the loop: the lines of the answers passed are stored.
 use Prim.Native.Nat.{_*_, _-_, _≤_}
 use native.Mathlib.Omega.{arith}
 use mathlib.Core.Path.{_≡_, ap}

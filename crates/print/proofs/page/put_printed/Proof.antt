@@ -1,4 +1,4 @@
--- `page::put_printed` meets its contract. Assumes nothing.
+-- `page::put_printed` meets its contract.
 use native.Mathlib.Omega.{arith}
 use borrow.Author.Needs.{needs}
 use Rattle.base.proofs.Stored.{stored-then}

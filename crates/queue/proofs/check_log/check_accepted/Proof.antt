@@ -1,4 +1,4 @@
--- `check_log::check_accepted` meets its contract. Assumes nothing.
+-- `check_log::check_accepted` meets its contract.
 use mathlib.Core.Path.{refl}
 use borrow.Author.Needs.{needs}
 use Rattle.calls.proofs.CallAccepted.{check-call}

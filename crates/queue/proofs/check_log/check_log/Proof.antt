@@ -1,4 +1,4 @@
--- `check_log::check_log` meets its contract. Assumes nothing.
+-- `check_log::check_log` meets its contract.
 use borrow.Author.Needs.{needs}
 use Rattle.refusals.proofs.Found.{found-accepted, found-refused}
 use Rattle.queue.proofs.CheckLaws.{with-judges, check-down}

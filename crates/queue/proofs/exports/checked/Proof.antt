@@ -1,7 +1,8 @@
--- `exports::checked` meets its contract. Assumes nothing.
+-- `exports::checked` meets its contract.
 use mathlib.Core.Path.{refl}
 use borrow.Author.Needs.{needs}
 use Rattle.calls.specs.CheckLog.{verdictRefusal, verdictNumber, verdictIndex, checked}
+use Rattle.queue.specs.Exported.{checkExported}
 use Rattle.queue.proofs.exports.checked.Statement.{statement}
 use Rattle.queue.proofs.exports.checked.Tie as tie
 
@@ -18,16 +19,16 @@ number-requires : tie.Need-number-requires
 number-requires c κs = search needs
 
 returns : tie.Need-returns
-unfolding checked verdictRefusal verdictNumber verdictIndex
-returns c = λ _. rw (c .enum-told .given .1) record { refusal = refl; verdict = refl; index = refl; words = refl }
+unfolding checkExported checked verdictRefusal verdictNumber verdictIndex
+returns c = λ _. rw (c .enum-told .given .1) refl
 
 returns-2 : tie.Need-returns-2
-unfolding checked verdictRefusal verdictNumber verdictIndex
-returns-2 c = λ _. rw (c .before .v .given .1) record { refusal = refl; verdict = refl; index = refl; words = refl }
+unfolding checkExported checked verdictRefusal verdictNumber verdictIndex
+returns-2 c = λ _. rw (c .before .v .given .1) refl
 
 returns-3 : tie.Need-returns-3
-unfolding checked verdictRefusal verdictNumber verdictIndex
-returns-3 c = λ _. rw (c .before .before .v2 .given .1, c .number .ensures) record { refusal = refl; verdict = refl; index = refl; words = refl }
+unfolding checkExported checked verdictRefusal verdictNumber verdictIndex
+returns-3 c = λ _. rw (c .before .before .v2 .given .1, c .number .ensures) refl
 
 pub checked-spec : {M : Type 1} → statement M
 checked-spec =

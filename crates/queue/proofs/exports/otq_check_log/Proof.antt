@@ -1,4 +1,4 @@
--- `exports::otq_check_log` meets its contract. Assumes nothing.
+-- `exports::otq_check_log` meets its contract.
 use borrow.Author.Needs.{needs}
 use Rattle.queue.proofs.Exporting.{check-export, check-told}
 use Rattle.queue.proofs.exports.otq_check_log.Statement.{statement}

@@ -1,4 +1,4 @@
--- `exports::otq_forecast` meets its contract. Assumes nothing.
+-- `exports::otq_forecast` meets its contract.
 use mathlib.Core.Path.{sym, _∙_, subst}
 use borrow.Author.Needs.{needs}
 use Rattle.calls.specs.Forecast.{Forecasts}

@@ -1,4 +1,4 @@
--- `exports::otq_list_order` meets its contract. Assumes nothing.
+-- `exports::otq_list_order` meets its contract.
 use borrow.Author.Needs.{needs}
 use Rattle.queue.proofs.Exporting.{list-export}
 use Rattle.queue.proofs.exports.otq_list_order.Statement.{statement}

@@ -1,4 +1,4 @@
--- `exports::otq_run` meets its contract. Assumes nothing.
+-- `exports::otq_run` meets its contract.
 use borrow.Author.Needs.{needs}
 use Rattle.queue.proofs.Exporting.{run-export}
 use Rattle.queue.proofs.exports.otq_run.Statement.{statement}

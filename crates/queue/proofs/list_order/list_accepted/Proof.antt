@@ -1,4 +1,4 @@
--- `list_order::list_accepted` meets its contract. Assumes nothing.
+-- `list_order::list_accepted` meets its contract.
 use mathlib.Core.Path.{refl}
 use borrow.Author.Needs.{needs}
 use Rattle.refusals.proofs.Found.{found-accepted, found-refused}

@@ -1,4 +1,4 @@
--- `list_order::list_order` meets its contract. Assumes nothing.
+-- `list_order::list_order` meets its contract.
 use borrow.Author.Needs.{needs}
 use Rattle.refusals.proofs.Found.{found-accepted, found-refused}
 use Rattle.queue.proofs.ListLaws.{list-down}

@@ -1,4 +1,4 @@
--- `list_order::write_list` meets its contract. Assumes nothing.
+-- `list_order::write_list` meets its contract.
 use Prim.Native.Nat.{_*_}
 use native.Mathlib.Omega.{arith}
 use mathlib.Core.Path.{_≡_, _∙_}

@@ -1,4 +1,4 @@
--- `play_all::play_all` meets its contract. Assumes nothing.
+-- `play_all::play_all` meets its contract.
 use Prim.Native.Nat.{ℕ, _*_}
 use mathlib.Core.Path.{refl, ap, sym, _∙_}
 use mathlib.Core.Logic.{inl}

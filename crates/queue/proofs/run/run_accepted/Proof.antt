@@ -1,4 +1,4 @@
--- `run::run_accepted` meets its contract. Assumes nothing.
+-- `run::run_accepted` meets its contract.
 use mathlib.Core.Path.{refl, sym}
 use mathlib.Core.Logic.{inr}
 use borrow.Author.Needs.{needs}

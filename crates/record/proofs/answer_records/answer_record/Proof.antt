@@ -1,10 +1,10 @@
 -- `answer_records::answer_record` meets its contract. Each field is read where it stands in the whole slice, which is a
--- part of the part that the definition reads. Assumes nothing.
+-- part of the part that the definition reads.
 use native.Mathlib.Omega.{arith}
 use lib.ListN.{drop}
 use lib.Seq.{take-take}
 use borrow.Author.Needs.{needs}
-use Rattle.record.proofs.Numbers.{part-of-part}
+use Rattle.encoding.proofs.Numbers.{part-of-part}
 use Rattle.record.specs.ReadAnswers.{answerRecord}
 use Rattle.record.proofs.answer_records.answer_record.Statement.{statement}
 use Rattle.record.proofs.answer_records.answer_record.Tie as tie

@@ -1,4 +1,4 @@
--- `answer_records::reply_for` meets its contract. Assumes nothing.
+-- `answer_records::reply_for` meets its contract.
 use borrow.Author.Tests.{eq-eqb, ne-eqb}
 use Rattle.record.specs.ReadAnswers.{replyFor}
 use Rattle.record.proofs.answer_records.reply_for.Statement.{statement}

@@ -1,4 +1,4 @@
--- `before::buffers` meets its contract. Assumes nothing.
+-- `before::buffers` meets its contract.
 use native.Mathlib.Omega.{arith}
 use mathlib.Core.Path.{_∙_}
 use borrow.Author.Needs.{needs}

@@ -1,4 +1,4 @@
--- `before::of_bytes` meets its contract. Assumes nothing.
+-- `before::of_bytes` meets its contract.
 use borrow.Author.Tests.{eq-eqb, ne-eqb}
 use Rattle.record.specs.StepRecords.{stepSize}
 use Rattle.calls.specs.Refusals.{torn, bytesRefusal}

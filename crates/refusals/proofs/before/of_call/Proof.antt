@@ -1,4 +1,4 @@
--- `before::of_call` meets its contract. Assumes nothing.
+-- `before::of_call` meets its contract.
 use borrow.Author.Needs.{needs}
 use Rattle.calls.specs.Refusals.{firstRefusal, callRefusal}
 use Rattle.refusals.proofs.Found.{found-accepted, found-refused}

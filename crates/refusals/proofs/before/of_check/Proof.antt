@@ -1,4 +1,4 @@
--- `before::of_check` meets its contract. Assumes nothing.
+-- `before::of_check` meets its contract.
 use borrow.Author.Needs.{needs}
 use borrow.Author.Tests.{eq-eqb, ne-eqb}
 use Rattle.record.specs.AnswerRecords.{answerSize}

@@ -1,4 +1,4 @@
--- `before::settings` meets its contract. Assumes nothing.
+-- `before::settings` meets its contract.
 use borrow.Author.Needs.{needs}
 use Rattle.calls.specs.Refusals.{settingsRefusal}
 use Rattle.refusals.proofs.before.settings.Statement.{statement}

@@ -1,4 +1,4 @@
--- `begin::begin_refusal` meets its contract. Assumes nothing.
+-- `begin::begin_refusal` meets its contract.
 use mathlib.Core.Path.{_≡_}
 use mathlib.Core.Bool.{true, false}
 use lib.Dec.{leb}

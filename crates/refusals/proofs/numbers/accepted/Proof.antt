@@ -1,4 +1,4 @@
--- `numbers::accepted` meets its contract. Assumes nothing.
+-- `numbers::accepted` meets its contract.
 use borrow.Author.Needs.{needs}
 use Rattle.calls.specs.Refusals.{accepted}
 use Rattle.refusals.proofs.numbers.accepted.Statement.{statement}

@@ -1,4 +1,4 @@
--- `numbers::number` meets its contract. Assumes nothing.
+-- `numbers::number` meets its contract.
 use borrow.Author.Needs.{needs}
 use Rattle.calls.specs.Refusals.{refusalNumber}
 use Rattle.refusals.proofs.numbers.number.Statement.{statement}

@@ -1,4 +1,4 @@
--- `climb::beside` meets its contract. Assumes nothing.
+-- `climb::beside` meets its contract.
 use borrow.Author.Tests.{eq-eqb, ne-eqb}
 use Rattle.tree.specs.Order.{total}
 use Rattle.search.specs.Contracts.Climbing.{besideOf}

@@ -1,4 +1,4 @@
--- `climb::holder` meets its contract. Assumes nothing.
+-- `climb::holder` meets its contract.
 use borrow.Author.Needs.{needs}
 use Rattle.search.proofs.climb.holder.Statement.{statement}
 use Rattle.search.proofs.climb.holder.Tie as tie

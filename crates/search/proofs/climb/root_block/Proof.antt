@@ -1,5 +1,5 @@
 -- `climb::root_block` meets its contract. The loop's invariant is `Reached`; the measure is the node, which each turn
--- halves. Assumes nothing.
+-- halves.
 use Prim.Native.Nat.{ℕ}
 use native.Mathlib.Omega.{arith}
 use Rattle.tree.specs.Shape.{Shape}

@@ -1,5 +1,5 @@
 -- `climb::standing` meets its contract. The loop's invariant is that of `root_block` with the count, `Counted`; the
--- measure is the node, which each turn halves. Assumes nothing.
+-- measure is the node, which each turn halves.
 use Prim.Native.Nat.{ℕ}
 use native.Mathlib.Omega.{arith}
 use Rattle.tree.specs.declared.Kind.the-variants.{Takes}

@@ -1,4 +1,4 @@
--- `find::find_put` meets its contract. The measure is the height, which each call lowers by one. Assumes nothing.
+-- `find::find_put` meets its contract. The measure is the height, which each call lowers by one.
 use native.Mathlib.Omega.{arith}
 use Rattle.base.proofs.Somes.{some-two}
 use Rattle.search.proofs.FindLaws.{down-ready, down-to, find-place, leaf-found}
@@ -10,7 +10,7 @@ use Rattle.search.proofs.find.find_put.Kinds as find-put-kinds
 use Rattle.search.proofs.find.+find_put.Lts-find_put as find-put-lts
 use Rattle.search.proofs.find.descend.Reads as descend-reads
 use Rattle.search.proofs.places.first_place.Reads as first-place-reads
-use Rattle.tree.proofs.access.block_at.Reads as block-at-reads
+use Rattle.table.proofs.access.block_at.Reads as block-at-reads
 use Rattle.search.proofs.find.+find_put.{statement}
 use Rattle.search.proofs.find.+find_put.Tie.{close}
 

@@ -1,4 +1,4 @@
--- `find::descend` meets its contract. Assumes nothing.
+-- `find::descend` meets its contract.
 use Prim.Native.Nat.{_+_}
 use native.Mathlib.Omega.{arith}
 use borrow.Author.Tests.{le-leb, lt-leb}

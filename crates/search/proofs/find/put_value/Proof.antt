@@ -1,4 +1,4 @@
--- `find::put_value` meets its contract. Assumes nothing.
+-- `find::put_value` meets its contract.
 use Rattle.base.proofs.Somes.{some-two}
 use Rattle.search.proofs.FindLaws.{root-ready, root-finds, root-value}
 use Rattle.search.proofs.find.put_value.Statement.{statement}

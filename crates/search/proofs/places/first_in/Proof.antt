@@ -1,4 +1,4 @@
--- `places::first_in` meets its contract. Assumes nothing.
+-- `places::first_in` meets its contract.
 use Rattle.search.proofs.Firsts.{last-some, first-found}
 use borrow.Author.Needs.{needs}
 use Rattle.search.proofs.places.first_in.Statement.{statement}

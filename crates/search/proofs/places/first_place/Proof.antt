@@ -1,4 +1,4 @@
--- `places::first_place` meets its contract. Assumes nothing.
+-- `places::first_place` meets its contract.
 use Rattle.tree.specs.Contracts.Access.{nodePart}
 use borrow.Author.Needs.{needs}
 use Rattle.search.proofs.places.first_place.Statement.{statement}

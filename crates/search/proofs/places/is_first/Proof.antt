@@ -1,4 +1,4 @@
--- `places::is_first` meets its contract. Assumes nothing.
+-- `places::is_first` meets its contract.
 use native.Mathlib.Omega.{arith}
 use mathlib.Core.Bool.{false≢true}
 use borrow.Author.Tests.{ltb-true, lt-ltb}

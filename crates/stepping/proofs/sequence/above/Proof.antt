@@ -1,4 +1,4 @@
--- `sequence::above` meets its contract. Assumes nothing.
+-- `sequence::above` meets its contract.
 use borrow.Author.Tests.{eq-eqb, ne-eqb}
 use Rattle.tree.specs.Shape.{root, parentOf}
 use Rattle.steps.specs.Rules.{above}

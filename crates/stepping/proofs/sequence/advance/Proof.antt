@@ -1,4 +1,4 @@
--- `sequence::advance` meets its contract. Assumes nothing.
+-- `sequence::advance` meets its contract.
 use borrow.Author.Tests.{eq-eqb, ne-eqb}
 use Rattle.tree.specs.Shape.{root}
 use Rattle.steps.specs.Rules.{advance}

@@ -1,4 +1,4 @@
--- `sequence::after_child` meets its contract. Assumes nothing.
+-- `sequence::after_child` meets its contract.
 use mathlib.Core.Path.{ap, sym, _∙_}
 use mathlib.Core.Bool.{false≢true}
 use Rattle.steps.specs.Rules.{ofChild, resume}

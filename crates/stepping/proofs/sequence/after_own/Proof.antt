@@ -1,4 +1,4 @@
--- `sequence::after_own` meets its contract. Assumes nothing.
+-- `sequence::after_own` meets its contract.
 use mathlib.Core.Path.{_≡_, refl, _∙_}
 use mathlib.Core.Bool.{false, true≢false}
 use mathlib.Core.List.{[], _∷_}

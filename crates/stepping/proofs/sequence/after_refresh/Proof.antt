@@ -1,4 +1,4 @@
--- `sequence::after_refresh` meets its contract. Assumes nothing.
+-- `sequence::after_refresh` meets its contract.
 use Rattle.steps.specs.Rules.{afterFailed, afterRefresh}
 use borrow.Author.Needs.{needs}
 use Rattle.stepping.proofs.sequence.after_refresh.Statement.{statement}

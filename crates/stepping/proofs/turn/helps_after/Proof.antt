@@ -1,4 +1,4 @@
--- `turn::helps_after` meets its contract. Assumes nothing.
+-- `turn::helps_after` meets its contract.
 use borrow.Author.Needs.{needs}
 use Rattle.stepping.proofs.turn.helps_after.Statement.{statement}
 use Rattle.stepping.proofs.turn.helps_after.Tie as tie

@@ -1,4 +1,4 @@
--- `turn::moved` meets its contract. Assumes nothing.
+-- `turn::moved` meets its contract.
 use borrow.Author.Needs.{needs}
 use Rattle.stepping.proofs.turn.moved.Statement.{statement}
 use Rattle.stepping.proofs.turn.moved.Tie as tie

@@ -1,4 +1,4 @@
--- `turn::moved_telling` meets its contract. Assumes nothing.
+-- `turn::moved_telling` meets its contract.
 use Rattle.steps.specs.Rules.{goTelling}
 use borrow.Author.Needs.{needs}
 use Rattle.stepping.proofs.turn.moved_telling.Statement.{statement}

@@ -1,4 +1,4 @@
--- `turn::operation_in` meets its contract. Assumes nothing.
+-- `turn::operation_in` meets its contract.
 use borrow.Author.Needs.{needs}
 use Rattle.stepping.proofs.turn.operation_in.Statement.{statement}
 use Rattle.stepping.proofs.turn.operation_in.Tie as tie

@@ -1,4 +1,4 @@
--- `turn::step_in` meets its contract. Assumes nothing.
+-- `turn::step_in` meets its contract.
 use borrow.Author.Needs.{needs}
 use Rattle.stepping.proofs.turn.step_in.Statement.{statement}
 use Rattle.stepping.proofs.turn.step_in.Tie as tie

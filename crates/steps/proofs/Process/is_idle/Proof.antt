@@ -1,4 +1,4 @@
--- `Process::is_idle` meets its contract. Assumes nothing.
+-- `Process::is_idle` meets its contract.
 use borrow.Author.Needs.{needs}
 use Rattle.steps.specs.Machine.{isIdle}
 use Rattle.steps.proofs.Process.is_idle.Statement.{statement}

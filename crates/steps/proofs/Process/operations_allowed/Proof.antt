@@ -1,4 +1,4 @@
--- `Process::operations_allowed` meets its contract. Assumes nothing.
+-- `Process::operations_allowed` meets its contract.
 use Prim.Native.Nat.{_≤_}
 use borrow.Author.Tests.{le-leb}
 use native.Mathlib.Omega.{arith}

@@ -1,4 +1,4 @@
--- `Process::processes_allowed` meets its contract. Assumes nothing.
+-- `Process::processes_allowed` meets its contract.
 use borrow.Author.Tests.{eq-eqb, ne-eqb}
 use Rattle.steps.specs.Process.{processesAllowed}
 use Rattle.steps.proofs.Process.processes_allowed.Statement.{statement}

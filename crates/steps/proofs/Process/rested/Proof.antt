@@ -1,4 +1,4 @@
--- `Process::rested` meets its contract. Assumes nothing.
+-- `Process::rested` meets its contract.
 use mathlib.Core.Path.{refl}
 use borrow.Author.Needs.{needs}
 use Rattle.steps.specs.Contracts.Operations.{rested}

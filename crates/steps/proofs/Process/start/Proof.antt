@@ -1,4 +1,4 @@
--- `Process::start` meets its contract. Assumes nothing.
+-- `Process::start` meets its contract.
 use mathlib.Core.Path.{refl}
 use Rattle.steps.specs.Process.{idle}
 use Rattle.steps.proofs.Process.start.Statement.{statement}

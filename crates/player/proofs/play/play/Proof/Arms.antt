@@ -1,12 +1,11 @@
--- The arms of `play`'s loop, one a named step: what the step needs, and that the loop's invariant holds after it. Used
--- by its proof alone.
+-- The arms of `play`'s loop, one a named step: what the step needs, and that the loop's invariant holds after it.
 use mathlib.Core.Path.{refl, ap, sym, _∙_}
 use mathlib.Core.Bool.{true, false}
 use Rattle.steps.specs.Process.{idle}
 use Rattle.steps.specs.Machine.{isIdle, isQ}
-use Rattle.block_steps.proofs.Decision.{decided-next}
+use Rattle.build_steps.proofs.Decision.{decided-next}
 use Rattle.player.proofs.StepLoop.{q, step-named, step-busy, step-leaf, step-begins, step-playing, step-same, step-ready, step-fits, step-fits-leaf}
-use Rattle.player.proofs.StepLoop.{telling-moves, step-moves, finish-full, finish-moves}
+use Rattle.player.proofs.StepLoop.{telling-moves, step-moves, heads-move, table-moves, finish-full, finish-moves}
 use Rattle.player.proofs.play.play.Proof.Places.{Inv-loop, μ-loop, found, few-steps, few-helps}
 use Rattle.player.proofs.play.play.Tie as tie
 
@@ -37,9 +36,7 @@ pub again-v1 : tie.Need-loop-again-2 Inv-loop μ-loop
 unfolding idle isQ
 again-v1 c =
     let b = c .before .before .before .before .before in
-    let f = found b in
-    step-moves f (b .before .status .given .1) (c .before .before .before .enum-told3 .given .1) refl _ _ _ refl refl
-    (λ is _ _. let e = c .step-v1 .ensures .0 _ _ _ _ is in (e .0, e .1 _ _ _ _ _))
+    heads-move (found b) (b .before .status .given .1) (c .before .before .before .enum-told3 .given .1) refl _ _ refl (c .step-v1 .ensures .0 _ _ _ _)
 
 pub ready-v2 : tie.Need-step-v2-requires Inv-loop μ-loop
 unfolding idle isQ
@@ -52,9 +49,8 @@ pub again-v2 : tie.Need-loop-again-3 Inv-loop μ-loop
 unfolding idle isQ
 again-v2 c =
     let b = c .before .before .before .before .before .before .before in
-    let f = found b in
-    step-moves f (b .before .status .given .1) (c .before .before .before .before .before .enum-told4 .given .1) refl _ _ _ refl (c .before .before .step-v2 .kept .0)
-    (λ is _ placed. let e = c .before .before .step-v2 .ensures _ .0 _ _ _ _ _ is in (e .0, e .1 _ _ _ _ placed))
+    table-moves (found b) (b .before .status .given .1) (c .before .before .before .before .before .enum-told4 .given .1) refl _ _ (c .before .before .step-v2 .kept .0)
+    (c .before .before .step-v2 .ensures _ .0 _ _ _ _ _)
 
 pub ready-v3-child : tie.Need-step-v3-child-requires Inv-loop μ-loop
 unfolding idle isQ
@@ -82,9 +78,8 @@ pub again-v3-own : tie.Need-loop-again-5 Inv-loop μ-loop
 unfolding idle isQ
 again-v3-own c =
     let b = c .before .before .before .before .before .before .before .before .before in
-    let f = found b in
-    step-moves f (b .before .status .given .1) (c .before .before .before .before .before .before .before .enum-told5 .given .1) refl _ _ _ (c .before .before .step-v3-own .kept .0) refl
-    (λ is _ _. let e = c .before .before .step-v3-own .ensures .0 _ _ _ _ is in (e .0, e .1 _ _ _ _ _))
+    heads-move (found b) (b .before .status .given .1) (c .before .before .before .before .before .before .before .enum-told5 .given .1) refl _ _ (c .before .before .step-v3-own .kept .0)
+    (c .before .before .step-v3-own .ensures .0 _ _ _ _)
 
 pub ready-r1 : tie.Need-step-r1-requires Inv-loop μ-loop
 unfolding idle isQ
@@ -94,9 +89,7 @@ pub again-r1 : tie.Need-loop-again-6 Inv-loop μ-loop
 unfolding idle isQ
 again-r1 c =
     let b = c .before .before .before .before .before in
-    let f = found b in
-    step-moves f (b .before .status .given .1) (c .before .before .before .enum-told6 .given .1) refl _ _ _ refl refl
-    (λ is _ _. let e = c .step-r1 .ensures .0 _ _ is in (e .0, e .1 _ _ _ _ _))
+    heads-move (found b) (b .before .status .given .1) (c .before .before .before .enum-told6 .given .1) refl _ _ refl (c .step-r1 .ensures .0 _ _)
 
 pub ready-r2 : tie.Need-step-r2-requires Inv-loop μ-loop
 unfolding idle isQ
@@ -106,9 +99,7 @@ pub again-r2 : tie.Need-loop-again-7 Inv-loop μ-loop
 unfolding idle isQ
 again-r2 c =
     let b = c .before .before .before .before .before in
-    let f = found b in
-    step-moves f (b .before .status .given .1) (c .before .before .before .enum-told7 .given .1) refl _ _ _ refl refl
-    (λ is _ _. let e = c .step-r2 .ensures .0 _ is in (e .0, e .1 _ _ _ _ _))
+    heads-move (found b) (b .before .status .given .1) (c .before .before .before .enum-told7 .given .1) refl _ _ refl (c .step-r2 .ensures .0 _)
 
 pub ready-r3 : tie.Need-step-r3-requires Inv-loop μ-loop
 unfolding idle isQ
@@ -121,9 +112,7 @@ pub again-r3 : tie.Need-loop-again-8 Inv-loop μ-loop
 unfolding idle isQ
 again-r3 c =
     let b = c .before .before .before .before .before in
-    let f = found b in
-    step-moves f (b .before .status .given .1) (c .before .before .before .enum-told8 .given .1) refl _ _ _ refl refl
-    (λ is _ placed. let e = c .step-r3 .ensures _ .0 _ _ is in (e .0, e .1 _ _ _ _ placed))
+    table-moves (found b) (b .before .status .given .1) (c .before .before .before .enum-told8 .given .1) refl _ _ refl (c .step-r3 .ensures _ .0 _ _)
 
 pub ready-r4 : tie.Need-step-r4-requires Inv-loop μ-loop
 unfolding idle isQ
@@ -133,9 +122,7 @@ pub again-r4 : tie.Need-loop-again-9 Inv-loop μ-loop
 unfolding idle isQ
 again-r4 c =
     let b = c .before .before .before .before .before in
-    let f = found b in
-    step-moves f (b .before .status .given .1) (c .before .before .before .enum-told9 .given .1) refl _ _ _ refl refl
-    (λ is _ _. let e = c .step-r4 .ensures .0 _ is in (e .0, e .1 _ _ _ _ _))
+    heads-move (found b) (b .before .status .given .1) (c .before .before .before .enum-told9 .given .1) refl _ _ refl (c .step-r4 .ensures .0 _)
 
 pub ready-r5 : tie.Need-step-r5-requires Inv-loop μ-loop
 unfolding idle isQ
@@ -148,9 +135,7 @@ pub again-r5 : tie.Need-loop-again-10 Inv-loop μ-loop
 unfolding idle isQ
 again-r5 c =
     let b = c .before .before .before .before .before in
-    let f = found b in
-    step-moves f (b .before .status .given .1) (c .before .before .before .enum-told10 .given .1) refl _ _ _ refl refl
-    (λ is _ placed. let e = c .step-r5 .ensures _ .0 _ _ is in (e .0, e .1 _ _ _ _ placed))
+    table-moves (found b) (b .before .status .given .1) (c .before .before .before .enum-told10 .given .1) refl _ _ refl (c .step-r5 .ensures _ .0 _ _)
 
 pub ready-c1 : tie.Need-step-c1-requires Inv-loop μ-loop
 unfolding idle isQ
@@ -160,9 +145,7 @@ pub again-c1 : tie.Need-loop-again-11 Inv-loop μ-loop
 unfolding idle isQ
 again-c1 c =
     let b = c .before .before .before .before .before in
-    let f = found b in
-    step-moves f (b .before .status .given .1) (c .before .before .before .enum-told11 .given .1) refl _ _ _ refl refl
-    (λ is _ _. let e = c .step-c1 .ensures .0 _ is in (e .0, e .1 _ _ _ _ _))
+    heads-move (found b) (b .before .status .given .1) (c .before .before .before .enum-told11 .given .1) refl _ _ refl (c .step-c1 .ensures .0 _)
 
 pub ready-c2 : tie.Need-step-c2-requires Inv-loop μ-loop
 unfolding idle isQ
@@ -172,9 +155,7 @@ pub again-c2 : tie.Need-loop-again-12 Inv-loop μ-loop
 unfolding idle isQ
 again-c2 c =
     let b = c .before .before .before .before .before in
-    let f = found b in
-    step-moves f (b .before .status .given .1) (c .before .before .before .enum-told12 .given .1) refl _ _ _ refl refl
-    (λ is _ _. let e = c .step-c2 .ensures .0 _ _ is in (e .0, e .1 _ _ _ _ _))
+    heads-move (found b) (b .before .status .given .1) (c .before .before .before .enum-told12 .given .1) refl _ _ refl (c .step-c2 .ensures .0 _ _)
 
 pub ready-c3l : tie.Need-step-c3l-requires Inv-loop μ-loop
 unfolding idle isQ
@@ -187,9 +168,7 @@ pub again-c3l : tie.Need-loop-again-13 Inv-loop μ-loop
 unfolding idle isQ
 again-c3l c =
     let b = c .before .before .before .before .before in
-    let f = found b in
-    step-moves f (b .before .status .given .1) (c .before .before .before .enum-told13 .given .1) refl _ _ _ refl refl
-    (λ is _ placed. let e = c .step-c3l .ensures _ .0 _ _ _ is in (e .0, e .1 _ _ _ _ placed))
+    table-moves (found b) (b .before .status .given .1) (c .before .before .before .enum-told13 .given .1) refl _ _ refl (c .step-c3l .ensures _ .0 _ _ _)
 
 pub ready-c3r : tie.Need-step-c3r-requires Inv-loop μ-loop
 unfolding idle isQ
@@ -202,9 +181,7 @@ pub again-c3r : tie.Need-loop-again-14 Inv-loop μ-loop
 unfolding idle isQ
 again-c3r c =
     let b = c .before .before .before .before .before in
-    let f = found b in
-    step-moves f (b .before .status .given .1) (c .before .before .before .enum-told14 .given .1) refl _ _ _ refl refl
-    (λ is _ placed. let e = c .step-c3r .ensures _ .0 _ _ _ _ _ is in (e .0, e .1 _ _ _ _ placed))
+    table-moves (found b) (b .before .status .given .1) (c .before .before .before .enum-told14 .given .1) refl _ _ refl (c .step-c3r .ensures _ .0 _ _ _ _ _)
 
 pub ready-c3n : tie.Need-adds-nothing-requires Inv-loop μ-loop
 unfolding idle isQ
@@ -218,12 +195,9 @@ pub again-c3n-up : tie.Need-loop-again-15 Inv-loop μ-loop
 unfolding idle isQ
 again-c3n-up c =
     let b = c .before .before .before .before .before .before .before in
-    let f = found b in
     let decided = rw (c .before .if4 .taken) at (c .before .before .adds-nothing .ensures) in
-    step-moves f (b .before .status .given .1) (c .before .before .before .before .before .enum-told15 .given .1) refl _ _ _ refl refl
-    (λ is _ placed.
-    let e = decided-next _ _ _ (q f) _ _ _ _ _ _ is true (decided .0 _ _ _ _ _ is) (c .step-c3n-up .ensures .0 _ _ _ _ _ is) in
-    (e .0, e .1 _ _ _ _ placed))
+    table-moves (found b) (b .before .status .given .1) (c .before .before .before .before .before .enum-told15 .given .1) refl _ _ refl
+    (λ is. decided-next _ _ _ (q (found b)) _ _ _ _ _ _ is true (decided .0 _ _ _ _ _ is) (c .step-c3n-up .ensures .0 _ _ _ _ _ is))
 
 pub ready-c3n-on : tie.Need-step-c3n-on-requires Inv-loop μ-loop
 unfolding idle isQ
@@ -236,12 +210,9 @@ pub again-c3n-on : tie.Need-loop-again-16 Inv-loop μ-loop
 unfolding idle isQ
 again-c3n-on c =
     let b = c .before .before .before .before .before .before .before .before in
-    let f = found b in
     let decided = rw (c .before .before .if4 .left) at (c .before .before .before .adds-nothing .ensures) in
-    step-moves f (b .before .status .given .1) (c .before .before .before .before .before .before .enum-told15 .given .1) refl _ _ _ refl refl
-    (λ is _ placed.
-    let e = decided-next _ _ _ (q f) _ _ _ _ _ _ is false (decided .0 _ _ _ _ _ is) (c .step-c3n-on .ensures .0 _ _ _ _ _ is) in
-    (e .0, e .1 _ _ _ _ placed))
+    table-moves (found b) (b .before .status .given .1) (c .before .before .before .before .before .before .enum-told15 .given .1) refl _ _ refl
+    (λ is. decided-next _ _ _ (q (found b)) _ _ _ _ _ _ is false (decided .0 _ _ _ _ _ is) (c .step-c3n-on .ensures .0 _ _ _ _ _ is))
 
 pub ready-c4 : tie.Need-step-c4-requires Inv-loop μ-loop
 unfolding idle isQ
@@ -254,11 +225,8 @@ pub again-c4 : tie.Need-loop-again-17 Inv-loop μ-loop
 unfolding idle isQ
 again-c4 c =
     let b = c .before .before .before .before .before .before .before .before in
-    let f = found b in
-    step-moves f (b .before .status .given .1) (c .before .before .before .before .before .before .enum-told16 .given .1) refl _ _ _ refl (c .before .before .step-c4 .kept .0)
-    (λ is _ placed.
-    let e = rw (c .before .before .before .number-after2 .ensures) at (c .before .before .step-c4 .ensures .0 _ _ is) in
-    (e .0, e .1 _ _ _ _ placed))
+    table-moves (found b) (b .before .status .given .1) (c .before .before .before .before .before .before .enum-told16 .given .1) refl _ _ (c .before .before .step-c4 .kept .0)
+    (λ is. rw (c .before .before .before .number-after2 .ensures) at (c .before .before .step-c4 .ensures .0 _ _ is))
 
 pub full-q : tie.Need-returns-3 Inv-loop μ-loop
 unfolding idle

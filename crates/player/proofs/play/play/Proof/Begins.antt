@@ -1,5 +1,5 @@
 -- The records of `play`'s loop that are no steps: an ill-formed one is refused, and a begin is refused or opens its
--- operation. Used by its proof alone.
+-- operation.
 use native.Mathlib.Omega.{arith}
 use mathlib.Core.Path.{sym, _∙_}
 use borrow.Author.Tests.{not-true, not-false}

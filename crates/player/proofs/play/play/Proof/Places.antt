@@ -1,5 +1,4 @@
--- The loop of `play`: its invariant, its measure, and what is known at the places that many of its needs share. Used by
--- its proof alone.
+-- The loop of `play`: its invariant, its measure, and what is known at the places that many of its needs share.
 use Prim.Native.Nat.{_+_, _*_, _-_, _<_}
 use native.Mathlib.Omega.{arith}
 use mathlib.Core.Path.{sym, _∙_}

@@ -1,0 +1,4 @@
+pub mod Slots
+pub mod Received
+pub mod RunAnswers
+pub mod ListedTerms

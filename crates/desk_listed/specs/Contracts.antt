@@ -1,0 +1,2 @@
+-- What contracts of functions say in their own terms.
+pub mod Deliverable

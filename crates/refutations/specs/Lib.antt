@@ -1,0 +1,5 @@
+pub mod NotStable
+pub mod NotKept
+pub mod NotLinearizable
+pub mod NotJudged
+pub mod NotForeseen
