@@ -90,10 +90,7 @@ impl Programs {
 
 /// What a program writes; it must succeed.
 pub fn written(command: &mut Command) -> String {
-    let output = command.output().expect("the program starts");
-    let said = String::from_utf8_lossy(&output.stderr);
-    assert!(output.status.success(), "{command:?}\n{said}");
-    String::from_utf8(output.stdout).expect("text")
+    spawned::written(command, &[])
 }
 
 /// gcc or g++ for sources of its language, with the headers, and warnings as errors.

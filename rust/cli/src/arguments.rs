@@ -1,19 +1,23 @@
 //! The words of a command line: options and files.
 
 use crate::failure::Failure;
+use crate::words::{decimal, expected, shown};
 use std::ffi::{OsStr, OsString};
+use std::os::unix::ffi::OsStrExt;
+use std::str::FromStr;
 
 /// An option, and what its value is called; `None` if it has none.
 pub struct Choice {
     pub name: &'static str,
     pub value: Option<&'static str>,
+    /// What it is for; of a number, up to a semicolon, what the number is.
     pub about: &'static str,
 }
 
 /// The options and files that a command was given.
 #[derive(Default)]
 pub struct Given {
-    options: Vec<(&'static str, OsString)>,
+    options: Vec<(&'static Choice, OsString)>,
     pub files: Vec<OsString>,
 }
 
@@ -23,11 +27,9 @@ impl Given {
         let mut given = Given::default();
         let mut words = words.into_iter();
         while let Some(word) = words.next() {
-            match word.to_str() {
-                Some("--") => given.files.extend(words.by_ref()),
-                Some(option) if option.starts_with('-') && option != "-" => {
-                    given.read_option(choices, option, &mut words)?
-                }
+            match word.as_bytes() {
+                b"--" => given.files.extend(words.by_ref()),
+                [b'-', _, ..] => given.read_option(choices, &word, &mut words)?,
                 _ => given.files.push(word),
             }
         }
@@ -38,16 +40,16 @@ impl Given {
     fn read_option(
         &mut self,
         choices: &[&'static Choice],
-        word: &str,
+        word: &OsStr,
         words: &mut impl Iterator<Item = OsString>,
     ) -> Result<(), String> {
-        let (name, joined) = match word.split_once('=') {
-            Some((name, value)) => (name, Some(OsString::from(value))),
-            None => (word, None),
-        };
-        let choice = choices.iter().find(|choice| choice.name == name);
-        let choice = choice.ok_or_else(|| format!("there is no option {name}"))?;
-        if self.value(name).is_some() {
+        let mut parts = word.as_bytes().splitn(2, |&byte| byte == b'=');
+        let name = OsStr::from_bytes(parts.next().unwrap_or_default());
+        let joined = parts.next().map(|value| OsStr::from_bytes(value).into());
+        let choice = choices.iter().find(|choice| name == choice.name);
+        let choice = choice.ok_or_else(|| format!("there is no option {}", shown(name)))?;
+        let name = choice.name;
+        if self.has(name) {
             return Err(format!("{name} is given twice"));
         }
         let value = match (choice.value, joined) {
@@ -58,7 +60,7 @@ impl Given {
                 next.ok_or_else(|| format!("{name} needs its {value}"))?
             }
         };
-        self.options.push((choice.name, value));
+        self.options.push((choice, value));
         Ok(())
     }
 
@@ -68,36 +70,35 @@ impl Given {
     }
 
     pub fn value(&self, name: &str) -> Option<&OsStr> {
-        let option = self.options.iter().find(|(given, _)| *given == name);
+        let option = self.options.iter().find(|(given, _)| given.name == name);
         option.map(|(_, value)| value.as_os_str())
     }
 
-    /// The value as a number.
-    pub fn number(&self, name: &str) -> Result<Option<u64>, Failure> {
-        let value = self.value(name);
-        value.map(|value| number(name, value)).transpose()
+    /// The value of an option as a number that the check lets pass. Of another what is meant is told.
+    pub fn number_if<T: FromStr>(
+        &self,
+        choice: &Choice,
+        check: impl Fn(&T) -> bool,
+    ) -> Result<Option<T>, Failure> {
+        let meant = choice.about.split(';').next().unwrap_or_default();
+        let value = self.value(choice.name);
+        let number = value.map(|value| number_if(choice.name, meant, value, check));
+        number.transpose()
     }
 
-    /// The value as a number of 32 bits.
-    pub fn small(&self, name: &str) -> Result<Option<u32>, Failure> {
-        let value = self.value(name);
-        value.map(|value| small(name, value)).transpose()
+    /// The same, whatever the number is.
+    pub fn number<T: FromStr>(&self, choice: &Choice) -> Result<Option<T>, Failure> {
+        self.number_if(choice, |_| true)
     }
 }
 
-/// The number that a word is, digits only; the name tells what it is for.
-fn number(name: &str, word: &OsStr) -> Result<u64, Failure> {
-    let digits = word.as_encoded_bytes().iter().all(u8::is_ascii_digit);
-    let number = word
-        .to_str()
-        .filter(|_| digits)
-        .and_then(|text| text.parse().ok());
-    let told = || format!("{name}: expected a number, found `{}`", word.display());
-    number.ok_or_else(|| Failure::mistake(told()))
-}
-
-/// The same, of 32 bits.
-pub fn small(name: &str, word: &OsStr) -> Result<u32, Failure> {
-    let number = u32::try_from(number(name, word)?);
-    number.map_err(|_| Failure::mistake(format!("{name}: expected at most {}", u32::MAX)))
+/// The number that a word is. If it is none that the check lets pass, what is meant by the name is told.
+pub fn number_if<T: FromStr>(
+    name: &str,
+    meant: &str,
+    word: &OsStr,
+    check: impl Fn(&T) -> bool,
+) -> Result<T, Failure> {
+    let number = word.to_str().and_then(decimal).filter(check);
+    number.ok_or_else(|| Failure::of(name, expected(meant, &word.to_string_lossy())))
 }

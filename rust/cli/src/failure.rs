@@ -10,9 +10,9 @@ pub enum Status {
     Done = 0,
     /// The logs differ.
     Differs = 1,
-    /// A mistake in the command line, in a file or in a text.
+    /// A mistake in the command line, in a file or in a text, or an output that cannot be written.
     Mistake = 2,
-    /// The library refused the list.
+    /// A library refused the list, the price sheet or a number of the command line.
     Refused = 3,
 }
 
@@ -35,6 +35,14 @@ impl Failure {
             status: Status::Mistake,
             message: format!("otq: {message}"),
         }
+    }
+
+    /// This failure, which counts for more, and another that is told after it if it is not the same.
+    pub fn and(mut self, other: &Failure) -> Failure {
+        if *other != self {
+            self.message += &format!("\n{}", other.message);
+        }
+        self
     }
 
     /// A mistake in a file.

@@ -22,21 +22,29 @@ mod tool;
 mod trace;
 mod words;
 
-use failure::Failure;
+use failure::{Failure, Status};
 use std::ffi::OsString;
 use std::process::ExitCode;
 use tool::Tool;
 
 /// Does what the words of a command line say, and gives the exit status.
 pub fn main(words: Vec<OsString>) -> ExitCode {
-    let mut tool = Tool::new();
-    let done = commands::call(&mut tool, words);
-    let written = tool.finish();
-    match done.and_then(|status| written.map(|()| status)) {
+    match call(words) {
         Ok(status) => status.into(),
         Err(Failure { status, message }) => {
             tool::tell(&message);
             status.into()
         }
+    }
+}
+
+/// What a command did; what it writes stands before what is said of its failure.
+fn call(words: Vec<OsString>) -> Result<Status, Failure> {
+    let mut tool = Tool::new()?;
+    let done = commands::call(&mut tool, words);
+    match (done, tool.finish()) {
+        (done, Ok(())) => done,
+        (Ok(_), Err(unwritten)) => Err(unwritten),
+        (Err(failure), Err(unwritten)) => Err(failure.and(&unwritten)),
     }
 }

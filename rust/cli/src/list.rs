@@ -1,8 +1,9 @@
 //! A list of steps with its p and L, and the calls of the proved libraries on it.
 
 use crate::arguments::Given;
+use crate::commands::{L, P};
 use crate::failure::Failure;
-use crate::files::{Holds, Name, Source};
+use crate::files::{self, Holds, Name, Source};
 use crate::notation::{Exercise, Heading, Mistake, Record};
 use crate::tool::{tell, Tool};
 use crate::words::count;
@@ -24,8 +25,8 @@ impl List {
         tool.reading(&name);
         let source = Source::open(&name)?;
         let said = Heading {
-            processes: given.small("-p")?,
-            operations: given.small("-L")?,
+            processes: given.number(&P)?,
+            operations: given.number(&L)?,
             ..Heading::default()
         };
         let is_text = source.holds != Holds::Records;
@@ -65,6 +66,12 @@ impl List {
 
     pub fn bytes(&self) -> &[u8] {
         &self.exercise.records
+    }
+
+    /// What is told of a text that was taken for records.
+    pub fn spoilt_text(&self) -> Option<String> {
+        let records = (!self.is_text).then_some(self.bytes());
+        records.and_then(files::spoilt_text)
     }
 
     /// The whole records.
@@ -294,7 +301,8 @@ fn read_records(source: Source, said: Heading, whole: bool) -> Result<Exercise, 
     let name = source.name.clone();
     if said.processes.is_none() || said.operations.is_none() {
         let message = "it holds binary records, which do not say p and L: give -p P and -L L";
-        return Err(Failure::of(name, message));
+        let spoilt = source.spoilt_text();
+        return Err(Failure::of(name, spoilt.as_deref().unwrap_or(message)));
     }
     let mut records = source.bytes()?;
     if whole {

@@ -1,14 +1,11 @@
 //! A price sheet, and the call of the proved library on it.
 
 use crate::failure::Failure;
-use crate::files::{Holds, Name, Source};
+use crate::files::{self, Holds, Name, Source};
 use crate::list::text_mistake;
 use crate::notation::PriceSheet;
 use crate::tool::Tool;
 use dictionary::price::{self, Band, Total};
-
-/// How the first line of a text begins that has no comment before it.
-const BEGINNING: &[u8] = b"up to ";
 
 /// A sheet: a text, or binary records.
 pub struct Sheet {
@@ -57,12 +54,10 @@ impl Sheet {
         self.sheet.line_of(band)
     }
 
-    /// Whether the records begin as a text does, zero bytes and a byte order mark aside: a text of 16 bits a
-    /// character, or with a byte that no text has.
-    pub fn is_spoilt_text(&self) -> bool {
-        let bytes = self.sheet.bytes.iter();
-        let mut shown = bytes.filter(|byte| !matches!(byte, 0 | 0xfe | 0xff));
-        !self.is_text && BEGINNING.iter().all(|byte| shown.next() == Some(byte))
+    /// What is told of a text that was taken for records.
+    pub fn spoilt_text(&self) -> Option<String> {
+        let records = (!self.is_text).then_some(&self.sheet.bytes[..]);
+        records.and_then(files::spoilt_text)
     }
 
     /// What so many deliveries cost.

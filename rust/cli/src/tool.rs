@@ -4,11 +4,14 @@ use crate::failure::Failure;
 use crate::files::Name;
 use crate::progress::Progress;
 use std::fmt::Display;
-use std::io::{stderr, stdin, stdout, BufWriter, ErrorKind, IsTerminal, StdoutLock, Write};
+use std::fs::File;
+use std::io::{self, stderr, stdin, stdout, BufWriter, ErrorKind, IsTerminal, Write};
+use std::os::fd::AsFd;
 
 /// What a command writes to.
 pub struct Tool {
-    out: BufWriter<StdoutLock<'static>>,
+    /// Standard output as a file, of which an error of writing is told; of `Stdout` it may be passed over.
+    out: BufWriter<File>,
     /// Whether the reader of standard output has gone.
     closed: bool,
     /// Whether standard output and the progress line would stand on one screen.
@@ -17,13 +20,15 @@ pub struct Tool {
 }
 
 impl Tool {
-    pub fn new() -> Tool {
-        Tool {
-            out: BufWriter::with_capacity(1 << 16, stdout().lock()),
+    pub fn new() -> Result<Tool, Failure> {
+        let out = stdout().as_fd().try_clone_to_owned();
+        let out = File::from(out.map_err(output_failed)?);
+        Ok(Tool {
+            out: BufWriter::with_capacity(1 << 16, out),
             closed: false,
             screen: stdout().is_terminal(),
             progress: Progress::start(),
-        }
+        })
     }
 
     /// Says that a file is read; to wait for somebody who types is no work, and a line would disturb.
@@ -69,15 +74,19 @@ impl Tool {
         }
     }
 
-    fn settle(&mut self, written: std::io::Result<()>) -> Result<(), Failure> {
+    fn settle(&mut self, written: io::Result<()>) -> Result<(), Failure> {
         match written {
             Err(error) if error.kind() == ErrorKind::BrokenPipe => {
                 self.closed = true;
                 Ok(())
             }
-            written => written.map_err(|error| Failure::of("standard output", error)),
+            written => written.map_err(output_failed),
         }
     }
+}
+
+fn output_failed(error: io::Error) -> Failure {
+    Failure::of("standard output", error)
 }
 
 /// Says something on standard error; where that fails, there is nothing left to say it on.

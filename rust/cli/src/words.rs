@@ -1,7 +1,42 @@
-//! Records and nodes in words.
+//! Records and nodes in words, and words of the command line.
 
 use crate::notation::{Line, Record};
 use otq::{Answer, Kind, Order, Outcome, ROOT};
+use std::ffi::OsStr;
+use std::str::FromStr;
+
+/// The most characters of what was found that are told.
+const MOST_TOLD: usize = 60;
+
+/// A word of the command line, such as the name of a file. A control character would act on the terminal
+/// that shows it.
+pub fn shown(word: &OsStr) -> String {
+    match word.is_empty() {
+        true => "``".to_string(),
+        false => without_controls(&word.to_string_lossy()),
+    }
+}
+
+fn without_controls(text: &str) -> String {
+    let shown = text
+        .chars()
+        .map(|c| if c.is_control() { '\u{fffd}' } else { c });
+    shown.collect()
+}
+
+/// The number that a word is, digits only, since `parse` takes a sign too.
+pub fn decimal<T: FromStr>(word: &str) -> Option<T> {
+    let digits = word.bytes().all(|byte| byte.is_ascii_digit());
+    word.parse().ok().filter(|_| digits)
+}
+
+/// That something else was expected than was found.
+pub fn expected(what: &str, found: &str) -> String {
+    let shown = without_controls(found);
+    let told: String = shown.chars().take(MOST_TOLD).collect();
+    let more = if told.len() < shown.len() { ".." } else { "" };
+    format!("expected {what}, found `{told}{more}`")
+}
 
 /// A step record in the notation.
 pub fn step(record: Record) -> String {
@@ -102,7 +137,7 @@ pub fn thousands(number: u64) -> String {
     told
 }
 
-/// Where bytes are torn: how many whole records there are, and what is left after them.
+/// Where a file is torn: how many whole records it has, and what is left after them.
 pub fn torn(length: usize, size: usize, what: &str) -> String {
     let (whole, rest) = (length / size, length % size);
     let (records, bytes) = (count(whole, &format!("whole {what}")), count(rest, "byte"));

@@ -1,7 +1,7 @@
 //! `otq check`.
 
 use crate::support::{
-    content, file, otq, with_numbers, written, LOG, NO_HELPS, STEPS, TEXT, TORN, WRONG,
+    content, file, otq, path, with_numbers, written, LOG, NO_HELPS, STEPS, TEXT, TORN, WRONG,
 };
 
 /// What `check` says of a log, with the example's steps.
@@ -38,21 +38,21 @@ differs at answer 4, byte 48 of the log
   serial      2              2
   root block  2              2
   the first byte that differs is byte {byte} in the log
-  the operation ended with record 92, byte 728: step 0 (00 00 00 00 00 00 00 00)"
+  the operation ended with record 92, byte 728: step 0 (00 00 00 00 00 00 00 00), "
     )
 }
 
-/// This is told of the log, and no other difference.
+/// This is told of the log, with the file of the steps, and no other difference.
 fn assert_differs(log: &str, told: &str) {
     let lengths = "the log has 6 answers, the rules give 6 answers";
     let said = otq(&with_numbers("check", &[STEPS, log]));
-    let expected = format!("{told}\n{lengths}; --all tells every difference\n");
+    let expected = format!("{told}{STEPS}\n{lengths}; --all tells every difference\n");
     assert_eq!(
         (said.status, said.out, said.err.as_str()),
         (1, expected, "")
     );
     let said = otq(&["check", TEXT, log, "--all"]);
-    let expected = format!("{told}, {TEXT}:16\n1 difference; {lengths}\n");
+    let expected = format!("{told}{TEXT}:16\n1 difference; {lengths}\n");
     assert_eq!((said.status, said.out), (1, expected));
 }
 
@@ -178,14 +178,25 @@ fn shorter_and_longer_logs() {
 #[test]
 fn torn_logs() {
     let log = content(LOG);
-    let torn = checked("torn.log", &log[..83], &[]);
-    assert_eq!((torn.status, torn.out.as_str()), (3, ""));
-    assert_eq!(
-        torn.err,
-        "otq: refused with 11: the log bytes are not a multiple of 16\n  \
-         likely cause: 5 whole answers, then 3 bytes at byte 80; --whole checks the 5\n  \
-         `otq explain 11` says what to do\n"
-    );
+    let name = path("torn.log");
+    for (length, cause) in [
+        (
+            83,
+            format!("5 whole answers, then 3 bytes at byte 80 of {name}; --whole checks the 5"),
+        ),
+        (
+            3,
+            format!("0 whole answers, then 3 bytes at byte 0 of {name}"),
+        ),
+    ] {
+        let torn = checked("torn.log", &log[..length], &[]);
+        let told = format!(
+            "otq: refused with 11: the log bytes are not a multiple of 16\n  \
+             likely cause: {cause}\n  `otq explain 11` says what to do\n"
+        );
+        assert_eq!((torn.status, torn.out.as_str()), (3, ""));
+        assert_eq!(torn.err, told);
+    }
     let whole = checked("torn-whole.log", &log[..83], &["--whole"]);
     assert_eq!(whole.status, 1);
     assert!(
@@ -220,10 +231,8 @@ fn refused_lists() {
     );
     let wrong_p = otq(&["check", "-p", "4", "-L", "3", STEPS, LOG]);
     assert_eq!(wrong_p.status, 3);
-    assert!(
-        wrong_p.err.contains("\n  record 26, byte 200: take by 0 "),
-        "{wrong_p:?}"
-    );
+    let place = format!("\n  record 26, byte 200: take by 0 (00 02 00 00 00 00 00 00), {STEPS}\n");
+    assert!(wrong_p.err.contains(&place), "{wrong_p:?}");
     assert!(
         wrong_p
             .err

@@ -35,6 +35,15 @@ fn what_was_decoded_plays_alike() {
     }
 }
 
+/// The records before a mistake are not written: they could be taken for the list.
+#[test]
+fn a_mistake_after_records() {
+    let text = [&content(TEXT)[..], b"step 0 x900000\nstep 300\n"].concat();
+    let text = file("encode-mistake.txt", &text);
+    let message = format!("{text}:21: expected a process from 0 to 255, found `300`\n");
+    assert_fails(&["encode", &text], 2, &message);
+}
+
 #[test]
 fn the_wrong_sort_of_file() {
     let message = format!("otq: {STEPS}: it holds binary records, and not text; `otq decode`");

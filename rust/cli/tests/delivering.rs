@@ -199,7 +199,7 @@ const REFUSED: [[&str; 4]; 15] = [
         "1",
         "processes 2\nraw 00 01 00 01 00 00 00 80\n",
         "otq: refused with 5: a record is ill-formed\n  \
-         record 1, byte 0: raw 00 01 00 01 00 00 00 80 (00 01 00 01 00 00 00 80), FILE:2\n  \
+         record 1, byte 0: raw 00 01 00 01 00 00 00 80, FILE:2\n  \
          its bytes 2 and 3 are not both 0\n  `otq explain 5`",
     ],
     [
@@ -290,9 +290,11 @@ fn causes_are_those_of_the_desk() {
 #[test]
 fn torn_lists() {
     let words = with_numbers("desk", &["--licensed", "0", TORN]);
-    let told = "otq: refused with 4: the record bytes are not a multiple of 8\n  \
-                likely cause: 61 whole records, then 3 bytes at byte 488; --whole plays the 61\n";
-    assert_fails(&words, 3, told);
+    let told = format!(
+        "otq: refused with 4: the record bytes are not a multiple of 8\n  \
+         likely cause: 61 whole records, then 3 bytes at byte 488 of {TORN}; --whole plays the 61\n"
+    );
+    assert_fails(&words, 3, &told);
     let whole = otq(&[&words[..], &["--whole"]].concat());
     assert_eq!((whole.status, whole.out.as_str()), (0, "0 terms\n"));
 }

@@ -76,6 +76,26 @@ fn raw_records() {
     }
 }
 
+/// Lines may end with LF or CR LF. A text with CR alone would be one line, and with a comment at its beginning
+/// an empty list.
+#[test]
+fn line_ends() {
+    let text = "# a comment\nprocesses 2\nput 7 by 1\n";
+    let read = |end: &str| Exercise::read(text.replace('\n', end).as_bytes());
+    let expected = read("\n").unwrap();
+    assert_eq!(read("\r\n").unwrap(), expected);
+    assert_eq!(read("\r\r\n").unwrap(), expected);
+    assert_eq!(
+        Exercise::read(text.trim_end().as_bytes()).unwrap(),
+        expected
+    );
+    let message = "expected lines that end with LF or CR LF, found CR alone";
+    assert_eq!(read("\r").unwrap_err().to_string(), format!("1: {message}"));
+    assert_wrong("put 7 by 1\rstep 1", message);
+    let long = format!("# a comment\r{}", "x".repeat(10_000));
+    assert_wrong(&long, message);
+}
+
 #[test]
 fn headings() {
     for name in ["processes", "operations", "answers", "table"] {

@@ -77,8 +77,10 @@ fn records() {
 
 #[test]
 fn unknown_numbers() {
-    for word in ["0", "17", "-", "six", "4294967296", ""] {
-        let message = format!("otq: expected a number from 1 to 16 or `records`, found `{word}`\n");
+    for word in ["17", "-", "six", "4294967296", ""] {
+        let message = format!("otq: expected a number from 0 to 16 or `records`, found `{word}`\n");
         assert_fails(&["explain", word], 2, &message);
     }
+    // What the last line of a run says if nothing is refused.
+    assert_eq!(written(&["explain", "0"]), "0 nothing is refused\n");
 }

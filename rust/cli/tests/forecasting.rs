@@ -115,7 +115,7 @@ const REFUSED: [[&str; 3]; 9] = [
         "ill-formed-step",
         "processes 2\nraw 00 00 00 00 07 00 00 00\n",
         "otq: refused with 5: a record is ill-formed\n  \
-         record 1, byte 0: raw 00 00 00 00 07 00 00 00 (00 00 00 00 07 00 00 00), FILE:2\n  \
+         record 1, byte 0: raw 00 00 00 00 07 00 00 00, FILE:2\n  \
          it is no begin put, and its value is not 0\n  `otq explain 5`",
     ],
     [
@@ -153,13 +153,12 @@ fn each_refusal_of_a_text() {
 
 #[test]
 fn torn_records() {
-    assert_fails(
-        &with_numbers("forecast", &[TORN]),
-        3,
+    let told = format!(
         "otq: refused with 4: the record bytes are not a multiple of 8\n  \
-         likely cause: 61 whole records, then 3 bytes at byte 488; --whole forecasts the 61\n  \
-         `otq explain 4` says what to do\n",
+         likely cause: 61 whole records, then 3 bytes at byte 488 of {TORN}; --whole forecasts the 61\n  \
+         `otq explain 4` says what to do\n"
     );
+    assert_fails(&with_numbers("forecast", &[TORN]), 3, &told);
     let torn = file("forecast-torn.bin", &[0, 2, 0, 0, 0, 0, 0, 0, 1]);
     let whole = otq(&with_numbers("forecast", &[&torn, "--whole"]));
     let line = "room for 1 operation: 105 words, 16 answer bytes, at most 42 records\n";

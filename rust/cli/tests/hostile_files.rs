@@ -1,6 +1,8 @@
 //! Every command on files that are not what it expects: it ends with a status and a message.
 
-use crate::support::{content, file, otq, path, with_numbers, Said, LOG, STEPS, TEXT};
+use crate::support::{
+    assert_fails, command, content, file, otq, path, with_numbers, Said, LOG, STEPS, TEXT,
+};
 use reference::random::Random;
 use std::fs;
 
@@ -114,6 +116,78 @@ fn the_wrong_sort_of_file() {
     });
 }
 
+/// Texts with bytes that no text has, and what is told of each.
+pub fn spoilt(text: &str) -> Vec<(Vec<u8>, String)> {
+    let of_16_bits = |mark: &[u16], order: fn(u16) -> [u8; 2]| -> Vec<u8> {
+        let units = mark.iter().copied().chain(text.encode_utf16());
+        units.flat_map(order).collect()
+    };
+    let spoilt = [
+        (of_16_bits(&[0xfeff], u16::to_le_bytes), 0, "ff"),
+        (of_16_bits(&[0xfeff], u16::to_be_bytes), 0, "fe"),
+        (of_16_bits(&[], u16::to_le_bytes), 1, "00"),
+        (of_16_bits(&[], u16::to_be_bytes), 0, "00"),
+        ([text.as_bytes(), &[0]].concat(), text.len(), "00"),
+        ([text.as_bytes(), b"\x1a\n"].concat(), text.len(), "1a"),
+    ];
+    let told = spoilt.map(|(bytes, at, byte)| {
+        let what = "it seems to be a text, but byte";
+        let save = "which no text has: save it as plain text (UTF-8)";
+        (bytes, format!("{what} {at} is {byte}, {save}"))
+    });
+    told.to_vec()
+}
+
+/// Texts that are taken for records: no p and L are asked for, and no whole records offered.
+#[test]
+fn spoilt_texts() {
+    let texts = [
+        String::from_utf8(content(TEXT)).unwrap(),
+        "processes 2\noperations 3\nput 7 by 0\n".to_string(),
+    ];
+    for (bytes, told) in texts.iter().flat_map(|text| spoilt(text)) {
+        let spoilt = file("spoilt.txt", &bytes);
+        for command in ["run", "order", "table", "trace", "forecast", "encode"] {
+            assert_fails(&[command, &spoilt], 2, &format!("otq: {spoilt}: {told}\n"));
+        }
+        for words in [
+            with_numbers("run", &[&spoilt]),
+            with_numbers("check", &[&spoilt, LOG]),
+            with_numbers("forecast", &[&spoilt]),
+            with_numbers("desk", &["--licensed", "1", &spoilt]),
+        ] {
+            let said = otq(&words);
+            let cause = format!("\n  likely cause: {told}\n");
+            assert_eq!(said.status, 3, "{words:?}");
+            assert!(said.err.contains(&cause), "{words:?} {said:?}");
+        }
+    }
+    // What is no text either has no such cause.
+    for other in [
+        &b"PK\x03\x04\x14\0\0\0\x08\0 0123456789"[..],
+        &[0x7f, b'E', b'L', b'F', 2, 1, 1, 0],
+    ] {
+        let other = file("no-text.bin", other);
+        let said = otq(&with_numbers("run", &[&other]));
+        assert!(!said.err.contains("seems to be a text"), "{said:?}");
+        let message = format!("otq: {other}: it holds binary records, which do not say p and L: ");
+        assert_fails(&["run", &other], 2, &message);
+    }
+}
+
+/// Standard input that cannot be read is no empty list.
+#[test]
+fn standard_input_that_cannot_be_read() {
+    let message = "otq: standard input: Bad file descriptor";
+    for words in [with_numbers("run", &["-"]), vec!["price", "1", "-"]] {
+        let output = fs::File::create(path("only-written")).expect("a file");
+        let mut command = command(&words);
+        let said = Said::of(command.stdin(output).output().expect("the program starts"));
+        assert_eq!((said.status, said.out.as_str()), (2, ""), "{words:?}");
+        assert!(said.err.starts_with(message), "{said:?}");
+    }
+}
+
 /// Random bytes of every length up to some records: each command ends.
 #[test]
 fn noise() {
@@ -172,6 +246,16 @@ fn hostile_texts() {
             }
         );
     }
+    let returns = String::from_utf8(content(TEXT))
+        .unwrap()
+        .replace('\n', "\r");
+    let returns = file("returns.txt", returns.as_bytes());
+    let message =
+        format!("{returns}:1: expected lines that end with LF or CR LF, found CR alone\n");
+    for command in ["run", "order", "forecast", "encode"] {
+        assert_fails(&[command, &returns], 2, &message);
+    }
+    assert_fails(&["price", "1", &returns], 2, &message);
     let comment = file(
         "long-comment.txt",
         &[b"# ".as_slice(), &b"x".repeat(9_000)].concat(),

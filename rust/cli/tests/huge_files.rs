@@ -15,7 +15,7 @@ fn otq_limited(words: &[&str]) -> Said {
 /// The same, with this on standard input.
 fn otq_reading(words: &[&str], input: Stdio) -> Said {
     let limit = format!("ulimit -v {}; set -o pipefail", 2 * BYTES / 1024);
-    let script = format!("{limit}; \"$@\" | head -c 2000");
+    let script = format!("{limit}; timeout 300 \"$@\" | head -c 2000");
     let mut command = Command::new("bash");
     command.args(["-c", &script, "otq", env!("CARGO_BIN_EXE_otq")]);
     command.args(words).current_dir(repository());
@@ -26,11 +26,18 @@ fn otq_reading(words: &[&str], input: Stdio) -> Said {
 
 /// A file of zero bytes that takes no room on the disk.
 fn zeros(name: &str) -> String {
+    zeros_of(name, BYTES)
+}
+
+fn zeros_of(name: &str, length: u64) -> String {
     let path = path(name);
     let file = File::create(&path).expect("a file");
-    file.set_len(BYTES).expect("a long file");
+    file.set_len(length).expect("a long file");
     path
 }
+
+/// How what is told of a file begins that is longer than any that is read.
+const TOO_LONG: &str = "it has more than 1,000,000,000 bytes, the most that are read\n";
 
 #[test]
 fn a_huge_list_of_records() {
@@ -195,4 +202,34 @@ fn endless_input() {
     assert!(said.err.starts_with("otq: /dev/zero: "), "{said:?}");
     let said = otq_limited(&["check", TEXT, "/dev/urandom"]);
     assert_eq!(said.status, 2, "{said:?}");
+    let comment = format!("#{}", "x".repeat(9_000));
+    for words in [&["run", "-"][..], &["price", "1", "-"], &["encode", "-"]] {
+        let mut yes = Command::new("yes");
+        let mut yes = yes
+            .arg(&comment)
+            .stdout(Stdio::piped())
+            .spawn()
+            .expect("yes starts");
+        let input = yes.stdout.take().expect("a pipe");
+        let said = otq_reading(words, input.into());
+        yes.wait().expect("yes ends");
+        assert_eq!((said.status, said.out.as_str()), (2, ""), "{words:?}");
+        assert_eq!(said.err, format!("otq: standard input: {TOO_LONG}"));
+    }
+}
+
+/// Of a file, its length tells at once.
+#[test]
+fn too_long_a_file() {
+    let huge = zeros_of("too-long.bin", 1_000_000_000_000);
+    for words in [
+        with_numbers("run", &[&huge]),
+        vec!["show", "--as", "log", &huge],
+        vec!["price", "1", &huge],
+        vec!["encode", &huge],
+    ] {
+        let said = otq_limited(&words);
+        assert_eq!((said.status, said.out.as_str()), (2, ""), "{words:?}");
+        assert_eq!(said.err, format!("otq: {huge}: {TOO_LONG}"));
+    }
 }

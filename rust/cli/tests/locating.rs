@@ -94,7 +94,8 @@ fn names() {
 #[test]
 fn mistakes() {
     for p in ["0", "1", "3", "16", "4294967298", "99999999999", "two"] {
-        let message = format!("otq: -p: expected 2, 4 or 8, found `{p}`\n");
+        let message =
+            format!("otq: -p: expected the number of processes, 2, 4 or 8, found `{p}`\n");
         assert_fails(&["nodes", "-p", p], 2, &message);
         assert_fails(&["nodes", "--json", "-p", p], 2, &message);
     }

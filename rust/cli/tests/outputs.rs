@@ -1,11 +1,11 @@
 //! Outputs that fail: a reader that has gone, a full disk, files that may not be written.
 
 use crate::support::{
-    assert_fails, command, content, file, otq, path, with_numbers, Said, BEGINS, LOG, SHEET, STEPS,
-    TERMS, TEXT, WRONG,
+    assert_fails, command, content, file, otq, path, repository, with_numbers, written, Said,
+    BEGINS, LOG, SHEET, STEPS, TERMS, TEXT, WRONG,
 };
 use std::fs::{self, File};
-use std::process::Stdio;
+use std::process::{Command, Stdio};
 use std::time::{Duration, Instant};
 
 /// A command of each sort that writes something, and its status.
@@ -55,20 +55,53 @@ fn a_reader_that_has_gone() {
     }
 }
 
+/// That the output failed is told once, and last. A refusal is told before, and counts for more.
+fn assert_not_written(words: &[&str], status: i32, said: Said, why: &str) {
+    let (refused, status) = match status {
+        3 => ("otq: refused with ", 3),
+        _ => ("", 2),
+    };
+    assert_eq!(said.status, status, "{words:?}");
+    assert!(said.err.starts_with(refused), "{words:?} {said:?}");
+    let message = format!("otq: standard output: {why}");
+    let last = said.err.lines().last().unwrap_or_default();
+    assert!(last.starts_with(&message), "{words:?} {said:?}");
+    assert_eq!(said.err.matches(&message).count(), 1, "{words:?} {said:?}");
+}
+
 #[test]
 fn a_full_disk() {
-    for (words, _) in commands() {
+    // More than is held back before it is written.
+    let long = [
+        "make", "-p", "8", "-L", "500", "--pace", "uniform", "--seed", "1",
+    ];
+    for (words, status) in commands().into_iter().chain([(long.to_vec(), 0)]) {
         let full = File::create("/dev/full").expect("Linux has it");
         let mut command = command(&words);
         let output = command.stdout(full).output().expect("the program starts");
-        let said = Said::of(output);
-        // A refusal is told, and counts for more.
-        if said.status != 3 {
-            assert_eq!(said.status, 2, "{words:?}");
-            let message = "otq: standard output: No space left on device";
-            assert!(said.err.starts_with(message), "{words:?} {said:?}");
-        }
+        assert_not_written(&words, status, Said::of(output), "No space left on device");
     }
+}
+
+/// Standard output that was opened to be read alone.
+#[test]
+fn standard_output_that_cannot_be_written() {
+    for (words, status) in commands() {
+        let input = File::open(repository().join(TEXT)).expect(TEXT);
+        let mut command = command(&words);
+        let output = command.stdout(input).output().expect("the program starts");
+        assert_not_written(&words, status, Said::of(output), "Bad file descriptor");
+    }
+}
+
+/// A text without an end is read no further than its records are.
+#[test]
+fn endless_text_and_a_reader_that_has_gone() {
+    let script = "yes 'step 0' | timeout 300 \"$0\" encode - | head -c 3 | od -An -tx1; echo ${PIPESTATUS[1]}";
+    let mut bash = Command::new("bash");
+    bash.args(["-c", script, env!("CARGO_BIN_EXE_otq")]);
+    let output = bash.output().expect("bash starts");
+    assert_eq!(String::from_utf8_lossy(&output.stdout), " 00 00 00\n0\n");
 }
 
 /// Where standard error is full too, there is nobody to tell.
@@ -128,7 +161,33 @@ fn what_was_read_is_not_written_over() {
             assert_fails(&words, 2, &message);
         }
     }
+    // A file is the same if it is read as standard input.
+    for option in ["run --log", "order --raw", "desk --licensed 0 --raw"] {
+        let words = [
+            &option.split(' ').collect::<Vec<_>>()[..],
+            &[&link, "-p", "2", "-L", "3", "-"],
+        ]
+        .concat();
+        let input = File::open(&steps).expect("a file");
+        let said = Said::of(
+            command(&words)
+                .stdin(input)
+                .output()
+                .expect("the program starts"),
+        );
+        let message = format!("otq: {link}: it was read, and is not written over\n");
+        assert_eq!(
+            (said.status, said.out.as_str(), said.err),
+            (2, "", message),
+            "{words:?}"
+        );
+    }
     assert_eq!(fs::read(&steps).unwrap(), content(STEPS));
+    // A device loses nothing.
+    assert_eq!(
+        written(&["run", "/dev/null", "--log", "/dev/null"]),
+        "end 0 0\n"
+    );
 }
 
 /// A list that comes slowly: after a second there is a line on standard error.

@@ -35,12 +35,12 @@ fn a_torn_list() {
     let log = path("playing-torn.log");
     let said = otq(&with_numbers("run", &[TORN, "--log", &log]));
     assert_eq!((said.status, said.out.as_str()), (3, "end 4 0\n"));
-    assert_eq!(
-        said.err,
+    let told = format!(
         "otq: refused with 4: the record bytes are not a multiple of 8\n  \
-         likely cause: 61 whole records, then 3 bytes at byte 488; --whole plays the 61\n  \
+         likely cause: 61 whole records, then 3 bytes at byte 488 of {TORN}; --whole plays the 61\n  \
          `otq explain 4` says what to do\n"
     );
+    assert_eq!(said.err, told);
     assert!(fs::metadata(&log).is_err());
     let whole = otq(&with_numbers("run", &[TORN, "--whole"]));
     assert_eq!(
@@ -79,7 +79,7 @@ const REFUSED: [[&str; 4]; 10] = [
         "processes 2\nraw 00 03 00 00 00 00 00 00\n",
         "end 5 0\n",
         "otq: refused with 5: a record is ill-formed\n  \
-         record 1, byte 0: raw 00 03 00 00 00 00 00 00 (00 03 00 00 00 00 00 00), FILE:2\n  \
+         record 1, byte 0: raw 00 03 00 00 00 00 00 00, FILE:2\n  \
          kind 3 is none of 0, 1 and 2\n  `otq explain 5`",
     ],
     [

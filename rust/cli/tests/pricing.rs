@@ -1,5 +1,6 @@
 //! `otq price`.
 
+use crate::hostile_files::spoilt;
 use crate::support::{assert_fails, file, otq, otq_on, written, SHEET};
 use reference::random::Random;
 
@@ -248,7 +249,7 @@ fn torn_sheets() {
         (15, "1 whole band, then 7 bytes at byte 8"),
     ] {
         let end = "`otq explain 4` says what to do";
-        let told = format!("{OF_TORN}likely cause: {told}\n  {end}\n");
+        let told = format!("{OF_TORN}likely cause: {told} of standard input\n  {end}\n");
         assert_eq!(refused(&sheet[..length]), told);
     }
     let said = otq_on(&["price", "4001", "-"], &sheet[..9]);
@@ -258,25 +259,20 @@ fn torn_sheets() {
 /// A text that has bytes that no text has, and so is read as records.
 #[test]
 fn spoilt_texts() {
-    let text = "up to 100: 2500\nup to 200: 1999\n";
-    let of_16_bits = |order: fn(u16) -> [u8; 2]| -> Vec<u8> {
-        let mark = [0xfeff].into_iter();
-        mark.chain(text.encode_utf16()).flat_map(order).collect()
-    };
-    let spoilt = [
-        of_16_bits(u16::to_le_bytes),
-        of_16_bits(u16::to_be_bytes),
-        [text.as_bytes(), &[0]].concat(),
-        [text.as_bytes(), b"\x1b"].concat(),
-    ];
-    let cause = "  likely cause: the file seems to be a text, but has bytes that no text has, so that it was read \
-                 as records: save it as plain text (UTF-8)\n";
-    for text in spoilt {
-        let told = refused(&text);
-        assert!(told.contains(cause), "{told}");
+    for text in [
+        "up to 100: 2500\nup to 200: 1999\n",
+        "# A price sheet\nup to 100: 2500\n",
+    ] {
+        for (spoilt, what) in spoilt(text) {
+            let told = refused(&spoilt);
+            assert!(
+                told.contains(&format!("  likely cause: {what}\n")),
+                "{told}"
+            );
+        }
     }
     let told = refused(&records(&[[1, 1], [1, 1]]));
-    assert!(!told.contains(cause), "{told}");
+    assert!(!told.contains("a text"), "{told}");
 }
 
 /// Records written in another way than they should be.
@@ -307,7 +303,7 @@ fn causes_of_records() {
     assert_eq!(cause(&sheet(swapped)), taken(&[high_first]));
     assert_eq!(cause(&sheet([[7, 9], [7, 9]])), None);
     let told = refused(&records(&[[1, 1]; 9]));
-    let nine = "band 9, byte 64: up to 1: 1 (01 00 00 00 01 00 00 00)\n  the sheet has 9 bands\n";
+    let nine = "band 9, byte 64: up to 1: 1 (01 00 00 00 01 00 00 00), standard input\n  the sheet has 9 bands\n";
     assert!(told.starts_with(&format!("{OF_BANDS}{nine}")), "{told}");
 }
 

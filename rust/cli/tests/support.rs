@@ -2,9 +2,8 @@
 
 use std::ffi::OsStr;
 use std::fs;
-use std::io::Write;
 use std::path::{Path, PathBuf};
-use std::process::{Command, Output, Stdio};
+use std::process::{Command, Output};
 
 pub fn repository() -> PathBuf {
     Path::new(env!("CARGO_MANIFEST_DIR")).join("../..")
@@ -59,17 +58,7 @@ pub fn otq(words: &[impl AsRef<OsStr>]) -> Said {
 
 /// The command with this on standard input.
 pub fn otq_on(words: &[&str], input: &[u8]) -> Said {
-    let mut command = command(words);
-    command.stdin(Stdio::piped()).stdout(Stdio::piped());
-    let mut child = command
-        .stderr(Stdio::piped())
-        .spawn()
-        .expect("the program starts");
-    let mut stdin = child.stdin.take().expect("a pipe");
-    // The program may end before it has read everything.
-    let _ = stdin.write_all(input);
-    drop(stdin);
-    Said::of(child.wait_with_output().expect("the program ends"))
+    Said::of(spawned::output(&mut command(words), input))
 }
 
 /// What a command that is done writes; it says nothing on standard error.

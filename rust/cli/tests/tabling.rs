@@ -97,10 +97,12 @@ fn nodes_that_the_tree_lacks() {
         assert_fails(&["table", TEXT, "--node", node], 2, &message);
         assert_fails(&["table", TEXT, "--json", "--node", node], 2, &message);
     }
-    let message = "otq: --node: expected a number, found `leaf 0`\n";
-    assert_fails(&["table", TEXT, "--node", "leaf 0"], 2, message);
-    let message = "otq: --node: expected at most 4294967295\n";
-    assert_fails(&["table", TEXT, "--node", "4294967296"], 2, message);
+    for node in ["leaf 0", "4294967296"] {
+        let message = format!(
+            "otq: --node: expected the one node to show: 1 is the root, p + k the leaf of process k, found `{node}`\n"
+        );
+        assert_fails(&["table", TEXT, "--node", node], 2, &message);
+    }
     assert_fails(
         &["table", TEXT, "--node"],
         2,

@@ -1,9 +1,11 @@
 //! The words of a command line.
 
 use crate::support::{
-    assert_fails, otq, otq_on, with_numbers, written, LOG, NUMBERS, SHEET, STEPS, TERMS, TEXT,
+    assert_fails, content, file, otq, otq_on, path, with_numbers, written, LOG, NUMBERS, SHEET,
+    STEPS, TERMS, TEXT,
 };
 use std::ffi::OsStr;
+use std::fs;
 use std::os::unix::ffi::OsStrExt;
 
 const COMMANDS: [&str; 14] = [
@@ -36,7 +38,7 @@ fn help_and_version() {
     assert!(desk.contains("\n  --licensed K  the process that may put entries, 0 to p - 1\n"));
     let price = written(&["price", "--help"]);
     assert!(price.contains("\n\nSHEET is ") && !price.contains("\n\nSTEPS is "));
-    assert!(price.ends_with(" or a text, 3 refused.\n"));
+    assert!(price.ends_with(" that cannot be written, 3 refused.\n"));
     assert_eq!(written(&["help"]), help);
     assert_eq!(written(&["-h"]), help);
     assert_eq!(
@@ -113,19 +115,51 @@ fn wrong_options() {
 
 #[test]
 fn wrong_numbers() {
-    for number in ["two", "-1", "+2", "2.0", "", "0x2", "99999999999999999999"] {
-        let message = format!("otq: -p: expected a number, found `{number}`\n");
-        assert_fails(&["run", TEXT, "-p", number], 2, &message);
+    for number in [
+        "two",
+        "-1",
+        "+2",
+        "2.0",
+        "",
+        "0x2",
+        "4294967296",
+        "99999999999999999999",
+    ] {
+        for (words, meant) in [
+            (
+                &["run", TEXT, "-p"][..],
+                "the number of processes, 2, 4 or 8",
+            ),
+            (
+                &["run", TEXT, "-L"],
+                "the most operations of one process, 1 to 500",
+            ),
+            (
+                &["decode", STEPS, "-L"],
+                "the most operations of one process, 1 to 500",
+            ),
+            (
+                &["desk", TERMS, "--licensed"],
+                "the process that may put entries, 0 to p - 1",
+            ),
+        ] {
+            let (option, words) = (words[2], [words, &[number]].concat());
+            let message = format!("otq: {option}: expected {meant}, found `{number}`\n");
+            assert_fails(&words, 2, &message);
+        }
     }
-    assert_fails(
-        &["desk", TERMS, "--licensed", "one"],
-        2,
-        "otq: --licensed: expected a number, found `one`\n",
-    );
-    assert_fails(
-        &["run", TEXT, "-L", "4294967296"],
-        2,
-        "otq: -L: expected at most 4294967295\n",
+    let from = "otq: --from: expected the first record told, counted from 1, found `-1`\n";
+    assert_fails(&["trace", TEXT, "--from", "-1"], 2, from);
+    let make = [
+        "make", "-p", "2", "-L", "1", "--pace", "one", "--seed", "-1",
+    ];
+    let seed = "otq: --seed: expected a number from 0 on, found `-1`\n";
+    assert_fails(&make, 2, seed);
+    // A long word is told in part.
+    let said = otq(&["run", TEXT, "-p", &"9".repeat(10_000)]);
+    assert!(
+        said.err.len() < 200 && said.err.ends_with("999..`\n"),
+        "{said:?}"
     );
     for count in ["ten", "", "1,000", "2.5", "-", SHEET] {
         let message = format!("otq: COUNT: expected 0 to 4000, found `{count}`\n");
@@ -147,7 +181,10 @@ fn options_anywhere_and_joined() {
         written(&[&["run"], &NUMBERS[..], &["--", STEPS]].concat()),
         expected
     );
-    assert_fails(&["run", "--", "-p"], 2, "otq: -p: No such file");
+    for name in ["-p", "-h", "--help"] {
+        let message = format!("otq: {name}: No such file");
+        assert_fails(&["run", "--", name], 2, &message);
+    }
 }
 
 /// Binary records do not say p and L, and a text does.
@@ -190,14 +227,11 @@ fn p_and_l() {
 
 #[test]
 fn standard_input_is_a_file() {
-    let steps = crate::support::content(STEPS);
-    let log = crate::support::content(LOG);
+    let steps = content(STEPS);
+    let log = content(LOG);
     let expected = written(&["run", TEXT]);
     assert_eq!(otq_on(&with_numbers("run", &["-"]), &steps).out, expected);
-    assert_eq!(
-        otq_on(&["run", "-"], &crate::support::content(TEXT)).out,
-        expected
-    );
+    assert_eq!(otq_on(&["run", "-"], &content(TEXT)).out, expected);
     assert_eq!(
         otq_on(&with_numbers("check", &[STEPS, "-"]), &log).out,
         "same, 6 answers\n"
@@ -213,7 +247,7 @@ fn standard_input_is_a_file() {
     );
 }
 
-/// A file name may be any bytes.
+/// A file name may be any bytes, after an option too.
 #[test]
 fn names_that_are_no_text() {
     let name = OsStr::from_bytes(b"\xff\xfe");
@@ -223,4 +257,44 @@ fn names_that_are_no_text() {
     assert_eq!(otq(&[name]).status, 2);
     assert_eq!(otq(&[OsStr::new("explain"), name]).status, 2);
     assert_eq!(otq(&[OsStr::new("run"), OsStr::new("-p"), name]).status, 2);
+    let log = [path("no-text-").as_bytes(), b"\xff"].concat();
+    let joined = [b"--log=", &log[..]].concat();
+    let said = otq(&[
+        OsStr::new("run"),
+        OsStr::new(TEXT),
+        OsStr::from_bytes(&joined),
+    ]);
+    assert_eq!((said.status, said.err.as_str()), (0, ""));
+    let written = fs::read(OsStr::from_bytes(&log)).expect("the log");
+    assert_eq!(written, content(LOG));
+    let said = otq(&[OsStr::new("run"), OsStr::from_bytes(b"-\xff")]);
+    assert!(
+        said.err.starts_with("otq: there is no option -\u{fffd}; "),
+        "{said:?}"
+    );
+}
+
+/// What a file name does to a terminal is not done by a message, and no name at all is seen.
+#[test]
+fn names_with_control_characters() {
+    let told = "\u{fffd}[31m\u{fffd}";
+    let name = "\x1b[31m\n";
+    assert_fails(&["run", name], 2, &format!("otq: {told}: No such file"));
+    assert_fails(
+        &["run", TEXT, name],
+        2,
+        &format!("otq: `{told}` is too much; "),
+    );
+    assert_fails(&[name], 2, &format!("otq: there is no command `{told}`; "));
+    assert_fails(
+        &["run", &format!("-{name}")],
+        2,
+        &format!("otq: there is no option -{told}; "),
+    );
+    let text = file(name, b"put 7\n");
+    let said = otq(&["run", &text]);
+    let shown = text.replace(name, told);
+    let mistake = "1: expected `put VALUE by PROCESS`, found `put 7`\n";
+    assert_eq!(said.err, format!("{shown}:{mistake}"));
+    assert_fails(&["run", ""], 2, "otq: ``: No such file");
 }

@@ -1,6 +1,7 @@
 //! Calls of the desk on random and hostile lists, and the claim of the order on the terms that it sends.
 
 use crate::calls::{Delivered, Input};
+use crate::counts::Counts;
 use crate::random_calls::{near, needed, random_plan_of, table};
 use dictionary::{most_output_bytes, TERM_BYTES};
 use reference::desk_calls::DeskCall;
@@ -11,21 +12,30 @@ use reference::schedules::Plan;
 use reference::tree::Shape;
 use std::fmt;
 
-/// The numbers that a call of the desk can give.
+/// The numbers that the desk can give, by request g.
 const NUMBERS: [u32; 12] = [0, 1, 2, 3, 4, 5, 6, 7, 8, 10, 13, 14];
 
 /// Short lists, for each list of any length.
 const SHORT: u32 = 8;
 
-/// How often each number and each case came up, and how many terms were sent.
-#[derive(Clone, Default, Debug)]
+/// What came up in calls of the desk.
+#[derive(Clone, Debug)]
 pub struct Deliveries {
-    /// By number; entry 0 counts the calls that refused nothing.
-    refusals: [u64; 15],
-    /// Of the calls with room for every term, in the order of `DESK_CASES`.
-    cases: [u64; DESK_CASES.len()],
+    numbers: Counts,
+    /// Of the calls with room for every term.
+    cases: Counts,
     /// Terms of these calls.
     terms: u64,
+}
+
+impl Default for Deliveries {
+    fn default() -> Deliveries {
+        Deliveries {
+            numbers: Counts::new("desk_deliver", NUMBERS),
+            cases: Counts::new("delivery with", DESK_CASES.map(DeskCase::name)),
+            terms: 0,
+        }
+    }
 }
 
 impl Deliveries {
@@ -37,7 +47,7 @@ impl Deliveries {
         let sent = self.compare_amply(&call);
         let output = near(random, TERM_BYTES * sent.terms.len());
         let other = input.deliver(call.licensed, table(random, input), output);
-        self.count(other.result.refusal);
+        self.numbers.count(other.result.refusal);
     }
 
     /// Lists of few operations, which meet most cases soonest.
@@ -54,7 +64,7 @@ impl Deliveries {
         let input = input(call);
         let most = most_output_bytes(call.p, call.l).unwrap_or(0);
         let delivered = input.deliver(call.licensed, needed(input), most);
-        self.count(delivered.result.refusal);
+        self.numbers.count(delivered.result.refusal);
         if delivered.result.refusal == 0 {
             self.check_order(call, &delivered);
         }
@@ -68,26 +78,14 @@ impl Deliveries {
         assert_eq!(in_order, Ok(()), "p {p}, l {l}, {licensed} licensed");
         self.terms += sent.result.count;
         let received = takes_received(shape, &call.records, &sent.table);
-        for (times, case) in self.cases.iter_mut().zip(DESK_CASES) {
-            *times += u64::from(case.is_shown(&received));
+        for case in DESK_CASES.iter().filter(|case| case.is_shown(&received)) {
+            self.cases.count(case.name());
         }
     }
 
-    /// Whether any term was sent.
-    pub fn terms_met(&self) -> bool {
-        self.terms > 0
-    }
-
-    fn count(&mut self, refusal: u32) {
-        self.refusals[refusal as usize] += 1;
-    }
-
-    /// How often each number and case that can come up did.
+    /// How often each number and case came up.
     pub fn met(&self) -> impl Iterator<Item = (String, u64)> + '_ {
-        let times = |number: u32| (format!("desk {number}"), self.refusals[number as usize]);
-        let shown = |(case, &times): (DeskCase, &u64)| (format!("desk: {}", case.name()), times);
-        let cases = DESK_CASES.into_iter().zip(&self.cases).map(shown);
-        NUMBERS.into_iter().map(times).chain(cases)
+        self.numbers.met().chain(self.cases.met())
     }
 }
 
@@ -102,13 +100,11 @@ pub fn input(call: &DeskCall) -> Input<'_> {
 
 impl fmt::Display for Deliveries {
     fn fmt(&self, out: &mut fmt::Formatter) -> fmt::Result {
-        let (refusals, terms) = (self.refusals, self.terms);
-        write!(out, "desk calls by refusal number, from 0: {refusals:?}")?;
-        write!(out, "\nterms in order: {terms}; lists with ")?;
-        let cases = DESK_CASES.into_iter().zip(self.cases);
-        let told: Vec<String> = cases
-            .map(|(case, times)| format!("{}: {times}", case.name()))
-            .collect();
-        write!(out, "{}", told.join(", "))
+        let Deliveries {
+            numbers,
+            cases,
+            terms,
+        } = self;
+        write!(out, "{numbers}\n{cases}\nterms in order: {terms}")
     }
 }

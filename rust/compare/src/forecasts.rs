@@ -2,6 +2,7 @@
 //! the limit.
 
 use crate::calls::Input;
+use crate::counts::Counts;
 use reference::begin_lists::BeginList;
 use reference::forecast::{begins_of, record_limit, ForecastResult};
 use reference::random::Random;
@@ -9,19 +10,27 @@ use reference::run::RunResult;
 use reference::tree::Shape;
 use std::fmt;
 
-/// The numbers that a forecast can give.
+/// The numbers that a forecast can give, by request b.
 const NUMBERS: [u32; 7] = [0, 1, 2, 4, 5, 8, 12];
 
 /// Lists of begins with something wrong, for each list that is played.
 const HOSTILE: u32 = 8;
 
-/// How often each number came up, and how near the runs came.
-#[derive(Clone, Default, Debug)]
+/// What came up in forecasts, and how near the runs came.
+#[derive(Clone, Debug)]
 pub struct Forecasts {
-    /// By number; entry 0 counts the forecasts that refused nothing.
-    refusals: [u64; 13],
+    numbers: Counts,
     /// For p = 2, 4, 8, the records taken for each begin, in the list that took most.
     nearest: [f64; 3],
+}
+
+impl Default for Forecasts {
+    fn default() -> Forecasts {
+        Forecasts {
+            numbers: Counts::new("otq_forecast", NUMBERS),
+            nearest: [0.0; 3],
+        }
+    }
 }
 
 impl Forecasts {
@@ -65,16 +74,13 @@ impl Forecasts {
 
     fn compare(&mut self, p: u32, l: u32, records: &[u8]) -> ForecastResult {
         let foreseen = Input { p, l, records }.forecast();
-        self.refusals[foreseen.refusal as usize] += 1;
+        self.numbers.count(foreseen.refusal);
         foreseen
     }
 
-    /// How often each number that can come up did.
+    /// How often each number came up.
     pub fn met(&self) -> impl Iterator<Item = (String, u64)> + '_ {
-        let times = |number: u32| self.refusals[number as usize];
-        NUMBERS
-            .into_iter()
-            .map(move |number| (format!("forecast {number}"), times(number)))
+        self.numbers.met()
     }
 }
 
@@ -84,11 +90,7 @@ fn height(p: u32) -> usize {
 
 impl fmt::Display for Forecasts {
     fn fmt(&self, out: &mut fmt::Formatter) -> fmt::Result {
-        write!(
-            out,
-            "forecasts by refusal number, from 0: {:?}",
-            self.refusals
-        )?;
+        write!(out, "{}", self.numbers)?;
         for p in [2, 4, 8] {
             let shape = Shape::new(p, 1).expect("a proper p and L");
             let (records, limit) = (self.nearest[height(p) - 1], record_limit(shape));

@@ -3,7 +3,9 @@
 
 pub mod buffers;
 pub mod calls;
+pub mod counts;
 pub mod desk;
 pub mod forecasts;
 pub mod price;
 pub mod random_calls;
+pub mod tally;

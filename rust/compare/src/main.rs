@@ -1,12 +1,9 @@
 //! compare RECORDS [SEED]: compares the compiled libraries with the reference on random and hostile
 //! lists until so many records were played, and on price sheets along with them. It ends with a panic
-//! at the first difference. Last it tells what was never met, as some numbers and verdicts are not
-//! where records are few. If no help, no term of the desk or no bill was met, these were not compared,
-//! and it fails.
+//! at the first difference. It tells how often each number, verdict, case and branch of a step came up,
+//! and fails if one of them never did, as some do not where records are few.
 
-use compare::random_calls::{compare, of_each_p, Tally};
-use reference::demand3::step_limit;
-use reference::helps::help_limit;
+use compare::tally::compare;
 use std::io::{stderr, Write};
 use std::process::ExitCode;
 use std::time::{Duration, Instant};
@@ -47,35 +44,11 @@ fn compare_records(records: u64, seed: u64) -> ExitCode {
         tally.lists,
         began.elapsed().as_secs()
     );
-    tell(&tally);
-    let needed = [
-        ("help", tally.helps_met()),
-        ("term", tally.deliveries.terms_met()),
-        ("bill", tally.bills.bills_met()),
-    ];
-    for (what, _) in needed.iter().filter(|(_, is_met)| !is_met) {
-        eprintln!("no {what} was met, so {what}s were not compared: play more records");
-    }
-    match needed.iter().all(|&(_, is_met)| is_met) {
-        true => ExitCode::SUCCESS,
-        false => ExitCode::FAILURE,
-    }
-}
-
-/// What was met, and what was not.
-fn tell(tally: &Tally) {
-    println!("calls by refusal number, from 0: {:?}", tally.refusals);
-    println!("verdicts same, differs, refused: {:?}", tally.verdicts);
-    println!(
-        "most own steps: {}",
-        of_each_p(tally.most_steps, step_limit)
-    );
-    println!("most helps: {}", of_each_p(tally.most_helps, help_limit));
-    println!("{}", tally.forecasts);
-    println!("{}", tally.deliveries);
-    println!("{}", tally.bills);
+    println!("{tally}");
     let never = tally.never_met();
-    if !never.is_empty() {
-        println!("never met: {}", never.join(", "));
+    if never.is_empty() {
+        return ExitCode::SUCCESS;
     }
+    eprintln!("play more records: never met were {}", never.join("; "));
+    ExitCode::FAILURE
 }

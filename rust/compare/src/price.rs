@@ -1,25 +1,34 @@
 //! Prices of deliveries, by sheets that are proper and by hostile ones.
 
 use crate::calls::price;
+use crate::counts::Counts;
 use reference::price::{PriceResult, MOST_DELIVERIES};
 use reference::price_calls::PriceCall;
-use reference::price_cases::BILL_CASES;
+use reference::price_cases::{BillCase, BILL_CASES};
 use reference::random::Random;
 use std::fmt;
 
-/// The numbers that a price can give.
+/// The numbers that a price can give, by request h.
 const NUMBERS: [u32; 5] = [0, 2, 4, 15, 16];
 
 /// Calls for each list that is played.
 const CALLS: u32 = 16;
 
-/// How often each number and each case came up.
-#[derive(Clone, Default, Debug)]
+/// What came up in prices.
+#[derive(Clone, Debug)]
 pub struct Bills {
-    /// By number; entry 0 counts the bills.
-    refusals: [u64; 17],
-    /// Of the bills, in the order of `BILL_CASES`.
-    cases: [u64; BILL_CASES.len()],
+    numbers: Counts,
+    /// Of the calls that were not refused.
+    cases: Counts,
+}
+
+impl Default for Bills {
+    fn default() -> Bills {
+        Bills {
+            numbers: Counts::new("price_deliveries", NUMBERS),
+            cases: Counts::new("bill with", BILL_CASES.map(BillCase::name)),
+        }
+    }
 }
 
 impl Bills {
@@ -32,32 +41,23 @@ impl Bills {
 
     pub fn compare(&mut self, call: &PriceCall) -> PriceResult {
         let priced = price(call.count, &call.sheet());
-        self.refusals[priced.refusal as usize] += 1;
+        self.numbers.count(priced.refusal);
         if priced.refusal == 0 {
-            for (times, case) in self.cases.iter_mut().zip(BILL_CASES) {
-                *times += u64::from(case.is_shown(call, priced));
+            for case in BILL_CASES.iter().filter(|case| case.is_shown(call, priced)) {
+                self.cases.count(case.name());
             }
         }
         priced
     }
 
-    /// Whether any call was not refused.
-    pub fn bills_met(&self) -> bool {
-        self.refusals[0] > 0
-    }
-
-    /// How often each number and case that can come up did.
+    /// How often each number and case came up.
     pub fn met(&self) -> impl Iterator<Item = (String, u64)> + '_ {
-        let times = |number: u32| (format!("price {number}"), self.refusals[number as usize]);
-        let cases = BILL_CASES.into_iter().zip(self.cases);
-        let cases = cases.map(|(case, times)| (format!("bill ({})", case.name()), times));
-        NUMBERS.into_iter().map(times).chain(cases)
+        self.numbers.met().chain(self.cases.met())
     }
 }
 
 impl fmt::Display for Bills {
     fn fmt(&self, out: &mut fmt::Formatter) -> fmt::Result {
-        let told = self.met().map(|(what, times)| format!("{what}: {times}"));
-        write!(out, "{}", told.collect::<Vec<_>>().join(", "))
+        write!(out, "{}\n{}", self.numbers, self.cases)
     }
 }

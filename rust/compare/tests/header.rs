@@ -1,8 +1,8 @@
 //! The header for C and C++: the worked example compiled with it and run, and its numbers and sizes
 //! against the Rust functions.
 
-use crate::support::{needed, repository};
-use c_programs::{written, Programs};
+use crate::support::needed;
+use c_programs::{repository, written, Programs};
 use otq::{most_answer_bytes, most_order_bytes, Block, Refusal};
 use std::fs;
 use std::path::PathBuf;

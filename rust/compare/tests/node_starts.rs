@@ -1,8 +1,8 @@
 //! Where each node starts: what the generator prints, and the constants of `rust/otq`, of the header and of
 //! the documents, against the reference and against that print.
 
-use crate::support::{printed, repository};
-use c_programs::Programs;
+use crate::support::printed;
+use c_programs::{repository, Programs};
 use otq::{Block, NODE_STARTS, NODE_STARTS_L};
 use reference::node_starts::{print_starts, start_table, starts_hold, L};
 use std::fs;

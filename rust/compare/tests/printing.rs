@@ -1,6 +1,7 @@
 //! The printing program against the reference's print.
 
-use crate::support::{built, mixed_list, printed, repository};
+use crate::support::{built, mixed_list, printed};
+use c_programs::repository;
 use reference::help_lists::{help_lists, most_helped};
 use reference::hostile::harm_list;
 use reference::lists::List;

@@ -1,5 +1,6 @@
 //! Helpers of the tests.
 
+use c_programs::repository;
 use compare::calls::Input;
 use otq::{most_answer_bytes, most_order_bytes, table_words};
 use reference::desk_calls::DeskCall;
@@ -7,13 +8,8 @@ use reference::forecast::begins_of;
 use reference::hostile::ill_formed;
 use reference::random::Random;
 use reference::schedules::{schedule, Pace, Plan};
-use std::io::Write;
-use std::path::{Path, PathBuf};
-use std::process::{Command, Stdio};
-
-pub fn repository() -> PathBuf {
-    Path::new(env!("CARGO_MANIFEST_DIR")).join("../..")
-}
+use std::path::PathBuf;
+use std::process::Command;
 
 /// A proved program, which must be there.
 pub fn built(program: &str) -> PathBuf {
@@ -28,18 +24,7 @@ pub fn built(program: &str) -> PathBuf {
 
 /// What a proved program prints for this input.
 pub fn printed(program: &str, input: &[u8]) -> String {
-    let mut child = Command::new(built(program))
-        .stdin(Stdio::piped())
-        .stdout(Stdio::piped())
-        .spawn()
-        .expect("the program starts");
-    let mut stdin = child.stdin.take().expect("standard input is a pipe");
-    // The program may end before it has read a long input.
-    let _ = stdin.write_all(input);
-    drop(stdin);
-    let output = child.wait_with_output().expect("the program ends");
-    assert!(output.status.success());
-    String::from_utf8(output.stdout).expect("the print is text")
+    spawned::written(&mut Command::new(built(program)), input)
 }
 
 /// A list in which all operations of all processes finish, in short bursts.

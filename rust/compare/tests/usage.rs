@@ -41,12 +41,13 @@ fn assert_above(most: [u32; 3], low: [u32; 3], limits: [u32; 3]) {
     }
 }
 
-/// For each p the longest operation that was met, which is none of the shortest, and the limit; and
-/// the most helps. Last the terms of the desk and the bills.
+/// All that is counted came up. For each p the longest operation that was met, which is none of the
+/// shortest, and the limit; and the most helps.
 #[test]
-fn most_own_steps_and_helps() {
+fn a_million_records() {
     let mut command = Command::new(env!("CARGO_BIN_EXE_compare"));
-    let output = command.arg("100000").output().expect("the program starts");
+    command.args(["1000000", "12"]);
+    let output = command.output().expect("the program starts");
     assert!(output.status.success(), "{output:?}");
     let said = String::from_utf8(output.stdout).expect("text");
     assert_above(
@@ -59,20 +60,34 @@ fn most_own_steps_and_helps() {
         [0; 3],
         HELP_LIMITS,
     );
-    for told in ["\nterms in order: ", "\nprice 0: "] {
-        assert!(said.contains(told), "{said}");
-    }
+    assert!(times(&said).all(|times| times > 0), "{said}");
 }
 
+/// How often each that is counted came up.
+fn times(said: &str) -> impl Iterator<Item = u64> + '_ {
+    let words = said.split([' ', ',', '\n']);
+    let times = words.filter_map(|word| word.strip_prefix('x'));
+    times.filter_map(|times| times.parse().ok())
+}
+
+/// Without a record nothing comes up, and all that is counted, and helps of each p, is missed.
 #[test]
-fn without_helps_terms_and_bills_it_fails() {
+fn without_records_it_fails() {
     let mut command = Command::new(env!("CARGO_BIN_EXE_compare"));
     let output = command.arg("0").output().expect("the program starts");
     assert_eq!(output.status.code(), Some(1), "{output:?}");
     let said = String::from_utf8(output.stdout).expect("text");
-    assert_eq!(of_each_p(&said, "most helps: ", HELP_LIMITS), [0; 3]);
+    assert!(times(&said).all(|times| times == 0), "{said}");
     let failed = String::from_utf8(output.stderr).expect("text");
-    for missing in ["no help was met", "no term was met", "no bill was met"] {
-        assert!(failed.contains(missing), "{failed}");
+    let missed: Vec<&str> = failed.trim().split("; ").collect();
+    assert_eq!(missed.len(), times(&said).count() + 3, "{failed}");
+    for one in [
+        "otq_list_order 10",
+        "verdict refused",
+        "C4 second refresh of the root: finds a block",
+        "helps with p = 8",
+        "bill with eight bands",
+    ] {
+        assert!(missed.contains(&one), "{one}: {failed}");
     }
 }

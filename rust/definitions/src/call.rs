@@ -3,8 +3,8 @@
 use crate::decimal::{bytes, words};
 use crate::met::Met;
 use crate::row::{Row, Statement};
+use reference::branches::Branches;
 use reference::check::{check_log, CheckResult};
-use reference::helps::child_v3s;
 use reference::list::list_order;
 use reference::records::{Answer, ANSWER_RECORD_BYTES, ORDER_RECORD_BYTES, STEP_RECORD_BYTES};
 use reference::run::{run, RunResult};
@@ -105,23 +105,30 @@ impl Call {
             Met::new("check", self.verdict_of(checked)),
         ];
         met.extend(self.helps(ran, &answers));
+        met.extend(self.branches(ran));
         (text.join(" "), met)
     }
 
-    /// The helps that the answers tell, and each V3 of a child among the records taken.
+    /// The helps that the answers tell.
     fn helps(&self, ran: RunResult, answers: &[u8]) -> Vec<Met> {
         let answers = answers.chunks_exact(ANSWER_RECORD_BYTES);
         let told = answers.take(ran.answers as usize).map(|record| {
             let answer = Answer::read(record).expect("an answer that Run wrote");
             Met::count("answer helps", answer.helps.into())
         });
-        let mut met: Vec<Met> = told.collect();
+        told.collect()
+    }
+
+    /// The branches of the steps among the records taken.
+    fn branches(&self, ran: RunResult) -> Vec<Met> {
+        let mut branches = Branches::default();
         if let Ok(shape) = Shape::new(self.p, self.l) {
-            let taken = &self.records[..STEP_RECORD_BYTES * ran.taken as usize];
-            let v3s = child_v3s(shape, taken).into_iter();
-            met.extend(v3s.map(|v3| Met::child_v3(self.p, v3)));
+            branches.count_list(
+                shape,
+                &self.records[..STEP_RECORD_BYTES * ran.taken as usize],
+            );
         }
-        met
+        Met::branches(&branches)
     }
 
     /// The verdict: the same; a record unequal; the log shorter; longer; or the refusal's number.

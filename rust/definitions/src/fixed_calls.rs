@@ -6,6 +6,8 @@ use crate::{fixed_bytes, fixed_logs, fixed_records, late_begins};
 use reference::between_reads::between_reads;
 use reference::help_lists::{help_lists, most_helped, HelpList};
 use reference::lists::List;
+use reference::process::StepName;
+use reference::schedules::{schedule, Pace, Plan};
 use reference::tree::Shape;
 
 /// Calls that meet every number and verdict, each edge of a test, and the order of the tests; records
@@ -104,6 +106,22 @@ pub fn largest() -> Vec<Row> {
         rows.push(call.row(format!("p = {p}, the most helps")));
     }
     rows
+}
+
+/// Lists that meet those branches of the steps that the other fixed calls do not.
+pub fn branches() -> Vec<Row> {
+    let stalls = |step| Pace::Stalls { step, after: false };
+    let plans = [
+        Plan::new(2, 1, stalls(StepName::V1), 699).puts_of_8(6),
+        Plan::new(2, 2, stalls(StepName::R3), 89).puts_of_8(6),
+        Plan::new(4, 1, Pace::Bursts(9), 187).puts_of_8(6),
+        Plan::new(4, 2, stalls(StepName::R5), 535),
+    ];
+    let row = |plan: Plan| {
+        let call = Call::ample(plan.p, plan.l, schedule(&plan));
+        call.row(format!("branches: p = {}, {:?}", plan.p, plan.pace))
+    };
+    plans.map(row).into()
 }
 
 /// A word too few refuses with 3, and with no word too few the records are met: the second of them

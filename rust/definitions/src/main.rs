@@ -1,12 +1,13 @@
 //! Writes rows for the prover: calls of the reference with everything that they leave, and what it
 //! says of demand 3. Arguments: `HOW-MANY SEED` for random calls and forecasts; `calls` for the
 //! fixed calls that play records, and among them `between` for those in which operations come
-//! between the reads of another, `helps` for those in which a refresh advances a child's block;
+//! between the reads of another, `helps` for those in which a refresh advances a child's block; `branches`
+//! for the calls that meet the branches of the steps that those do not;
 //! `forecast` for the fixed forecasts; `demand3` for its terms; `desk [HOW-MANY SEED]` for calls of the
 //! delivery desk, the fixed ones and so many random ones; `price [HOW-MANY SEED]` for prices of deliveries
 //! alike; `nodes` for the table of where nodes start, and for its rows at other L; `long` for more calls,
 //! forecasts and terms that take the prover long; and `tally FILE ..`, which says how often the rows of
-//! these files meet each number and case and fails if one is never met.
+//! these files meet each number, case and branch of a step and fails if one is never met.
 
 mod call;
 mod decimal;
@@ -43,6 +44,7 @@ fn main() {
         ["calls"] => print(fixed_calls::rows()),
         ["between"] => print(fixed_calls::between()),
         ["helps"] => print(fixed_calls::helps()),
+        ["branches"] => print(fixed_calls::branches()),
         ["demand3"] => print(demand3::rows()),
         ["forecast"] => print(forecasts::rows()),
         ["desk"] => print_desk(desk::rows(42, 7)),
@@ -53,7 +55,7 @@ fn main() {
         ["long"] => print(long()),
         [rows, seed] => print(random_calls::rows(number(rows), number(seed))),
         _ => panic!(
-            "arguments: HOW-MANY SEED, calls, between, helps, demand3, forecast, \
+            "arguments: HOW-MANY SEED, calls, between, helps, branches, demand3, forecast, \
              desk [HOW-MANY SEED], price [HOW-MANY SEED], nodes, long, or tally FILE .."
         ),
     }
@@ -61,6 +63,7 @@ fn main() {
 
 fn long() -> Vec<Row> {
     let mut rows = fixed_calls::largest();
+    rows.extend(fixed_calls::branches());
     rows.push(fixed_records::many_begun_first());
     rows.extend(forecasts::largest());
     rows.extend(demand3::planned());

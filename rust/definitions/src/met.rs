@@ -1,14 +1,14 @@
-//! What the rows meet: the numbers and verdicts of the calls, their helps, the cases of demand 3's
-//! terms, and those of the desk, of prices and of the starts of nodes.
+//! What the rows meet: the numbers and verdicts of the calls, the branches of the steps, helps, the cases
+//! of demand 3's terms, and those of the desk, of prices and of the starts of nodes.
 
-use reference::helps::ChildV3;
+use reference::branches::Branches;
 use std::fmt;
 
-/// Everything that the rows must meet, by what can meet it. The numbers and verdicts of the calls
+/// What the rows must meet besides the branches of the steps, by what can meet it. The numbers and verdicts of the calls
 /// are those of document 01, "What each call turns down", and of requests a and b; helps are those
 /// of request e, the desk is that of request g, prices are those of request h, and the starts of nodes
 /// are those of request j.
-const REQUIRED: [(&str, &[&str]); 19] = [
+const REQUIRED: [(&str, &[&str]); 18] = [
     ("run", &["0", "1", "2", "3", "4", "5", "6", "7", "8", "9"]),
     ("list", &["0", "1", "2", "3", "4", "5", "6", "7", "8", "10"]),
     (
@@ -31,19 +31,6 @@ const REQUIRED: [(&str, &[&str]); 19] = [
         ],
     ),
     ("answer helps", &["0", "1", "more"]),
-    (
-        "V3 of a child",
-        &[
-            "left leaf moved",
-            "left leaf found moved",
-            "right leaf moved",
-            "right leaf found moved",
-            "left inner moved",
-            "left inner found moved",
-            "right inner moved",
-            "right inner found moved",
-        ],
-    ),
     ("forecast", &["0", "1", "2", "4", "5", "8", "12"]),
     ("foreseen", &["p=2", "p=4", "p=8"]),
     ("limit", &["p=2", "p=4", "p=8"]),
@@ -103,32 +90,34 @@ pub const LINE: &str = "-- met: ";
 /// A number or case, and what met it.
 #[derive(Clone, PartialEq, Eq, Debug)]
 pub struct Met {
-    what: &'static str,
+    what: String,
     case: String,
 }
 
 impl Met {
-    pub fn new(what: &'static str, case: impl ToString) -> Met {
+    pub fn new(what: impl ToString, case: impl ToString) -> Met {
         Met {
-            what,
+            what: what.to_string(),
             case: case.to_string(),
         }
     }
 
     /// A count of helps.
-    pub fn count(what: &'static str, helps: u32) -> Met {
+    pub fn count(what: &str, helps: u32) -> Met {
         match helps {
             0 | 1 => Met::new(what, helps),
             _ => Met::new(what, "more"),
         }
     }
 
-    /// A V3 of an advance begun in R3 or R5, with p processes.
-    pub fn child_v3(p: u32, v3: ChildV3) -> Met {
-        let side = if v3.is_left() { "left" } else { "right" };
-        let child = if v3.child < p { "inner" } else { "leaf" };
-        let found = if v3.moved { "moved" } else { "found moved" };
-        Met::new("V3 of a child", format!("{side} {child} {found}"))
+    /// The branches that a list came to, each once.
+    pub fn branches(of_list: &Branches) -> Vec<Met> {
+        let mut met = Vec::new();
+        for (step, finds) in of_list.by_step() {
+            let finds = finds.into_iter().filter(|&(_, times)| times > 0);
+            met.extend(finds.map(|(finds, _)| Met::new(&step, finds)));
+        }
+        met
     }
 }
 
@@ -147,9 +136,15 @@ pub fn tally(files: &[&str]) -> Result<(), String> {
         let lines = text.lines().filter_map(|line| line.strip_prefix(LINE));
         met.extend(lines.flat_map(|line| line.split(", ")).map(str::to_string));
     }
+    let required = REQUIRED.map(|(what, cases)| (what.to_string(), cases.to_vec()));
+    let branches = Branches::default();
+    let branches = branches.by_step().map(|(step, finds)| {
+        let finds = finds.into_iter().map(|(finds, _)| finds);
+        (step, finds.collect())
+    });
     let mut never = Vec::new();
     let mut counted = 0;
-    for (what, cases) in REQUIRED {
+    for (what, cases) in required.into_iter().chain(branches) {
         let mut line = Vec::new();
         for case in cases {
             let name = format!("{what} {case}");

@@ -23,7 +23,7 @@ pub struct DeskResult {
 
 /// Why the desk turns a call or a record down. The queue knows nothing of licences.
 #[derive(Clone, Copy, PartialEq, Eq, Hash, Debug)]
-pub enum DeskRefusal {
+enum DeskRefusal {
     /// Numbers 1 to 8, as in listing the order.
     Queue(Refusal),
     /// The terms exceed the output.
@@ -41,7 +41,7 @@ impl From<Refusal> for DeskRefusal {
 }
 
 /// The paper's number; 0 stands for no refusal.
-pub fn desk_number(refusal: Option<DeskRefusal>) -> u32 {
+fn desk_number(refusal: Option<DeskRefusal>) -> u32 {
     match refusal {
         None => 0,
         Some(DeskRefusal::Queue(refusal)) => number(Some(refusal)),

@@ -63,7 +63,7 @@ pub fn entry(term: u32) -> u32 {
 }
 
 /// A term whose bytes differ.
-pub const WIDE_TERM: u32 = 0x0403_0201;
+const WIDE_TERM: u32 = 0x0403_0201;
 
 /// A put by process 0 and its steps, alone with p = 2.
 fn put(list: List, value: u32) -> List {

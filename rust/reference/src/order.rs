@@ -49,7 +49,7 @@ fn subblocks(tree: &Tree, node: u32, place: u32, child: u32) -> std::ops::RangeI
 }
 
 /// What a leaf's block gives: the kind its totals add, read from the totals alone.
-pub fn leaf_gives(tree: &Tree, leaf: u32, place: u32) -> Option<Kind> {
+fn leaf_gives(tree: &Tree, leaf: u32, place: u32) -> Option<Kind> {
     let (block, before) = (tree.block(leaf, place), tree.block(leaf, place - 1));
     let puts = i64::from(block.puts) - i64::from(before.puts);
     let takes = i64::from(block.takes) - i64::from(before.takes);
@@ -130,13 +130,13 @@ pub fn put_value(tree: &Tree, n: u32) -> Option<u32> {
 }
 
 /// The value that a put's leaf block holds.
-pub fn leaf_value(tree: &Tree, given: Given) -> u32 {
+fn leaf_value(tree: &Tree, given: Given) -> u32 {
     let leaf = tree.shape().leaf(given.process);
     tree.block(leaf, given.place).end_left
 }
 
 /// The answer of the i-th take, from 1, of root block b.
-pub fn take_outcome(tree: &Tree, b: u32, i: u32) -> Outcome {
+fn take_outcome(tree: &Tree, b: u32, i: u32) -> Outcome {
     if margin(tree, b, i) < 0 {
         return Outcome::Nothing;
     }

@@ -25,7 +25,7 @@ pub struct PriceResult {
 
 /// Why a bill is turned down.
 #[derive(Clone, Copy, PartialEq, Eq, Hash, Debug)]
-pub enum PriceRefusal {
+enum PriceRefusal {
     /// More than 4,000 deliveries.
     Count,
     /// The sheet isn't whole records.
@@ -37,7 +37,7 @@ pub enum PriceRefusal {
 }
 
 /// The paper's number; 0 stands for no refusal.
-pub fn price_number(refusal: Option<PriceRefusal>) -> u32 {
+fn price_number(refusal: Option<PriceRefusal>) -> u32 {
     match refusal {
         None => 0,
         Some(PriceRefusal::Count) => 2,

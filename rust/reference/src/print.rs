@@ -7,7 +7,7 @@ pub const P: u32 = 4;
 pub const L: u32 = 24;
 pub const TABLE_WORDS: usize = 2065;
 pub const RECORD_BYTES: usize = 65536;
-pub const ANSWER_BYTES: usize = 1536;
+const ANSWER_BYTES: usize = 1536;
 
 /// The whole print; input longer than the record buffer prints `long` alone.
 pub fn print_run(input: &[u8]) -> String {

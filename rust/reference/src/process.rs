@@ -175,7 +175,7 @@ impl Process {
 }
 
 /// The names of the steps, in the paper's order.
-#[derive(Clone, Copy, PartialEq, Eq, Hash, Debug)]
+#[derive(Clone, Copy, PartialEq, Eq, PartialOrd, Ord, Hash, Debug)]
 pub enum StepName {
     A,
     V1,

@@ -1,126 +1,19 @@
-//! The generated lists reach every case of the step rules, and blocks keep their form.
+//! The generated lists reach every branch of the step rules, and blocks keep their form.
 
-use reference::machine::Machine;
-use reference::memory::Memory;
-use reference::process::{Advance, Attempt, Step, Then, STEP_NAMES};
-use reference::records::{numbered, Outcome, StepRecord};
-use reference::run::play_record;
+use reference::branches::Branches;
+use reference::help_lists::help_lists;
+use reference::known_runs::{m3, m4, m6};
+use reference::lists::List;
+use reference::process::STEP_NAMES;
+use reference::run::{play, Room};
 use reference::schedules::{schedule, Pace, Plan};
-use reference::tree::{left_child, right_child, Shape, Tree, ROOT};
-use std::collections::BTreeMap;
-
-const CASES: [&str; 25] = [
-    "V1 of a help reads another head than R1",
-    "V2 sets super",
-    "V2 finds super set to its own number",
-    "V2 finds super set to another number",
-    "V3 of the own leaf finds it raised",
-    "V3 of the own leaf raises",
-    "V3 of a help on the left finds it raised",
-    "V3 of a help on the left raises",
-    "V3 of a help on the right finds it raised",
-    "V3 of a help on the right raises",
-    "V3 of the node finds it raised",
-    "V3 of the node raises",
-    "R3 finds the block absent",
-    "R3 finds the block present",
-    "R5 finds the block absent",
-    "R5 finds the block present",
-    "C3N First finds equal totals",
-    "C3N Second finds equal totals",
-    "C3N keeps the size from falling below 0",
-    "C4 First writes",
-    "C4 First finds it present",
-    "C4 Second writes",
-    "C4 Second finds it present",
-    "Q of a take gives a value",
-    "Q of a take gives none",
-];
-
-/// The case that this step comes to, read before it is done.
-fn case(memory: &Memory, step: Step, next: Option<Step>) -> Option<String> {
-    let present = |node, place| memory.tree.block(node, place).present();
-    Some(match step {
-        Step::V1 { advance } => match advance.then {
-            Then::R4 { refresh, h } | Then::C1 { refresh, h } if memory.head(refresh.node) != h => {
-                "V1 of a help reads another head than R1".into()
-            }
-            _ => return None,
-        },
-        Step::V2 {
-            advance,
-            parent_head,
-        } => match memory.tree.block(advance.node, advance.place).superblock {
-            0 => "V2 sets super".into(),
-            set if set == parent_head => "V2 finds super set to its own number".into(),
-            _ => "V2 finds super set to another number".into(),
-        },
-        Step::V3 { advance } => raise_case(memory, advance),
-        Step::R3 { refresh, c, .. } => help_case("R3", present(left_child(refresh.node), c)),
-        Step::R5 { refresh, c, .. } => help_case("R5", present(right_child(refresh.node), c)),
-        Step::C3N { refresh, h, .. } => return build_case(memory, refresh.attempt, h, next),
-        Step::C4 { refresh, h, .. } => {
-            let lost = present(refresh.node, h);
-            let how = if lost { "finds it present" } else { "writes" };
-            format!("C4 {:?} {how}", refresh.attempt)
-        }
-        _ => return None,
-    })
-}
-
-fn raise_case(memory: &Memory, advance: Advance) -> String {
-    let whose = match advance.then {
-        Then::RefreshParent => "the own leaf",
-        Then::R4 { .. } => "a help on the left",
-        Then::C1 { .. } => "a help on the right",
-        Then::EndRefresh { .. } => "the node",
-    };
-    let raises = memory.head(advance.node) == advance.place;
-    let how = if raises { "raises" } else { "finds it raised" };
-    format!("V3 of {whose} {how}")
-}
-
-fn help_case(step: &str, present: bool) -> String {
-    let found = if present { "present" } else { "absent" };
-    format!("{step} finds the block {found}")
-}
-
-fn build_case(memory: &Memory, attempt: Attempt, h: u32, next: Option<Step>) -> Option<String> {
-    let Some(Step::C4 { refresh, built, .. }) = next else {
-        return Some(format!("C3N {attempt:?} finds equal totals"));
-    };
-    let before = memory.tree.block(refresh.node, h - 1);
-    let held = i64::from(before.size) + i64::from(built.totals.puts - before.puts);
-    let takes = i64::from(built.totals.takes - before.takes);
-    let below = refresh.node == ROOT && held < takes;
-    below.then(|| "C3N keeps the size from falling below 0".into())
-}
-
-/// Plays a list and counts the cases.
-fn count(plan: &Plan, counts: &mut BTreeMap<String, usize>) -> Machine {
-    let mut machine = Machine::start(Shape::new(plan.p, plan.l).unwrap());
-    for (number, bytes) in numbered(&schedule(plan)) {
-        let record = StepRecord::read(bytes, plan.p).unwrap();
-        let (step, memory) = (machine.next_step(record.process), machine.memory.clone());
-        let answer = play_record(&mut machine, number, record);
-        let next = machine.next_step(record.process);
-        let found = step.and_then(|step| case(&memory, step, next));
-        let found = match answer.map(|answer| answer.outcome) {
-            Some(Outcome::Value(_)) => Some("Q of a take gives a value".into()),
-            Some(Outcome::Nothing) => Some("Q of a take gives none".into()),
-            Some(Outcome::PutDone) | None => found,
-        };
-        if let Some(found) = found {
-            *counts.entry(found).or_default() += 1;
-        }
-    }
-    machine
-}
+use reference::tree::{Shape, Tree, ROOT};
 
 fn plans(p: u32) -> Vec<Plan> {
     let mut plans = Vec::new();
     for seed in 0..20 {
         plans.push(Plan::new(p, 5, Pace::Uniform, seed));
+        plans.push(Plan::new(p, 5, Pace::OneAtATime, seed));
         for (index, step) in STEP_NAMES.into_iter().enumerate() {
             let after = index % 2 == 0;
             plans.push(Plan::new(p, 5, Pace::Stalls { step, after }, seed));
@@ -129,17 +22,96 @@ fn plans(p: u32) -> Vec<Plan> {
     plans
 }
 
+/// With two processes the root is the only node that has children.
 #[test]
-fn every_case_is_reached() {
+fn every_branch_is_reached() {
     for p in [2, 4, 8] {
-        let mut counts = BTreeMap::new();
+        let mut branches = Branches::default();
         for plan in plans(p) {
-            count(&plan, &mut counts);
+            branches.count_list(Shape::new(p, plan.l).unwrap(), &schedule(&plan));
         }
-        for case in CASES {
-            assert!(counts.contains_key(case), "p {p}: {case} in {counts:?}");
+        for (step, met) in branches.by_step() {
+            for (finds, times) in met {
+                let possible = p > 2 || !step.contains("inner node");
+                assert_eq!(times > 0, possible, "p {p}: {step} {finds} x{times}");
+            }
         }
-        assert_eq!(counts.len(), CASES.len(), "{counts:?}");
+    }
+}
+
+/// The branches that a list comes to, each with how often.
+fn met(p: u32, l: u32, list: &[u8]) -> Vec<String> {
+    let mut branches = Branches::default();
+    branches.count_list(Shape::new(p, l).unwrap(), list);
+    let mut met = Vec::new();
+    for (step, finds) in branches.by_step() {
+        let finds = finds.into_iter().filter(|&(_, times)| times > 0);
+        met.extend(finds.map(|(finds, times)| format!("{step}: {finds} x{times}")));
+    }
+    met
+}
+
+/// M6, worked by hand: process 1 helps the put of 0 into its own root block.
+#[test]
+fn branches_of_a_known_run() {
+    let expected = [
+        "A put: reads block 0 x2",
+        "V1 own leaf: reads the head x2",
+        "V1 left leaf: reads the head of R1 x1",
+        "V2 own leaf: sets super x1",
+        "V2 own leaf: finds another x1",
+        "V2 left leaf: sets super x1",
+        "V3 own leaf: raises the head x1",
+        "V3 own leaf: finds it raised x1",
+        "V3 left leaf: raises the head x1",
+        "V3 root after C4 wrote: raises the head x1",
+        "V3 first refresh of the root: ends with success x1",
+        "R1 first refresh of the root: reads the head x2",
+        "R2 left leaf: reads the head x2",
+        "R3 left leaf: finds a block x1",
+        "R3 left leaf: finds none x1",
+        "R4 right leaf: reads the head x2",
+        "R5 right leaf: finds none x2",
+        "C1 left leaf: ends later x2",
+        "C2 right leaf: ends later x2",
+        "C3L left leaf: reads a later block x2",
+        "C3R right leaf: reads a later block x2",
+        "C3N first refresh of the root: finds equal totals x1",
+        "C3N first refresh of the root: finds more x1",
+        "C3N size: above 0 x1",
+        "C4 first refresh of the root: writes x1",
+        "C4 superblock of a leaf's block: at super x2",
+        "Q put: done x2",
+    ];
+    assert_eq!(met(2, 24, &m6(0, 1).bytes()), expected);
+}
+
+/// A few branches of other lists, worked by hand: M4, M3, and helps on the right and of inner nodes.
+#[test]
+fn branches_of_other_lists() {
+    let two_before = List::new().whole_puts(0, 2, 17).take(1).steps(1, 17);
+    let [.., both_inner, _, _] = help_lists();
+    for (p, list, expected) in [
+        (2, m4(), "C3N size: kept from falling below 0 x1"),
+        (2, m4(), "Q take: none x1"),
+        (2, m3(), "Q take: value at margin 0 x1"),
+        (2, m3(), "Q value: put in the same one x1"),
+        (2, two_before.clone(), "Q take: value above margin 0 x1"),
+        (2, two_before, "Q value: put in an earlier root block x1"),
+        (2, m6(1, 0), "V3 right leaf: raises the head x1"),
+        (
+            4,
+            both_inner.list.clone(),
+            "V3 left inner node: raises the head x1",
+        ),
+        (
+            4,
+            both_inner.list,
+            "V3 right inner node: raises the head x1",
+        ),
+    ] {
+        let met = met(p, 24, &list.bytes());
+        assert!(met.iter().any(|met| met == expected), "{expected}: {met:?}");
     }
 }
 
@@ -166,7 +138,8 @@ fn assert_form(tree: &Tree, node: u32) {
 fn blocks_keep_their_form() {
     for p in [2, 4, 8] {
         for plan in plans(p) {
-            let machine = count(&plan, &mut BTreeMap::new());
+            let shape = Shape::new(p, plan.l).unwrap();
+            let machine = play(shape, &schedule(&plan), Room::Unlimited).machine;
             for node in ROOT..=machine.shape().last_node() {
                 assert_form(&machine.memory.tree, node);
                 let head = machine.memory.head(node);

@@ -64,19 +64,26 @@ impl Met {
     }
 }
 
-/// Plays a list. Each such step is compared at every record from when its process comes to it.
+/// Plays a list. Each such step is compared when it is done, and from when its process comes to it after
+/// each record that changed the memory.
 fn compare_list(plan: &Plan, met: &mut Met) {
     let mut random = Random::new(plan.seed);
     let mut machine = Machine::start(Shape::new(plan.p, plan.l).unwrap());
+    let mut changed = false;
     for (number, bytes) in numbered(&schedule(plan)) {
         let record = StepRecord::read(bytes, plan.p).unwrap();
         for at in (0..plan.p).filter_map(|process| AtC3::find(&machine, process)) {
-            compare(&mut random, &machine, &at);
-            if at.process == record.process {
+            let is_done = at.process == record.process;
+            if changed || is_done {
+                compare(&mut random, &machine, &at);
+            }
+            if is_done {
                 met.change_words(&machine, &at);
             }
         }
+        let before = machine.memory.clone();
         play_record(&mut machine, number, record);
+        changed = machine.memory != before;
     }
 }
 

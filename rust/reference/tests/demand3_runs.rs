@@ -8,7 +8,7 @@ use reference::schedules::{schedule, Pace, Plan};
 
 /// Records played, operations finished, how many of them helped, and operations left unfinished.
 #[derive(Default)]
-struct Totals {
+struct Met {
     records: u64,
     finished: u64,
     helping: u64,
@@ -16,7 +16,7 @@ struct Totals {
 }
 
 /// Plays the plan's list and checks demand 3 on what the run leaves.
-fn assert_demand3(plan: &Plan, totals: &mut Totals) {
+fn assert_demand3(plan: &Plan, met: &mut Met) {
     let (p, l) = (plan.p, plan.l);
     let list = schedule(plan);
     let mut table = pattern_words(needed(p, l));
@@ -25,27 +25,27 @@ fn assert_demand3(plan: &Plan, totals: &mut Totals) {
     assert_eq!(result.refusal, 0, "{plan:?}");
     let written = &answers[..16 * result.answers as usize];
     assert_eq!(check(p, l, &list, written, &table), Ok(()), "{plan:?}");
-    totals.records += result.taken;
-    totals.finished += result.answers;
-    totals.helping += written.chunks_exact(16).filter(|a| a[3] != 0).count() as u64;
+    met.records += result.taken;
+    met.finished += result.answers;
+    met.helping += written.chunks_exact(16).filter(|a| a[3] != 0).count() as u64;
     let begun = list.chunks_exact(8).filter(|record| record[1] != 0).count() as u64;
-    totals.unfinished += begun - result.answers;
+    met.unfinished += begun - result.answers;
 }
 
 /// The pace with every p, L and mix.
-fn assert_every_shape(pace: Pace, seeds: u64) -> Totals {
-    let mut totals = Totals::default();
+fn assert_every_shape(pace: Pace, seeds: u64) -> Met {
+    let mut met = Met::default();
     for plan in every_shape(pace, seeds) {
-        assert_demand3(&plan, &mut totals);
+        assert_demand3(&plan, &mut met);
     }
-    assert!(totals.finished > 0 && totals.unfinished > 0);
-    totals
+    assert!(met.finished > 0 && met.unfinished > 0);
+    met
 }
 
 #[test]
 fn uniform() {
-    let totals = assert_every_shape(Pace::Uniform, 40);
-    assert!(totals.records > 2_000_000 && totals.helping > 0);
+    let met = assert_every_shape(Pace::Uniform, 40);
+    assert!(met.records > 2_000_000 && met.helping > 0);
 }
 
 #[test]
@@ -67,12 +67,12 @@ fn one_at_a_time() {
 /// Stops at each named step.
 fn assert_stalls(p: u32) {
     for step in STEP_NAMES {
-        let mut totals = Totals::default();
+        let mut met = Met::default();
         for plan in stalls(p, step) {
-            assert_demand3(&plan, &mut totals);
+            assert_demand3(&plan, &mut met);
         }
-        assert!(totals.finished > 0 && totals.unfinished > 0, "{step:?}");
-        assert!(totals.helping > 0, "{step:?}");
+        assert!(met.finished > 0 && met.unfinished > 0, "{step:?}");
+        assert!(met.helping > 0, "{step:?}");
     }
 }
 
@@ -93,25 +93,25 @@ fn stalls_of_eight() {
 
 #[test]
 fn the_largest_shape() {
-    let mut totals = Totals::default();
+    let mut met = Met::default();
     let paces = [Pace::Uniform, Pace::Bursts(30), Pace::Lockstep];
     for (seed, pace) in paces.into_iter().enumerate() {
         let plan = Plan::new(8, 500, pace, seed as u64).puts_of_8(3 + seed as u32);
-        assert_demand3(&plan, &mut totals);
+        assert_demand3(&plan, &mut met);
     }
-    assert_eq!(totals.finished, 12_000);
+    assert_eq!(met.finished, 12_000);
 }
 
 #[test]
 fn fewer_operations_than_the_table_holds() {
-    let mut totals = Totals::default();
+    let mut met = Met::default();
     for seed in 0..40 {
         let each = 1 + seed as u32 % 5;
         let plan = Plan {
             each,
             ..Plan::new(4, 30, Pace::Uniform, seed)
         };
-        assert_demand3(&plan, &mut totals);
+        assert_demand3(&plan, &mut met);
     }
-    assert_eq!(totals.unfinished, 0);
+    assert_eq!(met.unfinished, 0);
 }

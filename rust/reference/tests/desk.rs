@@ -237,7 +237,8 @@ fn number_here(machine: &Machine, process: u32, licensed: u32) -> u32 {
     }
 }
 
-/// A put of an entry by each process at every place of lists, and puts of the value below.
+/// A put of an entry by each process at every place of lists, and puts of the value below: that process
+/// is licensed, and from place to place each of the others in turn.
 #[test]
 fn an_entry_at_every_place() {
     let mut seen = [0; 15];
@@ -247,7 +248,10 @@ fn an_entry_at_every_place() {
         for place in 0..=list.len() / 8 {
             let (before, after) = list.split_at(8 * place);
             let machine = play(shape, before, Room::Unlimited).machine;
-            for (process, licensed) in (0..p * p).map(|both| (both / p, both % p)) {
+            let turn = 1 + place as u32 % (p - 1);
+            let each =
+                (0..p).flat_map(|process| [(process, process), (process, (process + turn) % p)]);
+            for (process, licensed) in each {
                 let with = |value| {
                     let act = Act::Begin(Operation::Put(value));
                     let record = StepRecord { process, act }.bytes();

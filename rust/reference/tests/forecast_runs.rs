@@ -15,7 +15,7 @@ use reference::tree::Shape;
 
 /// How many lists were foreseen, by how they ended.
 #[derive(Default, Debug)]
-struct Ends {
+struct Endings {
     /// Nothing refused and all operations finished.
     finished: u64,
     /// Nothing refused, some operation not finished.
@@ -26,7 +26,7 @@ struct Ends {
     neither: u64,
 }
 
-impl Ends {
+impl Endings {
     /// The claims on one list; p and l are proper.
     fn assert_within(&mut self, p: u32, l: u32, list: &[u8]) {
         let told = || format!("p {p} l {l} list {list:?}");
@@ -87,7 +87,7 @@ fn assert_no_less(p: u32, l: u32, list: &[u8], foreseen: ForecastResult) {
 
 #[test]
 fn schedules_of_every_pace() {
-    let mut ends = Ends::default();
+    let mut endings = Endings::default();
     for pace in [
         Pace::Uniform,
         Pace::Bursts(5),
@@ -95,44 +95,53 @@ fn schedules_of_every_pace() {
         Pace::OneAtATime,
     ] {
         for plan in every_shape(pace, 4) {
-            ends.assert_within(plan.p, plan.l, &schedule(&plan));
+            endings.assert_within(plan.p, plan.l, &schedule(&plan));
         }
     }
-    assert!(ends.finished > 0 && ends.unfinished > 0, "{ends:?}");
-    assert_eq!((ends.refused, ends.neither), ([0; 9], 0));
+    assert!(
+        endings.finished > 0 && endings.unfinished > 0,
+        "{endings:?}"
+    );
+    assert_eq!((endings.refused, endings.neither), ([0; 9], 0));
 }
 
 #[test]
 fn stalls_at_every_step() {
-    let mut ends = Ends::default();
+    let mut endings = Endings::default();
     for plan in every_stall() {
-        ends.assert_within(plan.p, plan.l, &schedule(&plan));
+        endings.assert_within(plan.p, plan.l, &schedule(&plan));
     }
-    assert!(ends.finished > 0 && ends.unfinished > 0, "{ends:?}");
+    assert!(
+        endings.finished > 0 && endings.unfinished > 0,
+        "{endings:?}"
+    );
 }
 
 /// Lists with something wrong: torn, with a record changed, put in or taken out.
 #[test]
 fn hostile_lists() {
-    let (mut ends, mut starts) = (Ends::default(), Ends::default());
+    let (mut endings, mut starts) = (Endings::default(), Endings::default());
     let mut random = Random::new(3);
     for (p, l) in [(2, 1), (2, 2), (2, 5), (4, 1), (4, 3), (8, 1), (8, 2)] {
         for seed in 0..400 {
             let mut list = mixed_list(p, l, seed);
             harm_list(&mut random, p, &mut list);
             harm_list(&mut random, p, &mut list);
-            ends.assert_within(p, l, &list);
+            endings.assert_within(p, l, &list);
             assert_limits_of_any_run(p, l, &list);
             let taken = run_amply(p, l, &list).result.taken as usize;
             starts.assert_within(p, l, &list[..8 * taken]);
         }
     }
-    assert!(ends.finished > 0 && ends.unfinished > 0, "{ends:?}");
+    assert!(
+        endings.finished > 0 && endings.unfinished > 0,
+        "{endings:?}"
+    );
     // Where the forecast finds no begin past L, no run does.
-    let met = ends.refused.map(|lists| lists > 0);
+    let met = endings.refused.map(|lists| lists > 0);
     let can_come = [false, false, false, false, true, true, true, true, false];
-    assert_eq!(met, can_come, "{ends:?}");
-    assert!(ends.neither > 0, "{ends:?}");
+    assert_eq!(met, can_come, "{endings:?}");
+    assert!(endings.neither > 0, "{endings:?}");
     // The records taken are foreseen, whatever is wrong with those after them.
     assert_eq!((starts.refused, starts.neither), ([0; 9], 0));
 }
@@ -143,13 +152,13 @@ fn begins_after_the_refusal_count() {
     let stopped = List::new().put(0, 1).steps(1, 1).take(1).put(0, 2).bytes();
     assert_eq!(run_amply(2, 2, &stopped).result.taken, 1);
     assert_eq!(forecast(2, 2, &begins_of(&stopped)).answer_bytes, 48);
-    Ends::default().assert_within(2, 2, &stopped);
+    Endings::default().assert_within(2, 2, &stopped);
 }
 
 #[test]
 fn the_known_runs() {
     for known in known_runs() {
-        Ends::default().assert_within(known.p, known.l, &known.list);
+        Endings::default().assert_within(known.p, known.l, &known.list);
     }
 }
 

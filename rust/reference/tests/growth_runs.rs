@@ -9,7 +9,7 @@ use std::fmt::Debug;
 
 /// Pairs of a cut and a longer one, and those among them with a past that is not empty and grew.
 #[derive(Default, Debug)]
-struct Totals {
+struct Met {
     pairs: u64,
     grown: u64,
 }
@@ -28,7 +28,7 @@ fn cuts(records: usize) -> Vec<usize> {
 }
 
 /// Compares the past of each cut with that of every longer one.
-fn assert_growth(p: u32, l: u32, list: &[u8], told: impl Debug, totals: &mut Totals) {
+fn assert_growth(p: u32, l: u32, list: &[u8], told: impl Debug, met: &mut Met) {
     let cuts = cuts(list.len() / 8);
     let pasts: Vec<Past> = cuts
         .iter()
@@ -38,28 +38,28 @@ fn assert_growth(p: u32, l: u32, list: &[u8], told: impl Debug, totals: &mut Tot
         for later in &pasts[index + 1..] {
             assert_eq!(grows(earlier, later), Ok(()), "{told:?}");
             let longer = later.order.len() > earlier.order.len();
-            totals.pairs += 1;
-            totals.grown += u64::from(!earlier.order.is_empty() && longer);
+            met.pairs += 1;
+            met.grown += u64::from(!earlier.order.is_empty() && longer);
         }
     }
 }
 
 fn assert_plans(plans: &[Plan]) {
-    let mut totals = Totals::default();
+    let mut met = Met::default();
     for plan in plans {
-        assert_growth(plan.p, plan.l, &schedule(plan), plan, &mut totals);
+        assert_growth(plan.p, plan.l, &schedule(plan), plan, &mut met);
     }
-    assert!(totals.grown > 0, "{totals:?}");
+    assert!(met.grown > 0, "{met:?}");
 }
 
 #[test]
 fn known_runs_up_to_their_refusals() {
-    let mut totals = Totals::default();
+    let mut met = Met::default();
     for known in known_runs() {
         let taken = &known.list[..8 * known.result.taken as usize];
-        assert_growth(known.p, known.l, taken, known.name, &mut totals);
+        assert_growth(known.p, known.l, taken, known.name, &mut met);
     }
-    assert!(totals.grown > 0, "{totals:?}");
+    assert!(met.grown > 0, "{met:?}");
 }
 
 #[test]

@@ -5,23 +5,11 @@ use reference::known_runs::{m2, m5};
 use reference::lists::List;
 use reference::print::{print_run, L, P, RECORD_BYTES, TABLE_WORDS};
 use reference::tree::Shape;
-use std::io::Write;
-use std::process::{Command, Stdio};
+use std::process::Command;
 
 /// What the program prints for this input.
 fn program(input: &[u8]) -> String {
-    let mut child = Command::new(env!("CARGO_BIN_EXE_print_run"))
-        .stdin(Stdio::piped())
-        .stdout(Stdio::piped())
-        .spawn()
-        .expect("the program starts");
-    let mut stdin = child.stdin.take().expect("standard input is a pipe");
-    // The program may end before it has read a long input.
-    let _ = stdin.write_all(input);
-    drop(stdin);
-    let output = child.wait_with_output().expect("the program ends");
-    assert!(output.status.success());
-    String::from_utf8(output.stdout).expect("the print is text")
+    spawned::written(&mut Command::new(env!("CARGO_BIN_EXE_print_run")), input)
 }
 
 fn assert_print(input: &[u8], print: &str) {

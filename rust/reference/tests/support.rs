@@ -246,7 +246,7 @@ pub fn ample(plan: &Plan) -> usize {
 
 /// Ends that Run refuses whatever the list before them: an ill-formed record, two begins in
 /// turn, and more steps than one operation has.
-pub fn refused_ends(plan: &Plan) -> [Vec<u8>; 3] {
+fn refused_ends(plan: &Plan) -> [Vec<u8>; 3] {
     let most = step_limit(Shape::new(plan.p, plan.l).unwrap()) as usize;
     [
         List::new().steps(plan.p, 1).bytes(),

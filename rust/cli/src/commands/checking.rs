@@ -46,7 +46,7 @@ pub fn check(tool: &mut Tool, given: &Given) -> Result<Status, Failure> {
         }
         Verdict::Refused(refusal) => {
             let refused = match refusal {
-                Refusal::LogTorn => Refused::of_log(&list, &log),
+                Refusal::LogTorn => Refused::of_log(&list, &name, &log),
                 _ => Refused::of_list(&list, refusal, list.taken()),
             };
             if json {

@@ -1,10 +1,11 @@
 //! `otq encode` and `otq decode`.
 
+use super::{L, P};
 use crate::arguments::{Choice, Given};
 use crate::failure::{Failure, Status};
 use crate::files::{records, Holds, Name, Source};
 use crate::list::text_mistake;
-use crate::notation::{lines, Heading, Reader};
+use crate::notation::{lines, Heading, Reader, MOST_PLAYED};
 use crate::tool::Tool;
 use otq::Step;
 
@@ -14,18 +15,19 @@ pub const PRINT: Choice = Choice {
     about: "only if the printing program plays by the text's heading",
 };
 
-/// Records that are written at once.
-const AT_ONCE: usize = 8192;
-
+/// Records are held back until there are more than in any list that is played whole: the records before a
+/// mistake must not be taken for the list.
 pub fn encode(tool: &mut Tool, given: &Given) -> Result<Status, Failure> {
     let name = Name::new(&given.files[0]);
     tool.reading(&name);
     let source = Source::open(&name)?;
     if source.holds == Holds::Records {
         let message = "it holds binary records, and not text; `otq decode` makes text of them";
-        return Err(Failure::of(name, message));
+        let spoilt = source.spoilt_text();
+        return Err(Failure::of(name, spoilt.as_deref().unwrap_or(message)));
     }
     let mut reader = Reader::new(source.text());
+    let mut held = Vec::new();
     loop {
         let line = reader
             .next_line()
@@ -33,14 +35,15 @@ pub fn encode(tool: &mut Tool, given: &Given) -> Result<Status, Failure> {
         if given.has("--print") {
             for_printing_program(&name, reader.heading())?;
         }
-        let Some((_, line)) = line else {
+        if let Some((_, line)) = line {
+            held.extend(line.record.repeat(line.count as usize));
+        }
+        if line.is_none() || held.len() > Step::BYTES * MOST_PLAYED {
+            tool.write(&held)?;
+            held.clear();
+        }
+        if line.is_none() || tool.closed() {
             return Ok(Status::Done);
-        };
-        let mut left = line.count as usize;
-        while left > 0 && !tool.closed() {
-            let now = left.min(AT_ONCE);
-            tool.write(&line.record.repeat(now))?;
-            left -= now;
         }
     }
 }
@@ -60,7 +63,7 @@ fn for_printing_program(name: &Name, heading: Heading) -> Result<(), Failure> {
 
 pub fn decode(tool: &mut Tool, given: &Given) -> Result<Status, Failure> {
     let name = Name::new(&given.files[0]);
-    let (Some(p), Some(l)) = (given.small("-p")?, given.small("-L")?) else {
+    let (Some(p), Some(l)) = (given.number::<u32>(&P)?, given.number::<u32>(&L)?) else {
         return Err(Failure::mistake(
             "records do not say p and L: give -p P and -L L",
         ));

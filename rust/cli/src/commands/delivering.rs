@@ -25,7 +25,7 @@ pub const RAW: Choice = Choice {
 };
 
 pub fn desk(tool: &mut Tool, given: &Given) -> Result<Status, Failure> {
-    let licensed = given.small("--licensed")?;
+    let licensed = given.number(&LICENSED)?;
     let licensed = licensed.ok_or_else(|| {
         Failure::mistake(
             "give --licensed K, the process that may put entries; processes count from 0 and are below p",

@@ -5,6 +5,7 @@ use crate::failure::{Failure, Status};
 use crate::fields::{Sort, ANSWER, BAND, ORDER, STEP};
 use crate::refused::{explained, explained_of_sheet};
 use crate::tool::Tool;
+use crate::words::expected;
 
 /// What is counted as a help.
 const HELP: &str = "\
@@ -15,10 +16,14 @@ finds the head raised already, that is no help; nor are the moves after A and C4
 leaf and of the refreshed node.
 ";
 
+/// What the number 0 means.
+const NOTHING: &str = "0 nothing is refused";
+
 pub fn explain(tool: &mut Tool, given: &Given) -> Result<Status, Failure> {
     let word = given.files.first().map(|word| word.to_string_lossy());
     match word.as_deref() {
         None => overview(tool)?,
+        Some("0") => tool.line(NOTHING)?,
         Some("records") => {
             for sort in [STEP, ANSWER, ORDER, BAND] {
                 tool.line(layout(&sort))?;
@@ -34,9 +39,9 @@ pub fn explain(tool: &mut Tool, given: &Given) -> Result<Status, Failure> {
             let last = all.last().map_or(0, |(reason, _)| reason.number);
             let mut all = all.into_iter();
             let found = all.find(|(reason, _)| Some(reason.number) == number);
-            let told =
-                || format!("expected a number from 1 to {last} or `records`, found `{word}`");
-            let (reason, advice) = found.ok_or_else(|| Failure::mistake(told()))?;
+            let meant = format!("a number from 0 to {last} or `records`");
+            let told = || Failure::mistake(expected(&meant, word));
+            let (reason, advice) = found.ok_or_else(told)?;
             tool.line(format!("{} {}.\n{advice}", reason.number, reason.meaning))?;
             if let Some((of_sheet, advice)) = explained_of_sheet(reason.number) {
                 let meaning = of_sheet.meaning;
@@ -48,7 +53,7 @@ pub fn explain(tool: &mut Tool, given: &Given) -> Result<Status, Failure> {
 }
 
 fn overview(tool: &mut Tool) -> Result<(), Failure> {
-    tool.line("0 nothing is refused")?;
+    tool.line(NOTHING)?;
     for (reason, _) in explained() {
         tool.line(format!("{} {}", reason.number, reason.meaning))?;
     }

@@ -1,19 +1,20 @@
 //! `otq nodes`.
 
-use crate::arguments::{small, Given};
+use super::P;
+use crate::arguments::Given;
 use crate::columns::{self, number, words, Column};
 use crate::failure::{Failure, Status};
 use crate::json::Json;
 use crate::tool::Tool;
 use crate::words::{count, node_name};
 use otq::{table_words, Block, Table, NODE_STARTS, NODE_STARTS_L, ROOT};
-use std::ffi::OsStr;
 
 /// The processes of each row of the constants.
 const PROCESSES: [u32; NODE_STARTS.len()] = [2, 4, 8];
 
 pub fn nodes(tool: &mut Tool, given: &Given) -> Result<Status, Failure> {
-    let trees = trees(given.value("-p"))?;
+    let asked = given.number_if(&P, |p| PROCESSES.contains(p))?;
+    let trees = trees(asked);
     match given.has("--json") {
         true => tool.line(json(&trees))?,
         false => print(tool, &trees)?,
@@ -45,20 +46,10 @@ impl Node {
 }
 
 /// The trees asked for, all or one.
-fn trees(asked: Option<&OsStr>) -> Result<Vec<Tree>, Failure> {
+fn trees(asked: Option<u32>) -> Vec<Tree> {
     let rows = PROCESSES.into_iter().zip(&NODE_STARTS);
-    let mut trees: Vec<Tree> = rows.map(|(p, starts)| tree(p, starts)).collect();
-    if let Some(asked) = asked {
-        let p = small("-p", asked).ok();
-        trees.retain(|tree| Some(tree.p) == p);
-        if trees.is_empty() {
-            let found = asked.display();
-            return Err(Failure::mistake(format!(
-                "-p: expected 2, 4 or 8, found `{found}`"
-            )));
-        }
-    }
-    Ok(trees)
+    let rows = rows.filter(|(p, _)| asked.is_none_or(|asked| asked == *p));
+    rows.map(|(p, starts)| tree(p, starts)).collect()
 }
 
 fn tree(p: u32, starts: &'static [u32]) -> Tree {

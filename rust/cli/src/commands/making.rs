@@ -1,10 +1,12 @@
 //! `otq make`.
 
+use super::{L, P};
 use crate::arguments::{Choice, Given};
 use crate::failure::{Failure, Status};
 use crate::files;
 use crate::notation::lines;
 use crate::tool::Tool;
+use crate::words::expected;
 use reference::process::STEP_NAMES;
 use reference::schedules::{schedule, Pace, Plan};
 use std::fmt::Write;
@@ -19,7 +21,7 @@ pub const PACE: Choice = Choice {
 pub const SEED: Choice = Choice {
     name: "--seed",
     value: Some("S"),
-    about: "a number; the same one makes the same exercise",
+    about: "a number from 0 on; the same one makes the same exercise",
 };
 pub const OUT: Choice = Choice {
     name: "-o",
@@ -31,14 +33,8 @@ pub const OUT: Choice = Choice {
 const LONGEST: u32 = 1_000_000;
 
 pub fn make(tool: &mut Tool, given: &Given) -> Result<Status, Failure> {
-    let numbers = (
-        given.small("-p")?,
-        given.small("-L")?,
-        given.number("--seed")?,
-    );
-    let pace = given
-        .value("--pace")
-        .map(|word| word.to_string_lossy().into_owned());
+    let numbers = (given.number(&P)?, given.number(&L)?, given.number(&SEED)?);
+    let pace = given.value("--pace").map(|word| word.to_string_lossy());
     let ((Some(p), Some(l), Some(seed)), Some(pace)) = (numbers, pace) else {
         return Err(Failure::mistake(
             "give -p P, -L L, --pace PACE and --seed S",
@@ -93,9 +89,9 @@ fn read_pace(word: &str) -> Option<Pace> {
 
 fn no_pace(found: &str) -> Failure {
     let names: Vec<String> = STEP_NAMES.iter().map(|name| format!("{name:?}")).collect();
-    Failure::mistake(format!(
-        "--pace: expected uniform, bursts:N, lockstep, one or stall:STEP, with N from 1 to {LONGEST} \
-         and STEP one of {}, found `{found}`",
+    let paces = format!(
+        "uniform, bursts:N, lockstep, one or stall:STEP, with N from 1 to {LONGEST} and STEP one of {}",
         names.join(" ")
-    ))
+    );
+    Failure::of("--pace", expected(&paces, found))
 }

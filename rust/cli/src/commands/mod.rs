@@ -17,6 +17,7 @@ mod tracing;
 use crate::arguments::{Choice, Given};
 use crate::failure::{Failure, Status};
 use crate::tool::Tool;
+use crate::words::shown;
 use std::ffi::OsString;
 
 /// A command of `otq`.
@@ -55,12 +56,12 @@ const PRICE: Library = Library {
     not_built: dictionary::price::NOT_BUILT,
 };
 
-const P: Choice = Choice {
+pub const P: Choice = Choice {
     name: "-p",
     value: Some("P"),
     about: "the number of processes, 2, 4 or 8",
 };
-const L: Choice = Choice {
+pub const L: Choice = Choice {
     name: "-L",
     value: Some("L"),
     about: "the most operations of one process, 1 to 500",
@@ -259,7 +260,8 @@ up to number 100 at 2500 cents for a hundred, or a file of binary records (`otq 
 Deliveries after the last band cost its price. `-` is standard input.";
 
 const EXIT: &str =
-    "Exit status: 0 done or same, 1 the log differs, 2 a mistake in the command, a file or a text, 3 refused.";
+    "Exit status: 0 done or same, 1 the log differs, 2 a mistake in the command, a file or a text, or an\n\
+     output that cannot be written, 3 refused.";
 
 /// Does what the words say.
 pub fn call(tool: &mut Tool, mut words: Vec<OsString>) -> Result<Status, Failure> {
@@ -276,10 +278,8 @@ pub fn call(tool: &mut Tool, mut words: Vec<OsString>) -> Result<Status, Failure
         name => match COMMANDS.iter().find(|command| Some(command.name) == name) {
             Some(command) => command.start(tool, words),
             None => {
-                let told = format!(
-                    "there is no command `{}`; `otq --help` lists them",
-                    first.display()
-                );
+                let first = shown(&first);
+                let told = format!("there is no command `{first}`; `otq --help` lists them");
                 Err(Failure::mistake(told))
             }
         },
@@ -288,7 +288,8 @@ pub fn call(tool: &mut Tool, mut words: Vec<OsString>) -> Result<Status, Failure
 
 impl Command {
     fn start(&self, tool: &mut Tool, words: Vec<OsString>) -> Result<Status, Failure> {
-        if words.iter().any(|word| word == "--help" || word == "-h") {
+        let mut options = words.iter().take_while(|word| *word != "--");
+        if options.any(|word| word == "--help" || word == "-h") {
             tool.line(self.help())?;
             return Ok(Status::Done);
         }
@@ -298,7 +299,7 @@ impl Command {
             return Err(self.wrong("a file is missing"));
         }
         if given.files.len() > most {
-            let extra = given.files[most].display();
+            let extra = shown(&given.files[most]);
             return Err(self.wrong(&format!("`{extra}` is too much")));
         }
         if given.files.iter().filter(|file| *file == "-").count() > 1 {

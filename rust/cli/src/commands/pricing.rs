@@ -1,6 +1,6 @@
 //! `otq price`.
 
-use crate::arguments::{small, Given};
+use crate::arguments::{number_if, Given};
 use crate::columns::{self, number, words, Column};
 use crate::failure::{Failure, Status};
 use crate::files::Name;
@@ -17,10 +17,7 @@ pub fn price(tool: &mut Tool, given: &Given) -> Result<Status, Failure> {
             "COUNT and SHEET are both needed; usage: otq price COUNT SHEET [--json]",
         ));
     };
-    let count = small("COUNT", count).map_err(|_| {
-        let found = count.display();
-        Failure::mistake(format!("COUNT: expected 0 to 4000, found `{found}`"))
-    })?;
+    let count = number_if("COUNT", "0 to 4000", count, |_| true)?;
     let sheet = Sheet::read(tool, Name::new(sheet))?;
     let total = sheet.total(count);
     let refused = total

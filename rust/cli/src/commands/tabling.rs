@@ -13,11 +13,11 @@ use otq::{Block, Table, ROOT};
 pub const NODE: Choice = Choice {
     name: "--node",
     value: Some("V"),
-    about: "shows node V alone: 1 is the root, p + k the leaf of process k",
+    about: "the one node to show: 1 is the root, p + k the leaf of process k",
 };
 
 pub fn table(tool: &mut Tool, given: &Given) -> Result<Status, Failure> {
-    let asked = given.small("--node")?;
+    let asked = given.number(&NODE)?;
     let list = List::read(tool, given)?;
     let played = list.run()?;
     let refused = Refused::of_run(&list, &played.run);

@@ -46,22 +46,15 @@ pub fn trace(tool: &mut Tool, given: &Given) -> Result<Status, Failure> {
             return Ok(Status::Done);
         }
     }
-    let asked_for = given.number("--to")?.is_none_or(|to| to > taken as u64);
+    let asked_for = given.number(&TO)?.is_none_or(|to: usize| to > taken);
     let refused = refused.filter(|_| asked_for);
     refused.map_or(Ok(Status::Done), |refused| Err(refused.failure()))
 }
 
 /// The records to be told, from 1, of those that the library takes; none if it takes none.
 fn range(given: &Given, taken: usize) -> Result<(usize, usize), Failure> {
-    let number = |name| {
-        given
-            .number(name)
-            .map(|number| number.map(|number| number as usize))
-    };
-    let (from, to) = (
-        number("--from")?.unwrap_or(1),
-        number("--to")?.unwrap_or(taken),
-    );
+    let from = given.number(&FROM)?.unwrap_or(1);
+    let to = given.number(&TO)?.unwrap_or(taken);
     let told =
         || format!("--from {from} --to {to}: the first is from 1 on, and not above the last");
     if from == 0 || from > to && to != taken {

@@ -1,7 +1,8 @@
 //! Text to records, a line at a time.
 
-use super::text::{decimal, expected, number, Mistake, Text};
+use super::text::{expected, number, Mistake, Text};
 use super::{Heading, Line, Record, MOST};
+use crate::words::decimal;
 use otq::{Act, Step};
 use std::io::BufRead;
 

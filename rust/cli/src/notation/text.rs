@@ -1,14 +1,12 @@
 //! What the notations share: lines, comments, numbers, and how a mistake is told.
 
+use crate::words::{self, decimal};
 use std::error::Error;
 use std::fmt;
 use std::io::{self, BufRead, Read};
 
 /// The most bytes of a line, comment included.
 const MOST_BYTES: usize = 10_000;
-
-/// The most characters of a wrong line that are told.
-const MOST_TOLD: usize = 60;
 
 /// Why a text is not read to its end.
 #[derive(Debug)]
@@ -76,6 +74,11 @@ impl<T: BufRead> Text<T> {
         let read = text.read_until(b'\n', &mut self.bytes);
         let found = read.map_err(Mistake::Read)? > 0;
         self.line += usize::from(found);
+        // Else what an editor may show as lines of their own would all be part of a first comment.
+        if self.bytes.trim_ascii_end().contains(&b'\r') {
+            let message = "expected lines that end with LF or CR LF, found CR alone";
+            return Err(self.mistake(message.to_string()));
+        }
         match self.bytes.len() > MOST_BYTES {
             true => Err(self.mistake(format!("expected a line of at most {MOST_BYTES} bytes"))),
             false => Ok(found),
@@ -98,24 +101,7 @@ pub fn number(what: &str, word: &str, most: u32) -> Result<u32, String> {
     number.ok_or_else(|| expected(&format!("{what} from 0 to {most}"), &[word]))
 }
 
-/// Digits only, since `parse` takes a sign too.
-pub fn decimal(word: &str) -> Option<u32> {
-    let digits = word.bytes().all(|byte| byte.is_ascii_digit());
-    word.parse().ok().filter(|_| digits)
-}
-
 /// That other words were expected than were found.
-pub fn expected(what: &str, words: &[&str]) -> String {
-    let found = words.join(" ");
-    // A control character would act on the terminal that shows the message.
-    let shown = found
-        .chars()
-        .map(|c| if c.is_control() { '\u{fffd}' } else { c });
-    let told: String = shown.take(MOST_TOLD).collect();
-    let more = if found.chars().count() > MOST_TOLD {
-        ".."
-    } else {
-        ""
-    };
-    format!("expected {what}, found `{told}{more}`")
+pub fn expected(what: &str, found: &[&str]) -> String {
+    words::expected(what, &found.join(" "))
 }

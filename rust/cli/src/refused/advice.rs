@@ -98,9 +98,9 @@ fn advice(refusal: Refusal) -> &'static str {
              operation ended."
         }
         Refusal::BegunAll => {
-            "Give a larger L, with -L or `operations`, up to 500. 8 is tested before 6: if the process \
-             of a list that is played is also still inside its last operation, the list then stops with 6 \
-             at the same record."
+            "Give a larger L, with -L or `operations`, up to 500; no L takes a list in which a process begins \
+             more than 500 operations. 8 is tested before 6: if the process of a list that is played is also \
+             still inside its last operation, the list then stops with 6 at the same record."
         }
         Refusal::AnswersFull => "Take the line `answers` out of the heading, or lend more bytes.",
         Refusal::OutputShort => {

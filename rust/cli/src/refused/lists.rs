@@ -1,6 +1,7 @@
 //! What is told of a refused list.
 
 use super::{Place, Reason, Refused};
+use crate::files::Name;
 use crate::list::List;
 use crate::notation::Record;
 use crate::words::{count, torn};
@@ -85,10 +86,11 @@ impl Refused {
         }
     }
 
-    /// The refusal of a torn log.
-    pub fn of_log(list: &List, log: &[u8]) -> Refused {
+    /// The refusal of a torn log with this name.
+    pub fn of_log(list: &List, name: &Name, log: &[u8]) -> Refused {
+        let torn = torn_but_whole(name, log.len(), Answer::BYTES, "answer", "checks");
         Refused {
-            cause: Some(torn_but_whole(log.len(), Answer::BYTES, "answer", "checks")),
+            cause: Some(torn),
             ..Refused::of_list(list, Refusal::LogTorn, 0)
         }
     }
@@ -181,6 +183,11 @@ fn ill_formed(record: Record, p: u32) -> String {
 
 /// What may have caused a refusal, where that is cheap to know.
 fn cause(list: &List, call: Call, refusal: Refusal) -> Option<String> {
+    if matches!(refusal, Refusal::RecordsTorn | Refusal::IllFormed) {
+        if let Some(spoilt) = list.spoilt_text() {
+            return Some(spoilt);
+        }
+    }
     match refusal {
         Refusal::RecordsTorn => {
             let does = match call {
@@ -188,7 +195,8 @@ fn cause(list: &List, call: Call, refusal: Refusal) -> Option<String> {
                 Call::Forecast => "forecasts",
             };
             let length = list.bytes().len();
-            Some(torn_but_whole(length, Step::BYTES, "record", does))
+            let torn = torn_but_whole(&list.name, length, Step::BYTES, "record", does);
+            Some(torn)
         }
         Refusal::StepAmongBegins => mostly_steps(list)
             .then(|| "it is a whole list, and a forecast is of its begins alone".to_string()),
@@ -207,10 +215,13 @@ fn cause(list: &List, call: Call, refusal: Refusal) -> Option<String> {
     }
 }
 
-/// Where bytes are torn, and what can be done with the whole records.
-fn torn_but_whole(length: usize, size: usize, what: &str, does: &str) -> String {
-    let (torn, whole) = (torn(length, size, what), length / size);
-    format!("{torn}; --whole {does} the {whole}")
+/// Where a file is torn, and what can be done with its whole records.
+fn torn_but_whole(name: &Name, length: usize, size: usize, what: &str, does: &str) -> String {
+    let torn = torn(length, size, what);
+    match length / size {
+        0 => format!("{torn} of {name}"),
+        whole => format!("{torn} of {name}; --whole {does} the {whole}"),
+    }
 }
 
 fn holds_answers(list: &List) -> bool {

@@ -53,32 +53,33 @@ pub struct Place {
     index: usize,
     bytes: Record,
     words: String,
-    /// The name of the text and the line that says it.
-    line: Option<(String, usize)>,
+    /// The name of the file, and of a text the line that says it.
+    file: String,
+    line: Option<usize>,
 }
 
 impl Place {
     pub fn of_record(list: &List, index: usize) -> Place {
         let bytes = list.records()[index];
-        let line = list.line_of(index);
         Place {
             what: "record",
             index,
             bytes,
             words: step(bytes),
-            line: line.map(|line| (list.name.to_string(), line)),
+            file: list.name.to_string(),
+            line: list.line_of(index),
         }
     }
 
     fn of_band(sheet: &Sheet, index: usize) -> Place {
         let band = sheet.bands().nth(index).expect("a band that is kept");
-        let line = sheet.line_of(index);
         Place {
             what: "band",
             index,
             bytes: band.into(),
             words: band_line(band),
-            line: line.map(|line| (sheet.name.to_string(), line)),
+            file: sheet.name.to_string(),
+            line: sheet.line_of(index),
         }
     }
 
@@ -94,10 +95,15 @@ impl Place {
 impl Display for Place {
     fn fmt(&self, f: &mut fmt::Formatter) -> fmt::Result {
         let (what, number, at) = (self.what, self.number(), self.byte());
-        let (words, bytes) = (&self.words, hex(&self.bytes));
-        write!(f, "{what} {number}, byte {at}: {words} ({bytes})")?;
-        match &self.line {
-            Some((name, line)) => write!(f, ", {name}:{line}"),
+        let (words, bytes, file) = (&self.words, hex(&self.bytes), &self.file);
+        write!(f, "{what} {number}, byte {at}: {words}")?;
+        // Words that no line of the notation has are the bytes themselves.
+        if !words.ends_with(&bytes) {
+            write!(f, " ({bytes})")?;
+        }
+        write!(f, ", {file}")?;
+        match self.line {
+            Some(line) => write!(f, ":{line}"),
             None => Ok(()),
         }
     }
@@ -135,7 +141,7 @@ impl Refused {
 
     pub fn json(&self) -> Json {
         let record = self.record.as_ref();
-        let line = record.and_then(|place| place.line.as_ref());
+        let line = record.and_then(|place| place.line);
         let text = |text: Option<&String>| Json::or_null(text.map(Json::text));
         Json::object([
             ("number", Json::Number(self.reason.number.into())),
@@ -143,7 +149,7 @@ impl Refused {
             ("meaning", Json::text(&self.reason.meaning)),
             ("record", Json::number(record.map(Place::number))),
             ("byte", Json::number(record.map(Place::byte))),
-            ("line", Json::number(line.map(|(_, line)| *line))),
+            ("line", Json::number(line)),
             ("words", text(record.map(|place| &place.words))),
             ("standing", text(self.standing.as_ref())),
             ("likely_cause", text(self.cause.as_ref())),

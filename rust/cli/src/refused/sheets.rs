@@ -5,10 +5,6 @@ use crate::sheet::Sheet;
 use crate::words::torn;
 use dictionary::price::{self, Band, Refusal, MOST_BANDS, MOST_PRICE};
 
-const SPOILT_TEXT: &str =
-    "the file seems to be a text, but has bytes that no text has, so that it was read \
-     as records: save it as plain text (UTF-8)";
-
 impl Refused {
     /// A refusal of so many deliveries by a sheet.
     pub fn of_sheet(sheet: &Sheet, deliveries: u32, refusal: Refusal) -> Refused {
@@ -20,9 +16,14 @@ impl Refused {
         };
         let cause = match refusal {
             Refusal::Count => None,
-            _ if sheet.is_spoilt_text() => Some(SPOILT_TEXT.to_string()),
-            Refusal::SheetTorn => Some(torn(sheet.length(), Band::BYTES, "band")),
-            Refusal::Bands | Refusal::PriceTooHigh => other_reading(sheet),
+            Refusal::SheetTorn => {
+                let torn = torn(sheet.length(), Band::BYTES, "band");
+                let torn = || format!("{torn} of {}", sheet.name);
+                Some(sheet.spoilt_text().unwrap_or_else(torn))
+            }
+            Refusal::Bands | Refusal::PriceTooHigh => {
+                sheet.spoilt_text().or_else(|| other_reading(sheet))
+            }
         };
         Refused {
             reason: Reason::of_sheet(refusal),
