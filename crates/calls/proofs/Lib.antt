@@ -44,3 +44,4 @@ pub mod WaitFree
 pub mod Corollaries
 pub mod SameBytes
 pub mod LogVerdict
+pub mod RefusedRuns
