@@ -3,15 +3,24 @@
 -- puts in its place would let them pass.
 use native.Mathlib.Omega.{arith}
 use mathlib.Core.List.{List, [], _∷_, _++_}
-use Prim.Native.Nat.{ℕ}
+use Prim.Native.Nat.{ℕ, _<_}
 use Rattle.tree.specs.Shape.{shapeFor}
-use Rattle.node_starts.specs.Rule.{Apart, Within}
+use lib.ListN.{length, getD}
+use Rattle.node_starts.specs.NodeStarts.{tableMost, tableProcesses}
+use Rattle.node_starts.specs.Rule.{Apart, Within, TableRule}
 use Rattle.node_starts.specs.All.{nodeStartRules}
 
 -- the row for p = 8, with this start of its last node
 abbrev lastLeafAt : ℕ → List ℕ
 lastLeafAt start =
     (0 ∷ 1351 ∷ 2030 ∷ 2709 ∷ 3052 ∷ 3395 ∷ 3738 ∷ 4081 ∷ 4256 ∷ 4431 ∷ 4606 ∷ 4781 ∷ 4956 ∷ 5131 ∷ []) ++ (start ∷ [])
+
+-- ---- the rule of a table has both, of each row
+pub saysApart : (table : List (List ℕ)) → TableRule table → (i : ℕ) → i < length tableProcesses → Apart (shapeFor (getD tableProcesses i 0) tableMost) (getD table i [])
+saysApart table rule i low = rule .row i low .apart
+
+pub saysWithin : (table : List (List ℕ)) → TableRule table → (i : ℕ) → i < length tableProcesses → Within (shapeFor (getD tableProcesses i 0) tableMost) (getD table i [])
+saysWithin table rule i low = rule .row i low .within
 
 -- ---- parts that overlap
 

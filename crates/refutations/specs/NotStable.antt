@@ -3,6 +3,7 @@
 use Prim.Native.Nat.{ℕ, _*_, _-_, _≤_, _<_}
 use native.Mathlib.Omega.{arith}
 use mathlib.Core.Path.{_≡_}
+use Rattle.tree.specs.declared.Block.{Block}
 use Rattle.tree.specs.Shape.{Shape, processes, root, leftOf, rightOf}
 use Rattle.tree.specs.Memory.{headOf, block}
 use Rattle.tree.specs.Sides.{Side, childOf, endOf}
@@ -14,7 +15,7 @@ use Rattle.steps.specs.declared.Step.the-variants.{C3L, C3R, C3N, Q}
 use Rattle.steps.specs.Machine.{Machine, processOf}
 use Rattle.calls.specs.Answer.{replyOf}
 use Rattle.calls.specs.History.{operation}
-use Rattle.calls.specs.StableReads.{EqualSaveSuper, StableReads}
+use Rattle.calls.specs.StableReads.{StableReads}
 
 module _ (s : Shape) (m n : Machine) (k : ℕ) (o : Operation) (w : Visit) (l r puts takes : ℕ) where
   pub leftAtHead : processOf m k .status ≡ Busy o (C3L w l r) → headOf (m .memory) (leftOf (w .node)) ≤ l → StableReads s m n k → ⊥
@@ -26,10 +27,15 @@ module _ (s : Shape) (m n : Machine) (k : ℕ) (o : Operation) (w : Visit) (l r 
   pub nodeAtHead : processOf m k .status ≡ Busy o (C3N w l r puts takes) → headOf (m .memory) (w .node) ≤ w .head - 1 → StableReads s m n k → ⊥
   nodeAtHead at high c = omega (arith, high, c .c3n o w l r puts takes at)
 
+-- a block as the words that must stay: all but super
+abbrev saveSuper : Block → ℕ × ℕ × ℕ × ℕ × ℕ × ℕ
+saveSuper b = (b .puts, b .takes, b .left, b .right, b .size, b .number)
+
 module _ (s : Shape) (m n : Machine) (k : ℕ) where
   -- stays: what is below a head has other words in n
-  pub changed : (v i : ℕ) → 1 ≤ v → v < 2 * processes s → i < headOf (m .memory) v → (EqualSaveSuper (block s (n .memory) v i) (block s (m .memory) v i) → ⊥) → StableReads s m n k → ⊥
-  changed v i first last below other c = other (c .stays v i first last below)
+  pub changed : (v i : ℕ) → 1 ≤ v → v < 2 * processes s → i < headOf (m .memory) v → (saveSuper (block s (n .memory) v i) ≡ saveSuper (block s (m .memory) v i) → ⊥) → StableReads s m n k → ⊥
+  changed v i first last below other c =
+      let e = c .stays v i first last below in other (λ j. (e .puts j, e .takes j, e .left j, e .right j, e .size j, e .number j))
 
   -- opens: a block below a head ends at a child's head or past it
   pub endAtHead : (v i : ℕ) → 1 ≤ v → v < processes s → i < headOf (m .memory) v → (d : Side) → headOf (m .memory) (childOf d v) ≤ endOf d (block s (m .memory) v i) → StableReads s m n k → ⊥

@@ -89,11 +89,11 @@ mod tests {
     #[test]
     fn values() {
         let value = Json::object([
-            ("a \"b\"\n", Json::List(vec![Json::Number(1), Json::Null])),
+            ("a \"b\"\n\t", Json::List(vec![Json::Number(1), Json::Null])),
             ("c", Json::object([])),
             ("d", Json::text("\\")),
         ]);
-        let text = r#"{"a \"b\"\u000a": [1, null], "c": {}, "d": "\\"}"#;
+        let text = r#"{"a \"b\"\u000a\u0009": [1, null], "c": {}, "d": "\\"}"#;
         assert_eq!(value.to_string(), text);
     }
 }

@@ -120,6 +120,14 @@ fn every_answer_wrong() {
         .filter_map(|line| line.split(',').next())
         .collect();
     assert_eq!(ended, ["25", "56", "74", "92", "107", "124"]);
+    // Of the bytes of an answer that differ the first is told.
+    let first: Vec<&str> = said
+        .out
+        .lines()
+        .filter_map(|line| line.strip_prefix("  the first byte that differs is byte "))
+        .filter_map(|line| line.split(' ').next())
+        .collect();
+    assert_eq!(first, ["0", "16", "32", "48", "64", "80"]);
     assert!(said
         .out
         .ends_with("\n6 differences; the log has 6 answers, the rules give 6 answers\n"));

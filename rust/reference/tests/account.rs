@@ -182,4 +182,13 @@ fn what_is_no_linearization() {
         Err(Fault::Turned { first: b, later: c })
     );
     assert_eq!(fault(&[b, a, c, d]), Err(Fault::OtherAnswer(c)));
+    // Two puts of one process, which are done in either order.
+    let list = List::new().whole_puts(0, 2, 17).bytes();
+    let account = Account::of(Shape::new(2, 2).unwrap(), &list).unwrap();
+    let log = written(&run_amply(2, 2, &list)).to_vec();
+    assert_eq!(linearizes(&account, &log, &[a, c]), Ok(()));
+    assert_eq!(
+        linearizes(&account, &log, &[c, a]),
+        Err(Fault::Turned { first: a, later: c })
+    );
 }
