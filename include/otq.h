@@ -30,7 +30,7 @@
    - super, the parent's head as an advance read it, 0 while it is not set and always in the root;
    - end left and end right, the places of the last blocks of the children in it; in a leaf a put's value
      (0 for a take), and 0;
-   - size, in the root the length of the queue after it, else 0;
+   - size, in the root by the rule of sizes, which in the last block gives the queue's length, else 0;
    - number, the number in the list, from 1, of the record that wrote it.
    Block 0 is all zero. A later place is absent if its puts and takes are both 0. The subblocks of a block
    in a child are those at the places after the end in the block before it, up to the end in the block.

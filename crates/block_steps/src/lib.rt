@@ -1,5 +1,5 @@
-// The code of the other named steps that read or write blocks: each takes a process and gives the process that it
-// becomes. Where no head is read, they hold whatever the heads are.
+// The code of the named steps A, V2, R3, R5 and C4, which read or write blocks and build none: each takes a process and
+// gives the process that it becomes. Where no head is read, they hold whatever the heads are.
 use node_parts::heads::head_of;
 use stepping::sequence::above;
 use stepping::sequence::advance;

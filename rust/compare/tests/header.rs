@@ -4,6 +4,8 @@
 use crate::support::needed;
 use c_programs::{repository, written, Programs};
 use otq::{most_answer_bytes, most_order_bytes, Block, Refusal};
+use reference::demand3::step_limit;
+use reference::tree::Shape;
 use std::fs;
 use std::path::PathBuf;
 use std::process::Command;
@@ -146,6 +148,23 @@ int main(void)
 #[test]
 fn words_of_a_block() {
     programs().assert_writes("reader.c", READER, "1 0 0 1 0 1 16\n1 0 1 7 0 0 2\n");
+}
+
+/// The limits that the header tells are those of the rules.
+#[test]
+fn limits_on_steps_and_records() {
+    let header = fs::read_to_string(repository().join("include/otq.h")).unwrap();
+    let [two, four, eight] = [2, 4, 8].map(|p| step_limit(Shape::new(p, 1).unwrap()));
+    let steps = format!("at most {two}, {four} or {eight} with p = 2, 4 or 8");
+    let records = format!(
+        "{}, {} or {} a begin with p = 2, 4 or 8",
+        two + 1,
+        four + 1,
+        eight + 1
+    );
+    for told in [steps, records] {
+        assert!(header.contains(&told), "{told}");
+    }
 }
 
 #[test]

@@ -20,7 +20,7 @@ pub struct Block {
     pub end_left: u32,
     /// Place of the last block of the right child in it; 0 in a leaf.
     pub end_right: u32,
-    /// In the root the queue's length after it, else 0.
+    /// In the root by the rule of sizes, which in the last block gives the queue's length; else 0.
     pub size: u32,
     /// The number in the list, from 1, of the record that wrote it; 0 in block 0.
     pub number: u32,
