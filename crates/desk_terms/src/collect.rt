@@ -1,7 +1,7 @@
 // The terms in the order of a list.
 use crate::entries::is_entry;
 use crate::receive::slot_of;
-use record::order_records::order_record;
+use order_codec::order_record;
 ghost use mathlib.Core.Path.{_≡_};
 ghost use Prim.Native.Nat.{_*_, _≤_};
 ghost use lib.ListN.{length, take};

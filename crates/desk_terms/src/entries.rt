@@ -1,7 +1,7 @@
 // Dictionary entries, and those that another than the licensed process puts.
 use record::StepRecord;
-use record::step_records::is_begin_put;
-use record::step_records::step_record;
+use step_codec::is_begin_put;
+use step_codec::step_record;
 ghost use mathlib.Core.Path.{_≡_};
 ghost use Rattle.record.specs.StepRecords.{stepRecords};
 ghost use Rattle.desk_rules.specs.Entries.{isEntry, isForeign};

@@ -1,6 +1,6 @@
 // The value that each operation received.
-use record::answer_records::answer_record;
-use record::answer_records::reply_value;
+use answer_codec::answer_record;
+use answer_codec::reply_value;
 ghost use mathlib.Core.Path.{_≡_};
 ghost use Prim.Native.Nat.{_*_, _≤_};
 ghost use lib.ListN.{length};

@@ -2,9 +2,9 @@
 use base::as_index;
 use calls::Refusal;
 use record::StepRecord;
-use record::step_records::ill_formed;
-use record::step_records::step_record;
 use refusals::numbers::accepted;
+use step_codec::ill_formed;
+use step_codec::step_record;
 ghost use mathlib.Core.Path.{_≡_};
 ghost use mathlib.Core.Bool.{true};
 ghost use mathlib.Core.List.{[]};

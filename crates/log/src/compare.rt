@@ -35,7 +35,7 @@ pub fn equal_after(log: &[u8], n: usize, equal: usize, a: AnswerRecord) -> usize
         return equal;
     }
     let mut bytes = [0u8; 16];
-    record::answer_records::put_answer(&mut bytes, 0, a);
+    answer_codec::put_answer(&mut bytes, 0, a);
     if same_sixteen(&bytes, log, at) {
         return equal + 1;
     }

@@ -12,6 +12,6 @@ pub fn write_answer(out: &mut [u8], n: usize, a: AnswerRecord)
 {
     let at = 16 * n;
     if at + 16 <= out.len() {
-        record::answer_records::put_answer(out, at, a);
+        answer_codec::put_answer(out, at, a);
     }
 }

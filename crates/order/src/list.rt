@@ -3,7 +3,6 @@ use crate::Listing;
 use crate::Subtree;
 use node_parts::blocks;
 use record::OrderRecord;
-use record::order_records;
 use table::access;
 use table::layout;
 use tree::Kind;
@@ -62,7 +61,7 @@ fn list_leaf(
             serial: b,
             block: list.block,
         };
-        order_records::put_order(out, at, record);
+        order_codec::put_order(out, at, record);
         return at + 8;
     }
     at

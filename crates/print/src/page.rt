@@ -1,7 +1,7 @@
 // The whole text.
 use crate::line::put_last;
 use crate::line::put_line;
-use record::answer_records::answer_record;
+use answer_codec::answer_record;
 ghost use Prim.Native.Nat.{_+_, _*_, _≤_};
 ghost use lib.ListN.{length};
 ghost use Rattle.base.specs.Contracts.Stored.{Stored};

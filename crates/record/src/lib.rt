@@ -1,8 +1,5 @@
 // The records: step records, answer records and order records, as the fields that their bytes hold. This crate knows
 // nothing of trees, nor of how steps are played.
-pub mod answer_records;
-pub mod order_records;
-pub mod step_records;
 
 // A step record.
 pub struct StepRecord {
