@@ -1,4 +1,6 @@
 // The code of answer records: written as their bytes and read from them.
+#![tactic(auto)]
+
 ghost use Rattle.std.specs.Prelude.{◌≡◌, ◌+◌, ◌≤◌, ◌<◌, length, take, drop};
 ghost use Rattle.std.proofs.lemmas.List.Edits.{sets};
 ghost use Rattle.record.specs.AnswerRecords.{reply_kind, reply_value, bytes_of_answer};

@@ -1,7 +1,7 @@
 -- Proofs by cases on a test.
+use Rattle.std.specs.Prelude.{if◌then◌else◌}
 use mathlib.Core.Path.{◌≡◌, refl, sym, ◌∙◌}
 use mathlib.Core.Bool.{Bool, true, false, ◌&&◌, ◌||◌, true≢false, false≢true}
-use Rattle.base.specs.Choice.{if◌then◌else◌}
 
 -- what holds of both choices holds of the choice
 pub both : {A : Type 0} (P : A → Type 0) (b : Bool) {x y : A} → P x → P y → P (if b then x else y)

@@ -1,4 +1,3 @@
-pub mod Choice
 pub mod Between
 pub mod Sums
 pub mod Beginning

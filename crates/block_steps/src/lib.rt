@@ -1,5 +1,7 @@
 // The code of the named steps A, V2, R3, R5 and C4, which read or write blocks and build none: each takes a process and
 // gives the process that it becomes. Where no head is read, they hold whatever the heads are.
+#![tactic(auto)]
+
 ghost use Rattle.std.specs.Prelude.{true, false, ◌≡◌, List, ℕ, ◌+◌, ◌*◌, ◌-◌, ◌<◌};
 ghost use Rattle.tree.specs.Shape.{Shape, leaf_of};
 ghost use Rattle.tree.specs.Memory.{memory_of};

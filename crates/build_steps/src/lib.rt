@@ -1,5 +1,7 @@
 // The code of the named steps that build a block, C3L, C3R and C3N: each takes a process and gives the process that it
 // becomes. No head is read, so they hold whatever the heads are.
+#![tactic(auto)]
+
 ghost use Rattle.std.specs.Prelude.{true, ◌≡◌, ℕ, ◌+◌, ◌*◌, ◌-◌, ◌<◌, ◌≤◌};
 ghost use Rattle.steps.specs.Rules.{above as above_of, built, same_totals};
 ghost use Rattle.stepping.specs.Clauses.Next.{step_in, StepsByTable, Decided, GoesFromC3N, Fits};

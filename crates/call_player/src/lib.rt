@@ -1,2 +1,4 @@
 // The records of a whole call, played from the start.
+#![tactic(auto)]
+
 pub mod call;

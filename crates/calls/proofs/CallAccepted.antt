@@ -1,10 +1,10 @@
 -- What is known of a call that is not turned down.
+use Rattle.std.specs.Prelude.{if◌then◌else◌}
 use Prim.Native.Nat.{ℕ, ◌*◌, ◌%◌, ◌≤◌}
 use mathlib.Core.Path.{◌≡◌, refl}
 use mathlib.Core.Bool.{true, false, not}
 use lib.Dec.{ltb, eqb}
 use borrow.Author.Tests.{eqb-true, ltb-false, not-false}
-use Rattle.base.specs.Choice.{if◌then◌else◌}
 use Rattle.record.specs.StepRecords.{step_size}
 use Rattle.record.specs.AnswerRecords.{answer_size}
 use Rattle.tree.specs.Layout.{words_needed}

@@ -1,5 +1,6 @@
 -- The theorem: of all runs, just those change that stopped with 6 at a begin of a process that is not idle and has
 -- begun L; they stop with 8 and leave the same. For every p, L, list of bytes, table and buffer of each call.
+use Rattle.std.specs.Prelude.{if◌then◌else◌}
 use Prim.Native.Nat.{ℕ, ◌*◌, ◌≤◌}
 use native.Mathlib.Omega.{arith}
 use mathlib.Core.Path.{◌≡◌, refl, ap, sym, ◌∙◌}
@@ -9,7 +10,6 @@ use mathlib.Core.List.{List, ◌∷◌, ◌++◌}
 use lib.ListN.{length, get_or}
 use lib.Seq.{get_or_at}
 use borrow.Author.Tests.{leb-true, le-leb}
-use Rattle.base.specs.Choice.{if◌then◌else◌}
 use Rattle.base.proofs.Cases.{contradiction}
 use Rattle.record.specs.declared.StepRecord.{StepRecord}
 use Rattle.record.specs.StepRecords.{ill_formed, step_records}

@@ -1,4 +1,5 @@
 -- The plain queue, fed lists of operations.
+use Rattle.std.specs.Prelude.{if◌then◌else◌}
 use Prim.Native.Nat.{ℕ, suc, ◌+◌, ◌-◌, ◌≤◌, ◌<◌}
 use native.Mathlib.Omega.{arith}
 use native.Mathlib.Decide.{dec_le}
@@ -9,7 +10,6 @@ use lib.ListN.{length, get_or, drop, drop_of_length-le}
 use lib.Seq.{append_snoc, drop-drop, drop-cons}
 use lib.Dec.{eqb}
 use borrow.Author.Tests.{eq-eqb, ne_eqb}
-use Rattle.base.specs.Choice.{if◌then◌else◌}
 use Rattle.base.specs.Members.{All}
 use Rattle.record.specs.declared.Reply.{Reply}
 use Rattle.record.specs.declared.Reply.TheVariants.{Done, Value, Nothing}
@@ -94,9 +94,9 @@ module _ (h : List Event) (x : OpId) where
   answer_take q [] a l = absurd (omega arith)
   answer_take q (y ∷ ys) a l = rw (a.0, fed_take q) (on (same x y) l (answer_take (drop 1 q) ys a.1))
     where
-      on : (b : Bool) → 1 ≤ (if b then 1 else if eqb (rank_in x ys) 0 then 0 else suc (rank_in x ys))
+      on : (b : Bool) → 1 ≤ (if b then 1 else (if eqb (rank_in x ys) 0 then 0 else suc (rank_in x ys)))
           → (1 ≤ rank_in x ys → queue_answer h x (drop 1 q) ys ≡ answers Take (drop (rank_in x ys - 1) (drop 1 q)))
-          → (if b then answers Take q else queue_answer h x (drop 1 q) ys) ≡ answers Take (drop ((if b then 1 else if eqb (rank_in x ys) 0 then 0 else suc (rank_in x ys)) - 1) q)
+          → (if b then answers Take q else queue_answer h x (drop 1 q) ys) ≡ answers Take (drop ((if b then 1 else (if eqb (rank_in x ys) 0 then 0 else suc (rank_in x ys))) - 1) q)
       on true l ih = refl
       on false l ih = some (dec_le 1 (rank_in x ys))
         where

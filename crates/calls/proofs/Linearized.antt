@@ -1,4 +1,5 @@
 -- Where history and machine agree, the history is linearizable: the root order is a linearization.
+use Rattle.std.specs.Prelude.{if◌then◌else◌}
 use Prim.Native.Nat.{ℕ, suc, ◌≤◌, ◌<◌}
 use native.Mathlib.Omega.{arith}
 use mathlib.Core.Path.{◌≡◌, refl, ap, sym, ◌∙◌}
@@ -6,7 +7,6 @@ use mathlib.Core.Bool.{Bool, true, false, ◌&&◌, ◌||◌, false≢true}
 use mathlib.Core.List.{List, [], ◌∷◌, ◌++◌, map, flat_map}
 use lib.Dec.{ltb}
 use borrow.Author.Tests.{lt-ltb, le-leb, lt-leb}
-use Rattle.base.specs.Choice.{if◌then◌else◌}
 use Rattle.base.specs.Between.{between}
 use Rattle.base.proofs.Cases.{or-false}
 use Rattle.base.proofs.Gather.{gather_split}

@@ -1,5 +1,6 @@
 -- A list of begin records in which the forecast refuses nothing: all are begins of processes below p, and no process
 -- has more than L.
+use Rattle.std.specs.Prelude.{if◌then◌else◌}
 use Prim.Native.Nat.{ℕ, ◌+◌, ◌*◌, ◌≤◌, ◌<◌}
 use native.Mathlib.Omega.{arith}
 use mathlib.Core.Path.{◌≡◌, refl, ap}
@@ -9,7 +10,6 @@ use lib.ListN.{length}
 use lib.Seq.{append_snoc}
 use lib.Dec.{leb, eqb}
 use borrow.Author.Tests.{eqb-true, leb-false, lt-leb}
-use Rattle.base.specs.Choice.{if◌then◌else◌}
 use Rattle.base.specs.Members.{All}
 use Rattle.record.specs.declared.StepRecord.{StepRecord}
 use Rattle.record.specs.StepRecords.{is_step, is_begin, ill_formed, step_records}

@@ -1,4 +1,5 @@
 -- What a run leaves is what the records that it took leave.
+use Rattle.std.specs.Prelude.{if◌then◌else◌}
 use Prim.Native.Nat.{ℕ, ◌+◌, ◌*◌, ◌-◌, ◌≤◌}
 use native.Mathlib.Omega.{arith}
 use mathlib.Core.Path.{◌≡◌, refl, ap, sym, ◌∙◌, subst}
@@ -7,7 +8,6 @@ use mathlib.Core.List.{List, [], ◌∷◌, ◌++◌, foldl, append-nil, append_
 use lib.ListN.{length, take, length-append}
 use lib.Seq.{append_snoc, take-append_seam, take-length}
 use borrow.Author.Tests.{not-true, not-false}
-use Rattle.base.specs.Choice.{if◌then◌else◌}
 use Rattle.base.proofs.Cases.{cases, contradiction}
 use Rattle.record.specs.declared.StepRecord.{StepRecord}
 use Rattle.record.specs.StepRecords.{is_step}
@@ -184,7 +184,7 @@ begin_memory s room g r z = on (not (accepted g.refusal)) (accepted n)
     n : Refusal
     n = record_refusal s (room - answer_size * length g.answers) (process_of g.machine r.process) r
 
-    on : (a b : Bool) → (if a then g else if b then taking s g r else refusing g n).machine.memory ≡ g.machine.memory
+    on : (a b : Bool) → (if a then g else (if b then taking s g r else refusing g n)).machine.memory ≡ g.machine.memory
     on true b = refl
     on false true = rw z
     on false false = refl

@@ -1,6 +1,7 @@
 -- The limit on the records of a run, and on its answers. Over every legal list, for general H: the records so far, and
 -- what the processes may still take, are within the limit for each operation begun; and each operation begun has
 -- answered, or its process is inside it.
+use Rattle.std.specs.Prelude.{if◌then◌else◌}
 use Prim.Native.Nat.{ℕ, ◌+◌, ◌*◌, ◌≤◌, ◌<◌}
 use native.Mathlib.Omega.{arith}
 use mathlib.Core.Path.{◌≡◌, refl, ap, sym, ◌∙◌, subst}
@@ -8,7 +9,6 @@ use mathlib.Core.Bool.{Bool, true, false, ◌&&◌}
 use mathlib.Core.List.{List, [], ◌∷◌, ◌++◌, map-append}
 use lib.Dec.{eqb}
 use lib.ListN.{length, length-append}
-use Rattle.base.specs.Choice.{if◌then◌else◌}
 use Rattle.base.specs.Members.{All}
 use Rattle.base.proofs.Members.{all_append}
 use Rattle.record.specs.declared.StepRecord.{StepRecord}

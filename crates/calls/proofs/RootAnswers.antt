@@ -1,4 +1,5 @@
 -- The plain queue fed the root order answers each operation that stands there as the tree's answer rule does.
+use Rattle.std.specs.Prelude.{if◌then◌else◌}
 use Prim.Native.Nat.{ℕ, suc, ◌+◌, ◌-◌, ◌≤◌, ◌<◌}
 use native.Mathlib.Omega.{arith}
 use native.Mathlib.Decide.{dec_lt}
@@ -9,7 +10,6 @@ use lib.ListN.{length, get_or, drop, get_or-append, get_or-map}
 use lib.Seq.{drop-drop}
 use lib.IntN.{pos, ◌-ℤ◌}
 use borrow.Author.Tests.{lt-ltb, le-ltb}
-use Rattle.base.specs.Choice.{if◌then◌else◌}
 use Rattle.base.specs.Between.{between}
 use Rattle.base.specs.Members.{All}
 use Rattle.base.proofs.Gather.{gather_split, gather_at}

@@ -1,7 +1,6 @@
 -- The calls by what tests their records: with the tests of the rules they are Run, list the order and check a log.
-use Rattle.std.specs.Prelude.{ℕ, ◌*◌, ◌-◌, not, length}
+use Rattle.std.specs.Prelude.{ℕ, ◌*◌, ◌-◌, not, length, if◌then◌else◌}
 use mathlib.Core.List.{List, [], foldl}
-use Rattle.base.specs.Choice.{if◌then◌else◌}
 use Rattle.record.specs.declared.StepRecord.{StepRecord}
 use Rattle.record.specs.StepRecords.{step_records}
 use Rattle.record.specs.AnswerRecords.{answer_size}
@@ -22,7 +21,7 @@ Tests = Shape → ℕ → Process → StepRecord → Refusal
 unfoldable pub play_record_by : Tests → Shape → ℕ → Played → StepRecord → Played
 play_record_by tests s room g r =
     let n = tests s (room - answer_size * length g.answers) (process_of g.machine r.process) r in
-    if not (accepted g.refusal) then g else if accepted n then taking s g r else refusing g n
+    if not (accepted g.refusal) then g else (if accepted n then taking s g r else refusing g n)
 
 unfoldable pub play_by : Tests → Shape → ℕ → List StepRecord → Played
 play_by tests s room rs = foldl (play_record_by tests s room) (at_start s) rs

@@ -25,9 +25,8 @@
 --       last_root (tree, Order)
 --   the plain queue, fed the operations in root order, each with the kind and value of its begin record:
 --       fed, answers (PlainQueue); queue_after, queue_answer
-use Rattle.std.specs.Prelude.{ℕ, ◌+◌, ◌*◌, ◌≤◌, ◌<◌, ◌≡◌, true, length, take}
+use Rattle.std.specs.Prelude.{ℕ, ◌+◌, ◌*◌, ◌≤◌, ◌<◌, ◌≡◌, true, length, take, if◌then◌else◌}
 use mathlib.Core.List.{List, [], ◌∷◌, map, foldl}
-use Rattle.base.specs.Choice.{if◌then◌else◌}
 use Rattle.record.specs.declared.StepRecord.{StepRecord}
 use Rattle.record.specs.declared.Reply.{Reply}
 use Rattle.record.specs.declared.Reply.TheVariants.{Nothing}

@@ -1,6 +1,5 @@
 -- Forecast: what a list of begin records, one for each operation, will need, before it runs.
-use Rattle.std.specs.Prelude.{ℕ, suc, ◌+◌, ◌*◌, ◌≤◌, ◌≡◌, ◌≢◌, true, ◌&&◌, List, [], ◌∷◌, ◌++◌, length, take, leb, eqb}
-use Rattle.base.specs.Choice.{if◌then◌else◌}
+use Rattle.std.specs.Prelude.{ℕ, suc, ◌+◌, ◌*◌, ◌≤◌, ◌≡◌, ◌≢◌, true, ◌&&◌, List, [], ◌∷◌, ◌++◌, length, take, leb, eqb, if◌then◌else◌}
 use Rattle.record.specs.declared.StepRecord.{StepRecord}
 use Rattle.record.specs.StepRecords.{is_step, is_begin, ill_formed, step_records}
 use Rattle.record.specs.AnswerRecords.{answer_size}
@@ -30,9 +29,9 @@ begins k (r ∷ rs) = let n = begins k rs in if is_begin r && eqb r.process k th
 unfoldable pub planned_refusal : Shape → ℕ → StepRecord → Refusal
 planned_refusal s begun r =
     if ill_formed (processes s) r then IllFormed
-    else if is_step r then StepAmongBegins
-    else if leb s.most begun then BegunAll
-    else None
+    else (if is_step r then StepAmongBegins
+    else (if leb s.most begun then BegunAll
+    else None))
 
 -- records that follow others, one by one: the first refusal
 unfoldable pub begins_refusal : Shape → List StepRecord → List StepRecord → Refusal

@@ -1,7 +1,6 @@
 -- The tests of a record in their former order, 6 before 8, and what is claimed: which answers of the calls the new
 -- order changes, and to what. Only that theorem names the former order.
-use Rattle.std.specs.Prelude.{ℕ, ◌≡◌, true, false, not, ◌&&◌, List, ◌∷◌, ◌++◌, length, ltb, leb}
-use Rattle.base.specs.Choice.{if◌then◌else◌}
+use Rattle.std.specs.Prelude.{ℕ, ◌≡◌, true, false, not, ◌&&◌, List, ◌∷◌, ◌++◌, length, ltb, leb, if◌then◌else◌}
 use Rattle.record.specs.declared.StepRecord.{StepRecord}
 use Rattle.record.specs.StepRecords.{is_step, is_begin, ill_formed, step_records}
 use Rattle.record.specs.AnswerRecords.{answer_size}
@@ -20,11 +19,11 @@ use Rattle.calls.specs.CallsBy.{play_by, play_all_by, run_by, list_order_by, che
 unfoldable pub former_record : Shape → ℕ → Process → StepRecord → Refusal
 former_record s room q r =
     if ill_formed (processes s) r then IllFormed
-    else if is_begin r && not (is_idle q.status) then BeginWhileBusy
-    else if is_step r && is_idle q.status then StepWhileIdle
-    else if is_begin r && leb s.most q.begun then BegunAll
-    else if is_step r && at_q q.status && ltb room answer_size then AnswersFull
-    else None
+    else (if is_begin r && not (is_idle q.status) then BeginWhileBusy
+    else (if is_step r && is_idle q.status then StepWhileIdle
+    else (if is_begin r && leb s.most q.begun then BegunAll
+    else (if is_step r && at_q q.status && ltb room answer_size then AnswersFull
+    else None))))
 
 -- ---- what is claimed
 

@@ -1,7 +1,6 @@
 -- The history of a run: what each record that was taken did, as an event of an operation; a fold over the records.
-use Rattle.std.specs.Prelude.{ℕ, suc, ◌+◌, Bool, false, ◌&&◌, ◌||◌, eqb}
+use Rattle.std.specs.Prelude.{ℕ, suc, ◌+◌, Bool, false, ◌&&◌, ◌||◌, eqb, if◌then◌else◌}
 use mathlib.Core.List.{List, [], ◌∷◌, ◌++◌, foldl}
-use Rattle.base.specs.Choice.{if◌then◌else◌}
 use Rattle.record.specs.StepRecords.{is_begin}
 use Rattle.tree.specs.Shape.{Shape}
 use Rattle.tree.specs.Order.{OpId}
@@ -49,8 +48,8 @@ next_event s c n =
     let k = r.process in
     let serial = begun_by k c.events in
     if is_begin r then opens (operation k (serial + 1)) (operation_of r)
-    else if at_q (process_of c.machine k).status then finishes (operation k serial)
-    else moves (operation k serial) (help_by s n.number c.machine k)
+    else (if at_q (process_of c.machine k).status then finishes (operation k serial)
+    else moves (operation k serial) (help_by s n.number c.machine k))
 
 unfoldable pub course_record : Shape → Course → Numbered → Course
 course_record s c n =

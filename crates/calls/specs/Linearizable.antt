@@ -1,6 +1,5 @@
 -- Demand 3 in the field's own words: linearizable to a FIFO queue (Herlihy and Wing), and wait-free (Herlihy).
-use Rattle.std.specs.Prelude.{ℕ, ◌≤◌, ◌<◌, ◌≡◌, Bool, true, false, ◌&&◌, ◌||◌, List, [], ◌∷◌, map, ltb}
-use Rattle.base.specs.Choice.{if◌then◌else◌}
+use Rattle.std.specs.Prelude.{ℕ, ◌≤◌, ◌<◌, ◌≡◌, Bool, true, false, ◌&&◌, ◌||◌, List, [], ◌∷◌, map, ltb, if◌then◌else◌}
 use Rattle.record.specs.declared.Reply.{Reply}
 use Rattle.record.specs.declared.Reply.TheVariants.{Nothing}
 use Rattle.record.specs.declared.AnswerRecord.{AnswerRecord}

@@ -1,6 +1,5 @@
 -- List the order: the order records of the root order that a list of step records leaves.
-use Rattle.std.specs.Prelude.{ℕ, ◌*◌, List, [], ◌++◌, length, drop, ltb}
-use Rattle.base.specs.Choice.{if◌then◌else◌}
+use Rattle.std.specs.Prelude.{ℕ, ◌*◌, List, [], ◌++◌, length, drop, ltb, if◌then◌else◌}
 use Rattle.record.specs.declared.StepRecord.{StepRecord}
 use Rattle.record.specs.StepRecords.{step_records}
 use Rattle.record.specs.AnswerRecords.{answer_size}

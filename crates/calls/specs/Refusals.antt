@@ -1,6 +1,5 @@
 -- What each call turns down: the refusals, their numbers, and the order of the tests.
-use Rattle.std.specs.Prelude.{ℕ, ◌%◌, Bool, not, ◌&&◌, ltb, leb, eqb}
-use Rattle.base.specs.Choice.{if◌then◌else◌}
+use Rattle.std.specs.Prelude.{ℕ, ◌%◌, Bool, not, ◌&&◌, ltb, leb, eqb, if◌then◌else◌}
 use Rattle.record.specs.declared.StepRecord.{StepRecord}
 use Rattle.record.specs.StepRecords.{step_size, is_step, ill_formed}
 use Rattle.record.specs.AnswerRecords.{answer_size}
@@ -44,8 +43,8 @@ first_refusal a b = if accepted a then b else a
 unfoldable pub settings_refusal : ℕ → ℕ → Refusal
 settings_refusal p l =
     if not (processes_allowed p) then Processes
-    else if not (operations_allowed l) then Operations
-    else None
+    else (if not (operations_allowed l) then Operations
+    else None)
 
 -- its list, so many bytes of records: 4
 unfoldable pub bytes_refusal : ℕ → Refusal
@@ -63,19 +62,19 @@ call_refusal p l words bytes = first_refusal (settings_refusal p l) (buffer_refu
 unfoldable pub begin_refusal : ℕ → Process → Refusal
 begin_refusal l q =
     if leb l q.begun then BegunAll
-    else if not (is_idle q.status) then BeginWhileBusy
-    else None
+    else (if not (is_idle q.status) then BeginWhileBusy
+    else None)
 
 -- a step of process q, where there are `room` answer bytes left: 7, 9
 unfoldable pub step_refusal : ℕ → Process → Refusal
 step_refusal room q =
     if is_idle q.status then StepWhileIdle
-    else if at_q q.status && ltb room answer_size then AnswersFull
-    else None
+    else (if at_q q.status && ltb room answer_size then AnswersFull
+    else None)
 
 -- a record, whose process is q: 5, then the tests of a step or of a begin
 unfoldable pub record_refusal : Shape → ℕ → Process → StepRecord → Refusal
 record_refusal s room q r =
     if ill_formed (processes s) r then IllFormed
-    else if is_step r then step_refusal room q
-    else begin_refusal s.most q
+    else (if is_step r then step_refusal room q
+    else begin_refusal s.most q)

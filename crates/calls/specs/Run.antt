@@ -1,7 +1,6 @@
 -- Run: the step records played in order, until the end or the first that is refused.
-use Rattle.std.specs.Prelude.{ℕ, ◌+◌, ◌*◌, ◌-◌, not, length, drop}
+use Rattle.std.specs.Prelude.{ℕ, ◌+◌, ◌*◌, ◌-◌, not, length, drop, if◌then◌else◌}
 use mathlib.Core.List.{List, [], ◌++◌, foldl}
-use Rattle.base.specs.Choice.{if◌then◌else◌}
 use Rattle.record.specs.declared.StepRecord.{StepRecord}
 use Rattle.record.specs.declared.AnswerRecord.{AnswerRecord}
 use Rattle.record.specs.StepRecords.{is_step, is_begin_put, step_records}
@@ -56,7 +55,7 @@ refusing g n = record { machine = g.machine; answers = g.answers; taken = g.take
 unfoldable pub play_record : Shape → ℕ → Played → StepRecord → Played
 play_record s room g r =
     let n = record_refusal s (room - answer_size * length g.answers) (process_of g.machine r.process) r in
-    if not (accepted g.refusal) then g else if accepted n then taking s g r else refusing g n
+    if not (accepted g.refusal) then g else (if accepted n then taking s g r else refusing g n)
 
 unfoldable pub play : Shape → ℕ → List StepRecord → Played
 play s room rs = foldl (play_record s room) (at_start s) rs

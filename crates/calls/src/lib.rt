@@ -1,5 +1,6 @@
 // What Run, list the order, check a log and the forecast do, defined; that demand 3 holds of every run; and the limit
 // on its records. There is no code here but the two enums of the answers.
+#![tactic(auto)]
 
 // Why a call or a record is refused.
 #[derive(Drop)]

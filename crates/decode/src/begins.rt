@@ -1,6 +1,5 @@
 // What the words of a record say that is no step: who opens which operation.
-ghost use Rattle.std.specs.Prelude.{◌≡◌, ◌≤◌, ◌<◌, leb};
-ghost use Rattle.base.specs.Choice.{if◌then◌else◌};
+ghost use Rattle.std.specs.Prelude.{◌≡◌, ◌≤◌, ◌<◌, leb, if◌then◌else◌};
 ghost use Rattle.record.specs.declared.StepRecord.{StepRecord};
 ghost use Rattle.decode.specs.Clauses.Begins.{first_word, begin_of};
 

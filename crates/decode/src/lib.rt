@@ -1,5 +1,7 @@
 // What a record that is no step says, by its two words: who begins which operation, or that it is ill-formed; and the
 // number of a record in its list.
+#![tactic(auto)]
+
 pub mod begins;
 pub mod numbers;
 

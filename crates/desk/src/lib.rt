@@ -1,5 +1,7 @@
 // The delivery desk of the legal dictionary: what the takes of a list received, as terms in root order. It is above the
 // queue library and knows its public calls and the codecs of bytes and records, nothing else.
+#![tactic(auto)]
+
 pub mod deliver;
 pub mod exports;
 

@@ -1,5 +1,6 @@
 -- What the desk sends of a list that is not refused is in the order of the puts: of every p, L, licensed process, list
 -- of bytes, table and output, where the words left fit 32 bits.
+use Rattle.std.specs.Prelude.{if◌then◌else◌}
 use Prim.Native.Nat.{ℕ, ◌*◌, ◌^◌, ◌≤◌, ◌<◌}
 use native.Mathlib.Omega.{arith}
 use mathlib.Core.Path.{◌≡◌, refl, ap, sym, ◌∙◌, subst}
@@ -8,7 +9,6 @@ use mathlib.Core.List.{List, [], ◌∷◌, ◌++◌, map, flat_map}
 use lib.ListN.{length, get_or, take, drop}
 use lib.Seq.{take_at}
 use borrow.Author.Tests.{eqb-true, eq-eqb}
-use Rattle.base.specs.Choice.{if◌then◌else◌}
 use Rattle.base.specs.Members.{All}
 use Rattle.base.proofs.Members.{all_map, all_append}
 use Rattle.base.proofs.Cases.{both, contradiction}

@@ -1,5 +1,6 @@
 -- Where each operation stands at most once in the root order, and a finished one responds what the plain queue answers
 -- it and another with none, the terms are in the order of their puts.
+use Rattle.std.specs.Prelude.{if◌then◌else◌}
 use Prim.Native.Nat.{ℕ, suc, ◌+◌, ◌-◌, ◌≤◌}
 use native.Mathlib.Omega.{arith}
 use mathlib.Core.Path.{◌≡◌, refl, ap, sym, ◌∙◌}
@@ -7,7 +8,6 @@ use mathlib.Core.Bool.{Bool, true, false}
 use mathlib.Core.List.{List, [], ◌∷◌, ◌++◌, map, flat_map}
 use lib.ListN.{get_or, get_or-map}
 use lib.Seq.{append_snoc}
-use Rattle.base.specs.Choice.{if◌then◌else◌}
 use Rattle.base.proofs.Members.{all_map}
 use Rattle.record.specs.declared.AnswerRecord.{AnswerRecord}
 use Rattle.record.specs.declared.Reply.{Reply}

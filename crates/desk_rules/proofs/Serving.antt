@@ -1,10 +1,10 @@
 -- A list at the desk is a run of the queue up to the first foreign entry.
+use Rattle.std.specs.Prelude.{if◌then◌else◌}
 use Prim.Native.Nat.{ℕ}
 use mathlib.Core.Path.{◌≡◌, refl, ap, sym, ◌∙◌}
 use mathlib.Core.Bool.{Bool, true, false, and-true, and-false}
 use mathlib.Core.List.{List, [], ◌∷◌, foldl}
 use lib.Dec.{eqb}
-use Rattle.base.specs.Choice.{if◌then◌else◌}
 use Rattle.base.specs.Members.{All}
 use Rattle.base.proofs.Cases.{cases}
 use Rattle.record.specs.declared.StepRecord.{StepRecord}

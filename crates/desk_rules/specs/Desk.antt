@@ -1,7 +1,6 @@
 -- The delivery desk: the terms received by finished takes, in root order of the takes.
-use Rattle.std.specs.Prelude.{ℕ, ◌*◌, not, ◌&&◌, length, drop, ltb}
+use Rattle.std.specs.Prelude.{ℕ, ◌*◌, not, ◌&&◌, length, drop, ltb, if◌then◌else◌}
 use mathlib.Core.List.{List, [], ◌∷◌, ◌++◌, foldl, flat_map}
-use Rattle.base.specs.Choice.{if◌then◌else◌}
 use Rattle.record.specs.declared.StepRecord.{StepRecord}
 use Rattle.record.specs.declared.Reply.{Reply}
 use Rattle.record.specs.declared.Reply.TheVariants.{Done, Value, Nothing}
@@ -36,8 +35,8 @@ unfoldable pub serve_record : Shape → ℕ → ℕ → Served → StepRecord �
 serve_record s room licensed d r =
     let g = play_record s room d.run r in
     if not (delivers d.refusal) then d
-    else if accepted g.refusal && is_foreign licensed r then record { run = d.run; refusal = ForeignEntry }
-    else served g
+    else (if accepted g.refusal && is_foreign licensed r then record { run = d.run; refusal = ForeignEntry }
+    else served g)
 
 -- with room for the answer of each record, as in listing the order: never 9
 unfoldable pub serve : Shape → ℕ → List StepRecord → Served

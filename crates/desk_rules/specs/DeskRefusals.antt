@@ -1,6 +1,5 @@
 -- What the desk turns down: its refusals, their numbers, and the tests of a call before its first record.
-use Rattle.std.specs.Prelude.{ℕ, Bool, leb, eqb}
-use Rattle.base.specs.Choice.{if◌then◌else◌}
+use Rattle.std.specs.Prelude.{ℕ, Bool, leb, eqb, if◌then◌else◌}
 use Rattle.tree.specs.Shape.{shape_for}
 use Rattle.calls.specs.declared.Refusal.{Refusal}
 use Rattle.calls.specs.Refusals.{refusal_number, accepted, settings_refusal, buffer_refusal}

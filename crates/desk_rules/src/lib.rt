@@ -1,5 +1,6 @@
 // What the delivery desk does, defined; and that it delivers terms in the root order of their puts. There is no code
 // here but the enum of its refusals.
+#![tactic(auto)]
 
 // Why a call or a record is refused.
 #[derive(Drop)]

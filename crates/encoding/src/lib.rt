@@ -1,5 +1,7 @@
 // Numbers as bytes, low byte first, and bytes cut into records. This crate knows nothing of what the numbers mean. A half
 // is two bytes and a word two halves, so that each reader and writer is two calls of the one below it.
+#![tactic(auto)]
+
 ghost use Rattle.std.specs.Prelude.{◌≡◌, ◌+◌, ◌≤◌, ◌<◌, ◌++◌, length, take, drop};
 ghost use Rattle.std.proofs.lemmas.List.Edits.{sets};
 ghost use Rattle.encoding.specs.Bytes.{bytes_of, number_of};

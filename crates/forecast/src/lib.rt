@@ -1,4 +1,6 @@
 // The forecast: what a list of begin records will need, before it runs. Nothing is played here, and no table is lent.
+#![tactic(auto)]
+
 pub mod begins;
 pub mod call;
 

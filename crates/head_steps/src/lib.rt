@@ -1,5 +1,7 @@
 // The code of the named steps that look at heads alone: each takes a process and gives the process that it becomes,
 // whatever the table is.
+#![tactic(auto)]
+
 ghost use Rattle.std.specs.Prelude.{◌≡◌, true, false, ℕ, ◌+◌, ◌*◌, ◌/◌, ◌≤◌, ◌<◌, length, get_or};
 ghost use Rattle.stepping.specs.Clauses.Next.{step_in, StepsByHeads, StepsTelling, Raises, AdvancesChild};
 ghost use Rattle.steps.specs.Rules.{of_child};

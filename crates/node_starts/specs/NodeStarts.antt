@@ -1,6 +1,5 @@
 -- The table of node starts: where each node's part of the work table starts, for L = 24, p = 2, 4 and 8.
-use Rattle.std.specs.Prelude.{ℕ, ◌*◌, List, [], ◌∷◌, map, ltb}
-use Rattle.base.specs.Choice.{if◌then◌else◌}
+use Rattle.std.specs.Prelude.{ℕ, ◌*◌, List, [], ◌∷◌, map, ltb, if◌then◌else◌}
 use Rattle.base.specs.Between.{between}
 use Rattle.tree.specs.Shape.{Shape, processes, shape_for}
 use Rattle.tree.specs.Layout.{part_start}

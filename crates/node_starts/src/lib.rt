@@ -1,5 +1,7 @@
 // Where each node's part of the work table starts, as constants for a viewer: for L = 24 a row for p = 2, 4 and 8, with
 // an entry for each of nodes 1 to 15, 0 for a node that the tree lacks.
+#![tactic(auto)]
+
 ghost use Rattle.std.specs.Prelude.{◌≡◌};
 ghost use Rattle.node_starts.specs.NodeStarts.{node_starts};
 ghost use Rattle.node_starts.specs.Rule.{TableRule};

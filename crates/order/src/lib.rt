@@ -1,5 +1,7 @@
 // The root order of a table: its last root block, and all its operations written as order records. The table is one
 // that steps have left; nothing here changes it.
+#![tactic(auto)]
+
 pub mod list;
 pub mod roots;
 

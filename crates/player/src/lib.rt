@@ -1,4 +1,6 @@
 // Records played one after the other.
+#![tactic(auto)]
+
 pub mod play;
 
 use calls::Refusal;

@@ -1,6 +1,5 @@
 -- What deliveries cost by a price sheet, and what is refused.
-use Rattle.std.specs.Prelude.{ℕ, suc, ◌/◌, ◌%◌, not, List, [], ◌∷◌, length, ltb, leb, eqb}
-use Rattle.base.specs.Choice.{if◌then◌else◌}
+use Rattle.std.specs.Prelude.{ℕ, suc, ◌/◌, ◌%◌, not, List, [], ◌∷◌, length, ltb, leb, eqb, if◌then◌else◌}
 use Rattle.base.specs.Sums.{sum}
 use Rattle.price.specs.declared.Band.{Band}
 use Rattle.price.specs.Sheet.{band_size, bands, bands_allowed, prices_allowed}
@@ -27,9 +26,9 @@ unfoldable pub price_refusal : ℕ → List ℕ → ℕ
 price_refusal count sheet =
     if ltb most_deliveries count
     then 2
-    else if not (eqb (length sheet % band_size) 0)
+    else (if not (eqb (length sheet % band_size) 0)
     then 4
-    else if not (bands_allowed (bands sheet)) then 15 else if not (prices_allowed (bands sheet)) then 16 else 0
+    else (if not (bands_allowed (bands sheet)) then 15 else (if not (prices_allowed (bands sheet)) then 16 else 0)))
 
 -- what a call returns
 pub record PriceResult : Type 0 where

@@ -1,5 +1,7 @@
 // The price sheet of the legal dictionary: what a number of deliveries costs. This crate knows bytes and nothing of
 // queues.
+#![tactic(auto)]
+
 pub mod exports;
 pub mod refusal;
 pub mod sheet;

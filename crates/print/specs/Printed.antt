@@ -1,7 +1,6 @@
 -- What the printing program prints.
-use Rattle.std.specs.Prelude.{ℕ, ◌≡◌, length, take, drop, replicate, ltb}
+use Rattle.std.specs.Prelude.{ℕ, ◌≡◌, length, take, drop, replicate, ltb, if◌then◌else◌}
 use mathlib.Core.List.{List, ◌++◌, flat_map}
-use Rattle.base.specs.Choice.{if◌then◌else◌}
 use Rattle.encoding.specs.Bytes.{cut}
 use Rattle.record.specs.AnswerRecords.{answer_size}
 use Rattle.calls.specs.Run.{RunResult, run}

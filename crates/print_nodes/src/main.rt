@@ -1,5 +1,7 @@
 // Prints the table of node starts: a line a row, one space between numbers. It prints the library's constants and
 // computes no start.
+#![tactic(auto)]
+
 ghost use Rattle.std.specs.Prelude.{◌≡◌, ◌+◌, ◌≤◌, length};
 ghost use mathlib.Core.List.{flat_map};
 ghost use Rattle.base.specs.Clauses.Stored.{Stored};

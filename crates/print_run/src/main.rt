@@ -1,4 +1,6 @@
 // Prints a run: step records from standard input, the answers and how the run ended to standard output.
+#![tactic(auto)]
+
 ghost use Rattle.std.specs.Prelude.{◌≡◌, List, ◌++◌, ℕ, ◌<◌, take};
 ghost use Rattle.io.specs.Counts.{IsPrefixLen};
 ghost use Rattle.print.specs.Printed.{print_run, ReadFrom};

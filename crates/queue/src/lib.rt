@@ -1,5 +1,7 @@
 // The public library: Run, list the order, check a log and the forecast. Each call turns down, plays and leaves what
 // its definition says (crate calls).
+#![tactic(auto)]
+
 pub mod check_log;
 pub mod exports;
 pub mod list_order;

@@ -1,5 +1,6 @@
 // The records: step records, answer records and order records, as the fields that their bytes hold. This crate knows
 // nothing of trees, nor of how steps are played.
+#![tactic(auto)]
 
 // A step record.
 #[derive(Drop)]

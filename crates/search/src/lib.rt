@@ -1,4 +1,5 @@
 // Where an operation stands in the root, and which put has a number. This crate knows nothing of records.
+#![tactic(auto)]
 
 pub mod climb;
 pub mod find;

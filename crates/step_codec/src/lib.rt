@@ -1,4 +1,6 @@
 // The code of step records: read from their bytes, and looked at.
+#![tactic(auto)]
+
 ghost use Rattle.std.specs.Prelude.{◌≡◌, ◌+◌, ◌≤◌, length, take, drop};
 ghost use Rattle.record.specs.StepRecords.{step_record, is_begin_put, ill_formed};
 

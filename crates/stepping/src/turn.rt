@@ -1,6 +1,5 @@
 // A process that takes a step: its operation and its step, and the process that it becomes.
-ghost use Rattle.std.specs.Prelude.{false, ◌≡◌, ℕ, ◌+◌, ◌<◌};
-ghost use Rattle.base.specs.Choice.{if◌then◌else◌};
+ghost use Rattle.std.specs.Prelude.{false, ◌≡◌, ℕ, ◌+◌, ◌<◌, if◌then◌else◌};
 ghost use Rattle.tree.specs.Shape.{Shape};
 ghost use Rattle.tree.specs.Memory.{Memory};
 ghost use Rattle.steps.specs.Rules.{go_telling};

@@ -1,11 +1,11 @@
 -- What the limits on p and L say of the tree.
+use Rattle.std.specs.Prelude.{if◌then◌else◌}
 use Prim.Native.Nat.{ℕ, ◌^◌, ◌≤◌}
 use native.Mathlib.Omega.{arith}
 use mathlib.Core.Path.{◌≡◌, refl, ap, sym}
 use mathlib.Core.Bool.{Bool, true, false, ◌||◌, false≢true}
 use lib.Dec.{eqb, leb}
 use borrow.Author.Tests.{eqb-true, leb-true}
-use Rattle.base.specs.Choice.{if◌then◌else◌}
 use Rattle.base.proofs.Cases.{and-true, both}
 use Rattle.tree.specs.Shape.{processes, height_for, shape_for}
 use Rattle.tree.specs.Layout.{words_needed}
@@ -18,7 +18,7 @@ unfolding operations_allowed
 allowed_most l e = let h = and-true (leb 1 l) (leb l 500) e in (leb-true _ _ h.0, leb-true _ _ h.1)
 
 -- the tree for p processes has that many leaves
-width_by : (p : ℕ) (a b c : Bool) → eqb p 2 ≡ a → eqb p 4 ≡ b → eqb p 8 ≡ c → (a || b || c) ≡ true → 2 ^ (if a then 1 else if b then 2 else 3) ≡ p
+width_by : (p : ℕ) (a b c : Bool) → eqb p 2 ≡ a → eqb p 4 ≡ b → eqb p 8 ≡ c → (a || b || c) ≡ true → 2 ^ (if a then 1 else (if b then 2 else 3)) ≡ p
 width_by p true b c x y z e = sym (eqb-true _ _ x)
 width_by p false true c x y z e = sym (eqb-true _ _ y)
 width_by p false false true x y z e = sym (eqb-true _ _ z)

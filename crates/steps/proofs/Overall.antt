@@ -1,11 +1,11 @@
 -- A number for each process by its status, summed over all processes: what a begin and a step do to the sum. What the
 -- processes may still take, and how many are inside an operation.
+use Rattle.std.specs.Prelude.{if◌then◌else◌}
 use Prim.Native.Nat.{ℕ, ◌+◌, ◌≤◌, ◌<◌}
 use native.Mathlib.Omega.{arith}
 use mathlib.Core.Path.{◌≡◌, refl, ap, sym}
 use mathlib.Core.Logic.{◌≢◌}
 use mathlib.Core.Bool.{Bool, true, false}
-use Rattle.base.specs.Choice.{if◌then◌else◌}
 use Rattle.base.specs.Sums.{sum}
 use Rattle.base.proofs.Sums.{sum_change, sum_most}
 use Rattle.tree.specs.Shape.{Shape, processes}

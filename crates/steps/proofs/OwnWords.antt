@@ -1,5 +1,6 @@
 -- Requests c and d: where two tables have the words in common that C3L, C3R or C3N takes of its own block, the step
 -- goes on alike with the same registers, whatever their other words and the heads are.
+use Rattle.std.specs.Prelude.{if◌then◌else◌}
 use Prim.Native.Nat.{ℕ, ◌+◌, ◌*◌, ◌-◌}
 use mathlib.Core.Path.{◌≡◌, refl, ap}
 use mathlib.Core.List.{List, [], ◌++◌}
@@ -7,7 +8,6 @@ use lib.ListN.{length, get_or}
 use lib.Dec.{eqb}
 use borrow.Author.Tests.{eq-eqb, eqb-true}
 use Rattle.base.proofs.Cases.{cases}
-use Rattle.base.specs.Choice.{if◌then◌else◌}
 use Rattle.tree.specs.declared.Block.{Block}
 use Rattle.tree.specs.Shape.{Shape, root, left_of, right_of}
 use Rattle.tree.specs.Layout.{block_words, part_of}

@@ -1,6 +1,5 @@
 -- The machine: the shared memory and the processes, and what one begin and one step do to it.
-use Rattle.std.specs.Prelude.{ℕ, ◌+◌, ◌*◌, Bool, true, false, List, get_or, set, replicate}
-use Rattle.base.specs.Choice.{if◌then◌else◌}
+use Rattle.std.specs.Prelude.{ℕ, ◌+◌, ◌*◌, Bool, true, false, List, get_or, set, replicate, if◌then◌else◌}
 use Rattle.tree.specs.Shape.{Shape, processes}
 use Rattle.tree.specs.Layout.{words_needed}
 use Rattle.steps.specs.declared.Operation.{Operation}

@@ -1,7 +1,6 @@
 -- Requests c and d: each of C3L, C3R and C3N takes of the table words of one block only, its own: puts and takes, and
 -- C3N in the root also the size.
-use Rattle.std.specs.Prelude.{ℕ, ◌+◌, ◌*◌, ◌-◌, List, [], ◌∷◌, ◌++◌, map, get_or, eqb}
-use Rattle.base.specs.Choice.{if◌then◌else◌}
+use Rattle.std.specs.Prelude.{ℕ, ◌+◌, ◌*◌, ◌-◌, List, [], ◌∷◌, ◌++◌, map, get_or, eqb, if◌then◌else◌}
 use Rattle.tree.specs.Shape.{Shape, root, left_of, right_of}
 use Rattle.tree.specs.Layout.{block_words, part_start}
 use Rattle.tree.specs.Blocks.{puts_word, takes_word, size_word}

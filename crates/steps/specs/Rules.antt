@@ -1,7 +1,6 @@
 -- The step rules: what each named step does to the shared memory, and which step comes next.
-use Rattle.std.specs.Prelude.{ℕ, ◌+◌, ◌-◌, Bool, true, ◌&&◌, eqb}
+use Rattle.std.specs.Prelude.{ℕ, ◌+◌, ◌-◌, Bool, true, ◌&&◌, eqb, if◌then◌else◌}
 use Rattle.std.proofs.Math.Bool.{false}
-use Rattle.base.specs.Choice.{if◌then◌else◌}
 use Rattle.tree.specs.declared.Block.{Block}
 use Rattle.tree.specs.Shape.{Shape, root, leaf_of, parent_of, left_of, right_of}
 use Rattle.tree.specs.Blocks.{absent}

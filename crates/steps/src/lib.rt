@@ -1,5 +1,7 @@
 // Processes and their named steps: what they are. Of records this crate knows
 // only their numbers.
+#![tactic(auto)]
+
 ghost use Rattle.std.specs.Prelude.{◌≡◌, ◌<◌};
 ghost use Rattle.steps.specs.Machine.{is_idle};
 ghost use Rattle.steps.specs.Process.{idle, processes_allowed, operations_allowed};

@@ -1,1 +1,2 @@
 // Where a block's superblock stands, defined in specs/ and shown of every run. There is no code here.
+#![tactic(auto)]

@@ -1,6 +1,5 @@
 // Blocks by node number. Node v's part is the table's words from starts[v] to starts[v + 1].
-ghost use Rattle.std.specs.Prelude.{◌≡◌, ◌<◌, get_or};
-ghost use Rattle.base.specs.Choice.{if◌then◌else◌};
+ghost use Rattle.std.specs.Prelude.{◌≡◌, ◌<◌, get_or, if◌then◌else◌};
 ghost use Rattle.tree.specs.Layout.{block_words};
 ghost use Rattle.tree.specs.Blocks.{word_in, absent as absent_of};
 ghost use Rattle.tree.specs.Memory.{with_super};

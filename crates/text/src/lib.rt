@@ -1,4 +1,6 @@
 // Text and numbers as bytes, written from an index on. Each function returns the index after what it wrote.
+#![tactic(auto)]
+
 ghost use Rattle.std.specs.Prelude.{[], ◌∷◌, ◌+◌, ◌≤◌, ◌<◌, length};
 ghost use Rattle.base.specs.Clauses.Stored.{Stored};
 ghost use Rattle.text.specs.Decimal.{digit, decimal, number_field};

@@ -1,4 +1,5 @@
 -- Operations in lists: whether two are the same, how often one is there, and its number.
+use Rattle.std.specs.Prelude.{if◌then◌else◌}
 use Prim.Native.Nat.{ℕ, suc, ◌+◌, ◌≤◌, ◌<◌}
 use native.Mathlib.Omega.{arith}
 use native.Mathlib.Nat.{le_refl}
@@ -8,7 +9,6 @@ use mathlib.Core.List.{List, [], ◌∷◌, ◌++◌, flat_map}
 use lib.ListN.{length}
 use lib.Dec.{eqb}
 use borrow.Author.Tests.{eqb-true, eq-eqb, ne_eqb}
-use Rattle.base.specs.Choice.{if◌then◌else◌}
 use Rattle.base.specs.Between.{between}
 use Rattle.base.proofs.Cases.{and-true}
 use Rattle.base.proofs.Gather.{gather_at}
@@ -57,7 +57,7 @@ module _ (x : OpId) where
   rank_none (y ∷ ys) h = on (same x y) h (rank_none ys)
     where
       on : (b : Bool) → (if b then suc (times x ys) else times x ys) ≡ 0 → (times x ys ≡ 0 → rank_in x ys ≡ 0)
-          → (if b then 1 else if eqb (rank_in x ys) 0 then 0 else suc (rank_in x ys)) ≡ 0
+          → (if b then 1 else (if eqb (rank_in x ys) 0 then 0 else suc (rank_in x ys))) ≡ 0
       on true h ih = absurd (omega arith)
       on false h ih = rw (eq-eqb (rank_in x ys) 0 (ih h))
 
@@ -67,7 +67,7 @@ module _ (x : OpId) where
   rank_some (y ∷ ys) h = on (same x y) h (rank_some ys)
     where
       on : (b : Bool) → 1 ≤ (if b then suc (times x ys) else times x ys) → (1 ≤ times x ys → 1 ≤ rank_in x ys)
-          → 1 ≤ (if b then 1 else if eqb (rank_in x ys) 0 then 0 else suc (rank_in x ys))
+          → 1 ≤ (if b then 1 else (if eqb (rank_in x ys) 0 then 0 else suc (rank_in x ys)))
       on true h ih = le_refl _
       on false h ih = let l = ih h in rw (ne_eqb (rank_in x ys) 0 (λ e. omega arith)) (omega arith)
 
@@ -78,8 +78,8 @@ module _ (x : OpId) where
   rank_left (y ∷ xs) ys h = on (same x y) h (rank_left xs ys)
     where
       on : (b : Bool) → 1 ≤ (if b then suc (times x xs) else times x xs) → (1 ≤ times x xs → rank_in x (xs ++ ys) ≡ rank_in x xs)
-          → (if b then 1 else if eqb (rank_in x (xs ++ ys)) 0 then 0 else suc (rank_in x (xs ++ ys)))
-          ≡ (if b then 1 else if eqb (rank_in x xs) 0 then 0 else suc (rank_in x xs))
+          → (if b then 1 else (if eqb (rank_in x (xs ++ ys)) 0 then 0 else suc (rank_in x (xs ++ ys))))
+          ≡ (if b then 1 else (if eqb (rank_in x xs) 0 then 0 else suc (rank_in x xs)))
       on true h ih = refl
       on false h ih = rw (ih h)
 
@@ -89,7 +89,7 @@ module _ (x : OpId) where
   rank_right (y ∷ xs) ys none h = on (same x y) none (λ e. rank_right xs ys e h) (rank_some ys h)
     where
       on : (b : Bool) → (if b then suc (times x xs) else times x xs) ≡ 0 → (times x xs ≡ 0 → rank_in x (xs ++ ys) ≡ length xs + rank_in x ys) → 1 ≤ rank_in x ys
-          → (if b then 1 else if eqb (rank_in x (xs ++ ys)) 0 then 0 else suc (rank_in x (xs ++ ys))) ≡ suc (length xs) + rank_in x ys
+          → (if b then 1 else (if eqb (rank_in x (xs ++ ys)) 0 then 0 else suc (rank_in x (xs ++ ys)))) ≡ suc (length xs) + rank_in x ys
       on true none ih l = absurd (omega arith)
       on false none ih l = let e = ih none in rw (ne_eqb (rank_in x (xs ++ ys)) 0 (λ z. omega arith)) (omega arith)
 

@@ -1,4 +1,5 @@
 -- Opening a block of a sound memory: where its operations come from, how many they are, and that they stay.
+use Rattle.std.specs.Prelude.{if◌then◌else◌}
 use Prim.Native.Nat.{ℕ, zero, suc, ◌+◌, ◌-◌, ◌≤◌, ◌<◌}
 use native.Mathlib.Omega.{arith}
 use native.Mathlib.Decide.{dec_lt}
@@ -8,7 +9,6 @@ use mathlib.Core.List.{List, [], ◌∷◌, ◌++◌, flat_map}
 use lib.ListN.{length, length-append}
 use lib.Dec.{ltb}
 use borrow.Author.Tests.{lt-ltb, le-ltb, ltb-true}
-use Rattle.base.specs.Choice.{if◌then◌else◌}
 use Rattle.base.specs.Between.{between}
 use Rattle.base.proofs.Cases.{cases}
 use Rattle.base.specs.Members.{All}

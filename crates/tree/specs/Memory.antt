@@ -1,6 +1,5 @@
 -- What the processes share, and the ways in which a step changes it.
-use Rattle.std.specs.Prelude.{ℕ, ◌+◌, Bool, List, get_or, set, eqb}
-use Rattle.base.specs.Choice.{if◌then◌else◌}
+use Rattle.std.specs.Prelude.{ℕ, ◌+◌, Bool, List, get_or, set, eqb, if◌then◌else◌}
 use Rattle.tree.specs.declared.Block.{Block}
 use Rattle.tree.specs.Shape.{Shape}
 use Rattle.tree.specs.Blocks.{block_at, with_block_at, absent}

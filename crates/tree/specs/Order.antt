@@ -1,7 +1,6 @@
 -- The order of operations: in a block, opened down to the leaves, and in the root.
-use Rattle.std.specs.Prelude.{ℕ, zero, suc, ◌-◌, ltb}
+use Rattle.std.specs.Prelude.{ℕ, zero, suc, ◌-◌, ltb, if◌then◌else◌}
 use mathlib.Core.List.{List, [], ◌∷◌, ◌++◌, map, flat_map}
-use Rattle.base.specs.Choice.{if◌then◌else◌}
 use Rattle.base.specs.Between.{between}
 use Rattle.tree.specs.declared.Block.{Block}
 use Rattle.tree.specs.declared.Kind.{Kind}

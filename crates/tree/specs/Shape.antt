@@ -1,6 +1,5 @@
 -- The tree: processes, nodes, heights and places.
-use Rattle.std.specs.Prelude.{ℕ, zero, suc, ◌+◌, ◌*◌, ◌^◌, ◌/◌, ◌≤◌, ◌<◌, ltb, eqb}
-use Rattle.base.specs.Choice.{if◌then◌else◌}
+use Rattle.std.specs.Prelude.{ℕ, zero, suc, ◌+◌, ◌*◌, ◌^◌, ◌/◌, ◌≤◌, ◌<◌, ltb, eqb, if◌then◌else◌}
 
 -- the shape of a tree: its height H, and L, the most operations of one process
 pub record Shape : Type 0 where
@@ -9,7 +8,7 @@ pub record Shape : Type 0 where
 
 -- H, for p = 2 to the power H, and the tree for p processes of at most l operations
 unfoldable pub height_for : ℕ → ℕ
-height_for p = if eqb p 2 then 1 else if eqb p 4 then 2 else 3
+height_for p = if eqb p 2 then 1 else (if eqb p 4 then 2 else 3)
 
 unfoldable pub shape_for : ℕ → ℕ → Shape
 shape_for p l = record { height = height_for p; most = l }

@@ -1,6 +1,5 @@
 -- Where an operation stands: its root block, and its number there.
-use Rattle.std.specs.Prelude.{ℕ, suc, ◌+◌, Bool, ◌&&◌, List, [], ◌∷◌, ltb, eqb}
-use Rattle.base.specs.Choice.{if◌then◌else◌}
+use Rattle.std.specs.Prelude.{ℕ, suc, ◌+◌, Bool, ◌&&◌, List, [], ◌∷◌, ltb, eqb, if◌then◌else◌}
 use Rattle.base.specs.Between.{between}
 use Rattle.tree.specs.declared.Kind.TheVariants.{Puts, Takes}
 use Rattle.tree.specs.Shape.{Shape}
@@ -31,4 +30,4 @@ root_block_of s t x = first_of (λ b. ltb 0 (stands_in s t x b)) (between 0 (las
 -- the number of an operation in a list, from 1, or 0
 unfoldable pub rank_in : OpId → List OpId → ℕ
 rank_in x [] = 0
-rank_in x (y ∷ ys) = let r = rank_in x ys in if same x y then 1 else if eqb r 0 then 0 else suc r
+rank_in x (y ∷ ys) = let r = rank_in x ys in if same x y then 1 else (if eqb r 0 then 0 else suc r)

@@ -1,5 +1,6 @@
 // The ordering tree: its shape, where each node's blocks stand in the work table, and what a block opens to. This crate
 // knows nothing of steps.
+#![tactic(auto)]
 
 // The words of a block in the work table, and the place of each among them.
 pub const BLOCK_WORDS: usize = 7;

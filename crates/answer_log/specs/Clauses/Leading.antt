@@ -1,8 +1,7 @@
 -- A log as it grows: what stands in the answer bytes, and how many records at its beginning are those of another log;
 -- what one more answer does to both, and the verdict at the end.
-use Rattle.std.specs.Prelude.{ℕ, suc, ◌+◌, ◌*◌, ◌/◌, ◌&&◌, List, [], ◌∷◌, ◌++◌, map, length, take, drop, leb, eqb}
+use Rattle.std.specs.Prelude.{ℕ, suc, ◌+◌, ◌*◌, ◌/◌, ◌&&◌, List, [], ◌∷◌, ◌++◌, map, length, take, drop, leb, eqb, if◌then◌else◌}
 use Rattle.std.proofs.lemmas.List.Edits.{sets}
-use Rattle.base.specs.Choice.{if◌then◌else◌}
 use Rattle.record.specs.declared.AnswerRecord.{AnswerRecord}
 use Rattle.encoding.specs.Bytes.{cut}
 use Rattle.record.specs.AnswerRecords.{answer_size, bytes_of_answer, log_bytes}

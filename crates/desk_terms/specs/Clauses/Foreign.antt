@@ -1,6 +1,5 @@
 -- The records before the first foreign entry of a list.
-use Rattle.std.specs.Prelude.{ℕ, suc, List, [], ◌∷◌}
-use Rattle.base.specs.Choice.{if◌then◌else◌}
+use Rattle.std.specs.Prelude.{ℕ, suc, List, [], ◌∷◌, if◌then◌else◌}
 use Rattle.record.specs.declared.StepRecord.{StepRecord}
 use Rattle.desk_rules.specs.Entries.{is_foreign}
 

@@ -1,7 +1,6 @@
 -- A word for each operation, in which the value that it received stands.
-use Rattle.std.specs.Prelude.{ℕ, ◌+◌, ◌*◌, ◌-◌, ◌≤◌, ◌<◌, get_or, set}
+use Rattle.std.specs.Prelude.{ℕ, ◌+◌, ◌*◌, ◌-◌, ◌≤◌, ◌<◌, get_or, set, if◌then◌else◌}
 use mathlib.Core.List.{List, [], ◌∷◌, map, flat_map}
-use Rattle.base.specs.Choice.{if◌then◌else◌}
 use Rattle.record.specs.declared.AnswerRecord.{AnswerRecord}
 use Rattle.record.specs.declared.OrderRecord.{OrderRecord}
 use Rattle.encoding.specs.Bytes.{cut}

@@ -1,6 +1,5 @@
 -- What one level of the climb from a leaf to the root needs.
-use Rattle.std.specs.Prelude.{ℕ, ◌+◌, ◌-◌, ◌/◌, ◌%◌, ◌≤◌, ◌<◌, ◌≡◌, List, length, get_or, eqb}
-use Rattle.base.specs.Choice.{if◌then◌else◌}
+use Rattle.std.specs.Prelude.{ℕ, ◌+◌, ◌-◌, ◌/◌, ◌%◌, ◌≤◌, ◌<◌, ◌≡◌, List, length, get_or, eqb, if◌then◌else◌}
 use Rattle.tree.specs.declared.Kind.{Kind}
 use Rattle.tree.specs.Order.{total}
 use Rattle.tree.specs.Clauses.Access.{HasPart, HasPlace, node_part, node_block}

@@ -1,6 +1,5 @@
 -- What finding a put by its number needs on the way from the root to its leaf.
-use Rattle.std.specs.Prelude.{ℕ, ◌+◌, ◌*◌, ◌-◌, ◌≤◌, ◌<◌, List, get_or, leb}
-use Rattle.base.specs.Choice.{if◌then◌else◌}
+use Rattle.std.specs.Prelude.{ℕ, ◌+◌, ◌*◌, ◌-◌, ◌≤◌, ◌<◌, List, get_or, leb, if◌then◌else◌}
 use Rattle.tree.specs.declared.Kind.TheVariants.{Puts}
 use Rattle.tree.specs.Shape.{Shape}
 use Rattle.tree.specs.Blocks.{block_at}

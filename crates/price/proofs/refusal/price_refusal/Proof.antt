@@ -1,9 +1,9 @@
 -- `refusal::price_refusal` meets its contract. The tests are passed in the order of the definition.
+use Rattle.std.specs.Prelude.{if◌then◌else◌}
 use mathlib.Core.Path.{◌≡◌, sym, ◌∙◌}
 use mathlib.Core.Bool.{not}
 use borrow.Author.Rules.{rules}
 use borrow.Author.Tests.{not-true, not-false, lt-ltb, le-ltb, eq-eqb, ne_eqb}
-use Rattle.base.specs.Choice.{if◌then◌else◌}
 use Rattle.price.specs.Sheet.{band_size}
 use Rattle.price.specs.Price.{most_deliveries, price_refusal}
 use Rattle.price.proofs.refusal.price_refusal.Statement.{statement}
