@@ -1,0 +1,7 @@
+-- `encoding::put_half` meets its contract. A byte stored after another is a half stored.
+use borrow.Author.Rules.{rules}
+use Rattle.encoding.proofs.Stores.{half_stored}
+use Rattle.encoding.proofs.put_half.Goals as goal
+
+pub returns : goal.returns
+returns c = cc (half_stored _ _ _)

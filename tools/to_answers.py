@@ -1,0 +1,310 @@
+#!/usr/bin/env python3
+"""Turns walked proofs (Proof.antt) into Invariants.antt and Answers.antt.
+
+usage, in a crate's folder: to_answers.py NAMES [FUNCTION..]
+
+NAMES is the names.json that `rt check --generated DIR --old-names` writes. Each goal gets its new name, each path its new
+form, and a lemma over a place of the code takes the record of that place. Answers that only call the search are left out.
+"""
+import json
+import os
+import re
+import sys
+
+TOKEN = re.compile(r"[^\s(){}\[\],;.|\"]+|.", re.S)
+SEARCHED = re.compile(r"^(search rules|search needs|\(?omega arith\)?)$")
+
+
+def alike(name):
+    return name.replace("_", "-")
+
+
+def blocks(text):
+    """The declarations of a file: a signature with what belongs to it, the comments before each."""
+    found, now = [], []
+    lines = text.split("\n")
+    name = None
+    for line in lines:
+        head = re.match(r"(?:(?:abbrev|pub|unfoldable)\s+)*([^\s:(){}]+)\s*:(?=\s)", line)
+        if head and not line.startswith(("use ", "--", "unfolding")):
+            comment = []
+            while now and (now[-1].startswith("--")):
+                comment.insert(0, now.pop())
+            if now:
+                found.append((name, now))
+            now, name = [*comment, line], head[1]
+        else:
+            now.append(line)
+    if now:
+        found.append((name, now))
+    return found
+
+
+class Turn:
+    def __init__(self, of):
+        self.places = of["places"]
+        self.by_name = {it[0]: k for k, it in enumerate(self.places)}
+        self.new_place = of["places_by_name"]
+        self.needs = of["needs"]
+        self.asked_at = of["asked_at"]
+        self.loops = of["loops"]
+        self.changed = of["changed"]
+        self.types = of["typed"]
+        self.problems = []
+
+    def goal(self, label):
+        label = re.sub(r"^overflow-", "", alike(label))
+        for k, (old, new) in enumerate(self.needs):
+            if re.sub(r"^overflow-", "", alike(old)) == label:
+                return k, new
+        return None, None
+
+    def place(self, label):
+        for k, it in enumerate(self.places):
+            if alike(it[0]) == alike(label) or alike(self.new_place[k]) == alike(label):
+                return k
+        return None
+
+    def step(self, at, befores, field):
+        """The new name of a step seen from a place after some '.before'."""
+        k = at
+        for _ in range(befores):
+            parent = self.places[k][1]
+            if parent is None:
+                break
+            k = self.by_name[parent]
+        seen = k
+        # the step itself, or one before it
+        while True:
+            if alike(self.places[k][2][0]) == alike(field) or alike(self.places[k][2][1]) == alike(field):
+                return self.places[k][2][1]
+            if self.places[k][1] is None:
+                break
+            k = self.by_name[self.places[k][1]]
+        if field in ("args", "requires", "ranges", "auto", "lifetimes"):
+            return field
+        self.problems.append(f"no step {field} at {self.places[seen][0]}")
+        return field
+
+    def typed(self, at, step):
+        """The variable whose type a step told of."""
+        for k, it in enumerate(self.places):
+            if it[2][1] == step:
+                return next((var for of in self.types for var, place in of if place == it[2][0]), None)
+        return None
+
+    def up(self, at, befores):
+        k = at
+        for _ in range(befores):
+            parent = self.places[k][1]
+            if parent is None:
+                self.problems.append("too many '.before'")
+                return k
+            k = self.by_name[parent]
+        return k
+
+
+def turn_body(turn, text, states, helpers, goal, var):
+    """A body with its paths turned. states: variable -> place; helpers: lemma -> place that it takes."""
+    # aliases: let x = c.before.. in
+    def alias(found):
+        name, v, befores = found[1], found[2], found[3].count(".before")
+        if v not in states:
+            return found[0]
+        states[name] = turn.up(states[v], befores)
+        return ""
+
+    changed = True
+    while changed:
+        before = text
+        text = re.sub(r"let\s+(\S+)\s+=\s+([^\s.()]+)((?:\.before)*)\s+in\s*", alias, text)
+        changed = before != text
+    names = "|".join(re.escape(it) for it in sorted(states, key=len, reverse=True))
+    path = re.compile(rf"(?<![^\s(\[{{,;=])({names})((?:\.before)*)((?:\.[^\s.(){{}},;\[\]|]+)*)(?![^\s(){{}}\[\],;.|])")
+
+    def place_record(k, here):
+        if here == k and goal is None:
+            return var
+        name = turn.new_place[k]
+        return f"(goal.at.{goal} {var}).{name}" if goal else f"{var}.{name}"
+
+    def turn_path(found):
+        v, befores, rest = found[1], found[2].count(".before"), found[3]
+        at = states[v]
+        # a bare state, as a lemma takes it
+        if not rest:
+            return f"\1{turn.up(at, befores)}\2"
+        parts = rest.split(".")[1:]
+        step = turn.step(at, befores, parts[0])
+        known = turn.typed(turn.up(at, befores), step)
+        if known and parts[1:2] == ["given"]:
+            return ".".join([var, "type_inv", known, *parts[2:]])
+        return ".".join([var, step, *parts[1:]])
+
+    text = path.sub(turn_path, text)
+    # states given to lemmas
+    def given(found):
+        k = int(found[1])
+        return place_record(k, None if goal else states.get(var))
+
+    return re.sub("\1(\\d+)\2", given, text)
+
+
+def turn_function(folder, of, crate, module):
+    turn = Turn(of)
+    text = open(f"{folder}/Proof.antt").read()
+    parts = blocks(text)
+    head = parts[0][1] if parts[0][0] is None else []
+    uses = [it for it in head if it.startswith("use ")]
+    comment = [it for it in head if it.startswith("--")]
+    skipped = re.compile(r"\.(Statement|Tie|Reads|Kinds|Lts[^.\s]*)\b|borrow\.Fn\.|\.\{statement\}")
+    uses = [it for it in uses if not skipped.search(it)]
+    local = {}
+    for name, lines in parts:
+        if name:
+            local[name] = name
+    answers, invariants = [], []
+    helpers, helper_places, records = {}, {}, set()
+    measured = "/+" in folder or "/+" in module
+    for name, lines in parts:
+        if name is None:
+            continue
+        lines = [it for it in lines]
+        while lines and not lines[-1].strip():
+            lines.pop()
+        notes = [it for it in lines if it.startswith("--")]
+        code = [it for it in lines if not it.startswith("--")]
+        sig = code[0]
+        body_at = 1
+        while body_at < len(code) and code[body_at].startswith((" ", "\t")):
+            sig += " " + code[body_at].strip()
+            body_at += 1
+        rest = code[body_at:]
+        if re.search(r"-spec$|_spec$", name) or "statement" in sig:
+            continue
+        found = re.search(r"\.(invariant|decreases)-(\S+)", sig)
+        if found and re.search(r":\s*\S+\.(invariant|decreases)-", sig):
+            kind, loop = found[1], found[2]
+            index = next((k for k, it in enumerate(turn.loops) if alike(it[0][0]) == alike(loop)), None)
+            if index is None:
+                turn.problems.append(f"no loop {loop}")
+                index = 0
+            (_, new_loop), names = turn.loops[index]
+            flags = turn.changed[index]
+            clause = "\n".join(rest)
+            m = re.match(r"\S+((?:\s+[^\s=]+)*)\s+=\s*", clause)
+            args = m[1].split()
+            body = clause[m.end():]
+            wanted = [f"l.initial.{n}" if c else f"l.{n}" for n, c in zip(names, flags)] + [f"l.{n}" for n, c in zip(names, flags) if c]
+            if len(args) != len(wanted):
+                turn.problems.append(f"{name}: {len(args)} arguments for {len(wanted)}")
+            of_arg = dict(zip(args, wanted))
+            pieces = TOKEN.findall(body)
+            out = []
+            for k, it in enumerate(pieces):
+                out.append(of_arg[it] if it in of_arg and (k == 0 or pieces[k - 1] != ".") else it)
+            invariants.append((notes, f"{kind}-{new_loop}", "".join(out), m[0].startswith("abbrev")))
+            continue
+        need = re.search(r"\.Need-([^\s)]+)", sig)
+        if need:
+            k, new = turn.goal(need[1])
+            if k is None:
+                # a goal that is settled now, or has no name
+                continue
+            clause = "\n".join(rest)
+            unfolds = re.match(r"(unfolding [^\n]*\n)", clause)
+            head_line = unfolds[1] if unfolds else ""
+            clause = clause[len(head_line):]
+            m = re.match(r"\S+((?:\s+[^\s=]+)*)\s*=\s*", clause)
+            args = [it for it in m[1].split() if it not in ("κs", "κ")]
+            body = clause[m.end():]
+            has_measure = re.match(r".*:\s*\(t : ", sig) is not None
+            var = args[-1] if args else "c"
+            if SEARCHED.match(body.strip()) and not unfolds:
+                continue
+            place = turn.by_name[turn.asked_at[k][0]]
+            body = turn_body(turn, body, {var: place}, helper_places, new, var)
+            answers.append((notes, new, " ".join(args), head_line, body))
+            continue
+        # a lemma, or a word, over a place
+        state = re.search(r"\((\S+) : \S+?\.((?:After|At|In|Then|Else|Start)[^\s)]*)[^)]*\)", sig)
+        arrow = re.search(r":\s*\S+?\.((?:After|At|In|Then|Else)-[^\s)]*)(?:\s+[^\s→]+)*\s*→", sig)
+        clause = "\n".join(rest)
+        if state or arrow:
+            label = (state[2] if state else arrow[1])
+            k = turn.place(label)
+            if k is None:
+                turn.problems.append(f"no place {label}")
+                k = 0
+            record = turn.new_place[k]
+            records.add(record)
+            sig = re.sub(r"\S+?\.((?:After|At|In|Then|Else)-[^\s)→]*|Start)((?:\s+invariant-\S+|\s+decreases-\S+|\s+\(claims t\)|\s+\(\S+-at t\)|\s+\S+\.Post)*)", lambda m: record, sig, count=1)
+            unfolds = re.match(r"(unfolding [^\n]*\n)", clause)
+            head_line = unfolds[1] if unfolds else ""
+            clause = clause[len(head_line):]
+            m = re.match(r"(\S+)((?:\s+[^\s=]+)*)\s*=\s*", clause)
+            v = state[1] if state else m[2].split()[0]
+            body = turn_body(turn, clause[m.end():], {v: k}, helper_places, None, v)
+            if state:
+                colon = sig.index(":")
+                sig = sig[:colon] + turn_body(turn, sig[colon:], {v: k}, helper_places, None, v)
+            helper_places[name] = k
+            answers.append((notes, None, sig, head_line, m[1] + m[2] + " = " + body))
+        else:
+            answers.append((notes, None, sig, "", clause))
+    out = []
+    for it in comment:
+        out.append(it)
+    goals = f"use {module}.Goals as goal"
+    body = []
+    for notes, new, args, head_line, text in answers:
+        body.append("")
+        body += notes
+        if new:
+            sep = "\n    " if "\n" in text or len(text) > 110 else " "
+            text = text if not text.startswith("\n") else text.lstrip("\n")
+            body.append(f"pub {new} : goal.{new}")
+            if head_line:
+                body.append(head_line.rstrip("\n"))
+            body.append(f"{new} {args} ={'' if text.startswith(chr(10)) else ' '}{text}" if "\n" not in text else f"{new} {args} =\n    {text.lstrip()}")
+        else:
+            body.append(args)
+            if head_line:
+                body.append(head_line.rstrip("\n"))
+            body.append(text)
+    if answers:
+        lines = [*comment, *uses]
+        if records:
+            lines.append(f"use {module}.Goals.{{{', '.join(sorted(records))}}}")
+        lines.append(goals)
+        open(f"{folder}/Answers.antt", "w").write("\n".join([*lines, *body]) + "\n")
+    if invariants:
+        lines = [*comment, *uses, f"use {module}.Given as goal"]
+        for notes, name, text, _ in invariants:
+            lines += ["", *notes, f"abbrev pub {name} : goal.{name}", f"{name} l = {text}" if "\n" not in text else f"{name} l =\n    {text.lstrip()}"]
+        open(f"{folder}/Invariants.antt", "w").write("\n".join(lines) + "\n")
+    os.remove(f"{folder}/Proof.antt")
+    for it in turn.problems:
+        print(f"{folder}: {it}")
+
+
+def main():
+    names = json.load(open(sys.argv[1]))
+    only = sys.argv[2:]
+    crate = os.path.basename(os.getcwd())
+    for key, of in names.items():
+        m = re.match(rf"Rattle-{crate}-proofs\.(.*)\.Lts(?:-(.*))?$", key)
+        if not m:
+            continue
+        folder = "proofs/" + m[1].replace(".", "/")
+        if only and not any(it in folder for it in only):
+            continue
+        if not os.path.exists(f"{folder}/Proof.antt"):
+            continue
+        try:
+            turn_function(folder, of, crate, f"Rattle.{crate}.proofs.{m[1]}")
+        except Exception as e:
+            print(f"{folder}: {type(e).__name__} {e}")
+
+
+main()
