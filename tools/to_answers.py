@@ -50,6 +50,16 @@ class Turn:
         self.loops = of["loops"]
         self.changed = of["changed"]
         self.types = of["typed"]
+        self.pre = (of["pre"] or {}).get("fields")
+        self.clauses = of["clauses"]
+        self.asked = of["asked"]
+        self.params = of["params"]
+        # a fact of an arm: the step and the path that had it before, and its name now
+        self.arms = {}
+        for arm in of["arms"]:
+            for now, step, path in arm[2] if arm else []:
+                if path:
+                    self.arms[alike(step), tuple(path)] = f"{arm[0]}.{now}"
         self.problems = []
 
     def goal(self, label):
@@ -85,6 +95,14 @@ class Turn:
             return field
         self.problems.append(f"no step {field} at {self.places[seen][0]}")
         return field
+
+    def clause_fields(self, step):
+        """The names of the clauses of a call that is a step."""
+        for k, it in enumerate(self.places):
+            if it[2][1] == step and self.clauses[k]:
+                fields = self.clauses[k]
+                return fields if isinstance(fields, list) and all(isinstance(x, str) for x in fields) else fields
+        return None
 
     def typed(self, at, step):
         """The variable whose type a step told of."""
@@ -135,7 +153,17 @@ def turn_body(turn, text, states, helpers, goal, var):
         if not rest:
             return f"\1{turn.up(at, befores)}\2"
         parts = rest.split(".")[1:]
+        for n in range(len(parts), 1, -1):
+            arm = turn.arms.get((alike(parts[0]), tuple(parts[1:n])))
+            if arm:
+                return ".".join([var, arm, *parts[n:]])
         step = turn.step(at, befores, parts[0])
+        if parts[0] == "requires" and turn.pre and parts[1:2] and parts[1].isdigit():
+            parts[1] = turn.pre[int(parts[1])]
+        if parts[1:2] == ["ensures"] and parts[2:3] and parts[2].isdigit():
+            fields = turn.clause_fields(step)
+            if fields and int(parts[2]) < len(fields):
+                parts[2] = fields[int(parts[2])]
         known = turn.typed(turn.up(at, befores), step)
         if known and parts[1:2] == ["given"]:
             return ".".join([var, "type_inv", known, *parts[2:]])
@@ -148,6 +176,47 @@ def turn_body(turn, text, states, helpers, goal, var):
         return place_record(k, None if goal else states.get(var))
 
     return re.sub("\1(\\d+)\2", given, text)
+
+
+def parts_of(text):
+    """The parts of a tuple '(a, b)', or None."""
+    parts, depth, start = [], 0, 1
+    for k, it in enumerate(text):
+        if it in "([{":
+            depth += 1
+        elif it in ")]}":
+            depth -= 1
+            if not depth:
+                if k != len(text) - 1:
+                    return None
+                parts.append(text[start:k].strip())
+        elif it == "," and depth == 1:
+            parts.append(text[start:k].strip())
+            start = k + 1
+    return [it for it in parts if it]
+
+
+def as_record(body, fields, turn, goal):
+    """A body whose last tuple stands for clauses with names, with a record in its place."""
+    text = body.rstrip()
+    if not text.endswith(")"):
+        turn.problems.append(f"{goal} asks a record with {', '.join(fields)}")
+        return body
+    depth, k = 0, len(text) - 1
+    while k >= 0:
+        if text[k] in ")]}":
+            depth += 1
+        elif text[k] in "([{":
+            depth -= 1
+            if not depth:
+                break
+        k -= 1
+    parts = parts_of(text[k:])
+    if not parts or len(parts) != len(fields):
+        turn.problems.append(f"{goal} asks a record with {', '.join(fields)}")
+        return body
+    made = "; ".join(f"{f} = {it}" for f, it in zip(fields, parts))
+    return text[:k] + ("record { " if not k or text[k - 1] in " (\n" else " record { ") + made + " }"
 
 
 def turn_function(folder, of, crate, module):
@@ -181,6 +250,17 @@ def turn_function(folder, of, crate, module):
             body_at += 1
         rest = code[body_at:]
         if re.search(r"-spec$|_spec$", name) or "statement" in sig:
+            continue
+        if re.search(r": Measures ", sig):
+            clause = "\n".join(rest)
+            measured_name = re.match(r"(?:abbrev )?μ-(\S+)", name)[1]
+            params = next((v for k, v in turn.params.items() if alike(k.split("::")[-1]) == alike(measured_name)), [])
+            function = next((k.split("::")[-1] for k in turn.params if alike(k.split("::")[-1]) == alike(measured_name)), measured_name)
+            body = clause.split(" = ", 1)[1]
+            body = re.sub(r"\ba\.(\d+)", lambda m: f"l.{params[int(m[1])]}" if int(m[1]) < len(params) else m[0], body)
+            invariants.append((notes, f"decreases-{function}", body, True))
+            continue
+        if re.search(r": ℕ → In |\.Claims$", sig):
             continue
         found = re.search(r"\.(invariant|decreases)-(\S+)", sig)
         if found and re.search(r":\s*\S+\.(invariant|decreases)-", sig):
@@ -224,6 +304,9 @@ def turn_function(folder, of, crate, module):
                 continue
             place = turn.by_name[turn.asked_at[k][0]]
             body = turn_body(turn, body, {var: place}, helper_places, new, var)
+            fields = turn.asked.get(turn.needs[k][0]) or turn.asked.get(new)
+            if fields:
+                body = as_record(body, fields, turn, new)
             answers.append((notes, new, " ".join(args), head_line, body))
             continue
         # a lemma, or a word, over a place

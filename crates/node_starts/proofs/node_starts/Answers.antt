@@ -3,12 +3,8 @@
 use mathlib.Core.Path.{refl}
 use Rattle.node_starts.specs.All.{node_start_rules}
 use Rattle.node_starts.proofs.RuleHolds.{table_rule}
-use Rattle.node_starts.proofs.node_starts.Statement.{statement}
-use Rattle.node_starts.proofs.node_starts.Tie as tie
+use Rattle.node_starts.proofs.node_starts.Goals as goal
 
-returns : tie.Need-returns
+pub returns : goal.returns
 unfolding node_start_rules
-returns c = (refl, table_rule)
-
-pub node-starts-spec : {M : Type 1} → statement M
-node-starts-spec = tie.close (tie.spec returns)
+returns c = record { table = refl; rule = table_rule }
