@@ -26,6 +26,9 @@ def blocks(text):
     name = None
     for line in lines:
         head = re.match(r"(?:(?:abbrev|pub|unfoldable)\s+)*([^\s:(){}]+)\s*:(?=\s)", line)
+        module = re.match(r"module\s", line)
+        if module:
+            head = [line, "@module"]
         if head and not line.startswith(("use ", "--", "unfolding")):
             comment = []
             while now and (now[-1].startswith("--")):
@@ -61,6 +64,7 @@ class Turn:
                 if path:
                     self.arms[alike(step), tuple(path)] = f"{arm[0]}.{now}"
         self.problems = []
+        self.records = set()
 
     def goal(self, label):
         label = re.sub(r"^overflow-", "", alike(label))
@@ -77,6 +81,7 @@ class Turn:
 
     def step(self, at, befores, field):
         """The new name of a step seen from a place after some '.before'."""
+        field = re.sub(r"_lem$", "", field)
         k = at
         for _ in range(befores):
             parent = self.places[k][1]
@@ -144,6 +149,7 @@ def turn_body(turn, text, states, helpers, goal, var):
         if here == k and goal is None:
             return var
         name = turn.new_place[k]
+        turn.records.add(name)
         return f"(goal.at.{goal} {var}).{name}" if goal else f"{var}.{name}"
 
     def turn_path(found):
@@ -233,7 +239,8 @@ def turn_function(folder, of, crate, module):
         if name:
             local[name] = name
     answers, invariants = [], []
-    helpers, helper_places, records = {}, {}, set()
+    helpers, helper_places, records = {}, {}, turn.records
+    aliases = {}
     measured = "/+" in folder or "/+" in module
     for name, lines in parts:
         if name is None:
@@ -243,6 +250,11 @@ def turn_function(folder, of, crate, module):
             lines.pop()
         notes = [it for it in lines if it.startswith("--")]
         code = [it for it in lines if not it.startswith("--")]
+        if name == "@module":
+            answers.append((notes, None, code[0], "", "\n".join(code[1:])))
+            if ".before" in "".join(code):
+                turn.problems.append("a module has paths")
+            continue
         sig = code[0]
         body_at = 1
         while body_at < len(code) and code[body_at].startswith((" ", "\t")):
@@ -296,10 +308,11 @@ def turn_function(folder, of, crate, module):
             head_line = unfolds[1] if unfolds else ""
             clause = clause[len(head_line):]
             m = re.match(r"\S+((?:\s+[^\s=]+)*)\s*=\s*", clause)
+            on_next = "\n" in m[0]
             args = [it for it in m[1].split() if it not in ("κs", "κ")]
             body = clause[m.end():]
             has_measure = re.match(r".*:\s*\(t : ", sig) is not None
-            var = args[-1] if args else "c"
+            var = (args[1] if has_measure else args[0]) if args else "c"
             if SEARCHED.match(body.strip()) and not unfolds:
                 continue
             place = turn.by_name[turn.asked_at[k][0]]
@@ -307,11 +320,19 @@ def turn_function(folder, of, crate, module):
             fields = turn.asked.get(turn.needs[k][0]) or turn.asked.get(new)
             if fields:
                 body = as_record(body, fields, turn, new)
-            answers.append((notes, new, " ".join(args), head_line, body))
+            answers.append((notes, new, " ".join(args), head_line, ("\n    " if on_next else "") + body.lstrip()))
+            continue
+        named = re.fullmatch(r"\S+\s*=\s*\S+?\.((?:After|At|In|Then|Else)-\S+|(?:Then|Else)\d+|Start)(?:\s+(?:invariant|decreases)-\S+)*\s*", "\n".join(rest))
+        if named and turn.place(named[1]) is not None:
+            aliases[name] = turn.place(named[1])
+            turn.records.add(turn.new_place[aliases[name]])
+            answers.append((notes, None, sig, "", f"{name} = {turn.new_place[aliases[name]]}"))
             continue
         # a lemma, or a word, over a place
+        for alias, at in aliases.items():
+            sig = re.sub(rf"(?<![^\s(]){re.escape(alias)}(?![^\s)])", f"tie.{turn.places[at][0]}", sig)
         state = re.search(r"\((\S+) : \S+?\.((?:After|At|In|Then|Else|Start)[^\s)]*)[^)]*\)", sig)
-        arrow = re.search(r":\s*\S+?\.((?:After|At|In|Then|Else)-[^\s)]*)(?:\s+[^\s→]+)*\s*→", sig)
+        arrow = re.search(r":\s*\S+?\.((?:After|At|In|Then|Else)-?[^\s)]*|Start)(?:\s+[^\s→]+)*\s*→", sig)
         clause = "\n".join(rest)
         if state or arrow:
             label = (state[2] if state else arrow[1])
@@ -321,7 +342,7 @@ def turn_function(folder, of, crate, module):
                 k = 0
             record = turn.new_place[k]
             records.add(record)
-            sig = re.sub(r"\S+?\.((?:After|At|In|Then|Else)-[^\s)→]*|Start)((?:\s+invariant-\S+|\s+decreases-\S+|\s+\(claims t\)|\s+\(\S+-at t\)|\s+\S+\.Post)*)", lambda m: record, sig, count=1)
+            sig = re.sub(r"[^\s(]+?\.((?:After|At|In|Then|Else)-?[^\s)→]*|Start)((?:\s+invariant-\S+|\s+decreases-\S+|\s+\(claims t\)|\s+\(\S+-at t\)|\s+\S+\.Post)*)", lambda m: record, sig, count=1)
             unfolds = re.match(r"(unfolding [^\n]*\n)", clause)
             head_line = unfolds[1] if unfolds else ""
             clause = clause[len(head_line):]
@@ -344,12 +365,10 @@ def turn_function(folder, of, crate, module):
         body.append("")
         body += notes
         if new:
-            sep = "\n    " if "\n" in text or len(text) > 110 else " "
-            text = text if not text.startswith("\n") else text.lstrip("\n")
             body.append(f"pub {new} : goal.{new}")
             if head_line:
                 body.append(head_line.rstrip("\n"))
-            body.append(f"{new} {args} ={'' if text.startswith(chr(10)) else ' '}{text}" if "\n" not in text else f"{new} {args} =\n    {text.lstrip()}")
+            body.append(f"{new} {args} ={'' if text.startswith(chr(10)) else ' '}{text}")
         else:
             body.append(args)
             if head_line:

@@ -50,19 +50,19 @@ forecast_refusal p l bytes =
 pub record ForecastResult : Type 0 where
   pub refusal : ℕ
   pub words : ℕ
-  pub bytes_of_answer : ℕ
+  pub answer_bytes : ℕ
   pub records : ℕ
 
 -- for so many begins
 unfoldable pub foreseen : Shape → ℕ → ForecastResult
-foreseen s n = record { refusal = 0; words = words_needed s; bytes_of_answer = answer_size * n; records = n * record_limit s }
+foreseen s n = record { refusal = 0; words = words_needed s; answer_bytes = answer_size * n; records = n * record_limit s }
 
 -- the forecast takes p, L, begin records; a refusal returns zeros
 unfoldable pub forecast : ℕ → ℕ → List ℕ → ForecastResult
 forecast p l bytes =
     let n = forecast_refusal p l bytes in
     if accepted n then foreseen (shape_for p l) (length (step_records bytes))
-    else record { refusal = refusal_number n; words = 0; bytes_of_answer = 0; records = 0 }
+    else record { refusal = refusal_number n; words = 0; answer_bytes = 0; records = 0 }
 
 -- ---- what it says of runs
 
@@ -80,11 +80,11 @@ AllFinish h = (x : OpId) → is_opened x h ≡ true → is_finished x h ≡ true
 pub record StaysWithin (f : ForecastResult) (e : RunResult) (h : List Event) (words room : ℕ) : Type 0 where
   -- it stays within both
   pub records : e.taken ≤ f.records
-  pub answers : answer_size * e.answered ≤ f.bytes_of_answer
+  pub answers : answer_size * e.answered ≤ f.answer_bytes
   -- if nothing is refused and all operations finish, the answer bytes are exact
-  pub exact : e.refusal ≡ 0 → AllFinish h → answer_size * e.answered ≡ f.bytes_of_answer
+  pub exact : e.refusal ≡ 0 → AllFinish h → answer_size * e.answered ≡ f.answer_bytes
   -- a table and a buffer of the sizes foreseen are not too short: neither 3 nor 9
-  pub enough : f.words ≤ words → f.bytes_of_answer ≤ room → (e.refusal ≢ refusal_number TableShort) × (e.refusal ≢ refusal_number AnswersFull)
+  pub enough : f.words ≤ words → f.answer_bytes ≤ room → (e.refusal ≢ refusal_number TableShort) × (e.refusal ≢ refusal_number AnswersFull)
 
 -- of a forecast without refusal: every list with these begins in this order, whatever table and buffer it is lent, and
 -- whether or not a record is refused

@@ -3,7 +3,7 @@
 #![tactic(auto)]
 
 // Why a call or a record is refused.
-#[derive(Drop)]
+#[derive(Clone, Copy)]
 pub enum Refusal {
     None,
     Processes,
@@ -21,7 +21,7 @@ pub enum Refusal {
 }
 
 // What checking a log finds: the same log, the index of the first record that differs, or a refusal.
-#[derive(Drop)]
+#[derive(Clone, Copy)]
 pub enum Verdict {
     Same,
     Differs(u64),

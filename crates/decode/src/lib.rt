@@ -8,7 +8,7 @@ pub mod numbers;
 use steps::Operation;
 
 // The process that the record names opens an operation; an ill-formed record opens none.
-#[derive(Drop)]
+#[derive(Clone, Copy)]
 pub enum Begin {
     IllFormed,
     Opens { process: u32, operation: Operation },

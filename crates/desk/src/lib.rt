@@ -7,7 +7,7 @@ pub mod exports;
 
 // What the desk returns: the number of a refusal, or 0 and the number of terms.
 #[repr(C)]
-#[derive(Drop)]
+#[derive(Clone, Copy)]
 pub struct DeskDelivery {
     pub refusal: u32,
     pub count: u64,

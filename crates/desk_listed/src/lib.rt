@@ -7,7 +7,7 @@ pub mod listed;
 use desk_rules::DeskRefusal;
 
 // What the desk returns: a refusal, or none and the number of terms.
-#[derive(Drop)]
+#[derive(Clone, Copy)]
 pub struct Delivered {
     pub refusal: DeskRefusal,
     pub count: usize,

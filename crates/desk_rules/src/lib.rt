@@ -3,7 +3,7 @@
 #![tactic(auto)]
 
 // Why a call or a record is refused.
-#[derive(Drop)]
+#[derive(Clone, Copy)]
 pub enum DeskRefusal {
     None,
     // by the queue: its number there

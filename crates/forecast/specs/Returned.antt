@@ -4,4 +4,4 @@ use Rattle.calls.specs.Forecast.{ForecastResult}
 use Rattle.forecast.specs.declared.Forecast.{Forecast}
 
 unfoldable pub returned : Forecast → ForecastResult
-returned r = record { refusal = refusal_number r.refusal; words = r.words; bytes_of_answer = r.answer_bytes; records = r.records }
+returned r = record { refusal = refusal_number r.refusal; words = r.words; answer_bytes = r.answer_bytes; records = r.records }

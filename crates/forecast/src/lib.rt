@@ -8,7 +8,7 @@ use calls::Refusal;
 
 // What the forecast returns: a refusal and zeros, or none, the words of the work table, the bytes of the answers, and a
 // limit on the records of any run.
-#[derive(Drop)]
+#[derive(Clone, Copy)]
 pub struct Forecast {
     pub refusal: Refusal,
     pub words: usize,

@@ -7,7 +7,7 @@ pub mod roots;
 
 // What the order records of one list have in common: the kind of the operations and the root block that they stand in.
 // The process of leaf v is v less the number of processes.
-#[derive(Drop)]
+#[derive(Clone, Copy)]
 pub struct Listing {
     pub kind: tree::Kind,
     pub processes: u32,
@@ -15,7 +15,7 @@ pub struct Listing {
 }
 
 // A node and its height, which is 0 for a leaf.
-#[derive(Drop)]
+#[derive(Clone, Copy)]
 pub struct Subtree {
     pub node: u32,
     pub height: usize,

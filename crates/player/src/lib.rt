@@ -7,7 +7,7 @@ use calls::Refusal;
 
 // What playing a list of records comes to: why it ended, the records taken, the answers given, and how many answers at
 // the beginning are equal to those of a log.
-#[derive(Drop)]
+#[derive(Clone, Copy)]
 pub struct Outcome {
     pub refusal: Refusal,
     pub taken: usize,

@@ -8,7 +8,7 @@ pub mod sheet;
 pub mod total;
 
 // A band of a sheet: the number of its last delivery, and its price in cents for a hundred deliveries.
-#[derive(Drop)]
+#[derive(Clone, Copy)]
 pub struct Band {
     pub last: u32,
     pub price: u32,
@@ -16,7 +16,7 @@ pub struct Band {
 
 // What a call returns: a refusal's number, or 0 and a price in whole cents and hundredths of a cent.
 #[repr(C)]
-#[derive(Drop)]
+#[derive(Clone, Copy)]
 pub struct PriceTotal {
     pub refusal: u32,
     pub cents: u32,

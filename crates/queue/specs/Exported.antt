@@ -24,4 +24,4 @@ check_exported r table = record { refusal = r.refusal; verdict = r.verdict; inde
 
 -- of the forecast, which is lent no buffer to write
 unfoldable pub forecast_exported : OtqForecast → ForecastResult
-forecast_exported r = record { refusal = r.refusal; words = r.words; bytes_of_answer = r.answer_bytes; records = r.records }
+forecast_exported r = record { refusal = r.refusal; words = r.words; answer_bytes = r.answer_bytes; records = r.records }

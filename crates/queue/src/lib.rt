@@ -11,7 +11,7 @@ pub mod run;
 use calls::Refusal;
 
 // What Run returns: why it ended, the records taken and the answers written.
-#[derive(Drop)]
+#[derive(Clone, Copy)]
 pub struct Ran {
     pub refusal: Refusal,
     pub taken: usize,
@@ -19,7 +19,7 @@ pub struct Ran {
 }
 
 // What list the order returns: a refusal, or none and the length of the list in bytes.
-#[derive(Drop)]
+#[derive(Clone, Copy)]
 pub struct Listed {
     pub refusal: Refusal,
     pub length: usize,
@@ -27,7 +27,7 @@ pub struct Listed {
 
 // The same for C: a refusal is its number.
 #[repr(C)]
-#[derive(Drop)]
+#[derive(Clone, Copy)]
 pub struct OtqRun {
     pub refusal: u32,
     pub taken: u64,
@@ -35,7 +35,7 @@ pub struct OtqRun {
 }
 
 #[repr(C)]
-#[derive(Drop)]
+#[derive(Clone, Copy)]
 pub struct OtqList {
     pub refusal: u32,
     pub length: u64,
@@ -44,7 +44,7 @@ pub struct OtqList {
 // What check a log returns, for C: a refusal's number, a verdict's (0 same, 1 differs, 2 refused), and the index of the
 // first record that differs, 0 where none does.
 #[repr(C)]
-#[derive(Drop)]
+#[derive(Clone, Copy)]
 pub struct OtqCheck {
     pub refusal: u32,
     pub verdict: u32,
@@ -54,7 +54,7 @@ pub struct OtqCheck {
 // What the forecast returns, for C: a refusal's number, the words of the work table, the bytes of the answers, and a
 // limit on the records of any run.
 #[repr(C)]
-#[derive(Drop)]
+#[derive(Clone, Copy)]
 pub struct OtqForecast {
     pub refusal: u32,
     pub words: u64,

@@ -3,7 +3,7 @@
 #![tactic(auto)]
 
 // A step record.
-#[derive(Drop)]
+#[derive(Clone, Copy)]
 pub struct StepRecord {
     pub process: u32,
     pub kind: u32,
@@ -12,7 +12,7 @@ pub struct StepRecord {
 }
 
 // What an operation answers: a put that it is done, a take a value or that there is none.
-#[derive(Drop)]
+#[derive(Clone, Copy)]
 pub enum Reply {
     Done,
     Value(u32),
@@ -20,7 +20,7 @@ pub enum Reply {
 }
 
 // An answer record.
-#[derive(Drop)]
+#[derive(Clone, Copy)]
 pub struct AnswerRecord {
     pub process: u32,
     pub reply: Reply,
@@ -31,7 +31,7 @@ pub struct AnswerRecord {
 }
 
 // An order record.
-#[derive(Drop)]
+#[derive(Clone, Copy)]
 pub struct OrderRecord {
     pub process: u32,
     pub kind: u32,

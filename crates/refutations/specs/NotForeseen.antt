@@ -71,15 +71,15 @@ module _ (p l : ℕ) (bytes : List ℕ) (f : ForecastResult) (none : f.refusal �
     pub says_records : e.taken ≤ f.records
     says_records = (claim none records table answers these).records
 
-    pub says_answers : 16 * e.answered ≤ f.bytes_of_answer
+    pub says_answers : 16 * e.answered ≤ f.answer_bytes
     unfolding answer_size
     says_answers = (claim none records table answers these).answers
 
-    pub says_exact : e.refusal ≡ 0 → AllFinish (history (shape_for p l) (numbered (take e.taken (step_records records)))) → 16 * e.answered ≡ f.bytes_of_answer
+    pub says_exact : e.refusal ≡ 0 → AllFinish (history (shape_for p l) (numbered (take e.taken (step_records records)))) → 16 * e.answered ≡ f.answer_bytes
     unfolding answer_size
     says_exact = (claim none records table answers these).exact
 
-    pub says_enough : f.words ≤ length table → f.bytes_of_answer ≤ length answers → (e.refusal ≢ 3) × (e.refusal ≢ 9)
+    pub says_enough : f.words ≤ length table → f.answer_bytes ≤ length answers → (e.refusal ≢ 3) × (e.refusal ≢ 9)
     unfolding refusal_number
     says_enough = (claim none records table answers these).enough
 
@@ -89,6 +89,6 @@ unfolding rules begin_take steps
 with_steps f none claim = (claim none take_alone (replicate 77 0) (replicate 16 0) refl).records
 
 -- what it does not claim: the bytes of a list that does not finish are not exact
-pub not_exact : answer_size * (run 2 2 (begin_take 0) (replicate 77 0) (replicate 16 0)).answered ≡ foreseen_take.bytes_of_answer → ⊥
+pub not_exact : answer_size * (run 2 2 (begin_take 0) (replicate 77 0) (replicate 16 0)).answered ≡ foreseen_take.answer_bytes → ⊥
 unfolding rules begin_take
 not_exact e = omega (arith, e)

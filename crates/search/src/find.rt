@@ -10,7 +10,7 @@ use table::access::block_at;
 use tree::PUTS_WORD;
 
 // A put in a child: the child, the last place there that can have it, and its number there.
-#[derive(Drop)]
+#[derive(Clone, Copy)]
 struct Descent {
     node: u32,
     last: u32,

@@ -6,7 +6,7 @@ pub mod find;
 pub mod places;
 
 // Where an operation stands: its root block, and its number among the takes there, from 1.
-#[derive(Drop)]
+#[derive(Clone, Copy)]
 pub struct Standing {
     pub block: u32,
     pub rank: u32,

@@ -8,14 +8,14 @@ ghost use Rattle.steps.specs.Process.{idle, processes_allowed, operations_allowe
 ghost use Rattle.steps.specs.Clauses.Operations.{entered as entered_of, rested as rested_of};
 
 // What a process is inside of: a put of a value, or a take.
-#[derive(Drop)]
+#[derive(Clone, Copy)]
 pub enum Operation {
     Put(u32),
     Take,
 }
 
 // Which refresh of a node it is: an operation does two at most.
-#[derive(Drop)]
+#[derive(Clone, Copy)]
 pub enum Refresh {
     First,
     Second,
@@ -23,7 +23,7 @@ pub enum Refresh {
 
 // Where an operation is on its way from its leaf to the root: the node, the head h that was read there, and which
 // refresh of the node it is.
-#[derive(Drop)]
+#[derive(Clone, Copy)]
 pub struct Visit {
     pub node: u32,
     pub head: u32,
@@ -32,7 +32,7 @@ pub struct Visit {
 
 // What follows an advance: the right half of a refresh's helping (R4), its ends (C1), the second refresh of the node,
 // or the way up: the parent's refresh, or Q after the root.
-#[derive(Drop)]
+#[derive(Clone, Copy)]
 pub enum After {
     Right,
     Ends,
@@ -42,7 +42,7 @@ pub enum After {
 
 // What C3N makes for C4 to write: the block's ends, totals and size. Its super is 0. What C3N has in registers stays
 // where it is.
-#[derive(Drop)]
+#[derive(Clone, Copy)]
 pub struct Built {
     pub left: u32,
     pub right: u32,
@@ -56,7 +56,7 @@ pub struct Built {
 // totals of the left child's block, then the sums of both children's. A field of one byte stands first, beside the tag,
 // so that no step reads a word where another step wrote a byte, which is slow; a register stays where it is from step
 // to step, so that a step writes only what it adds.
-#[derive(Drop)]
+#[derive(Clone, Copy)]
 pub enum Step {
     A,
     V1 {
@@ -130,7 +130,7 @@ pub enum Step {
 }
 
 // A process is idle, or inside an operation at a named step.
-#[derive(Drop)]
+#[derive(Clone, Copy)]
 pub enum Status {
     Idle,
     Busy(Operation, Step),
@@ -138,7 +138,7 @@ pub enum Status {
 
 // A process, the operations that it has begun, and the own steps and the helps of the one that it is inside of. With
 // `begun` of eight bytes it takes 64, so that its place among the processes is found by a shift.
-#[derive(Drop)]
+#[derive(Clone, Copy)]
 pub struct Process {
     pub status: Status,
     pub begun: u64,

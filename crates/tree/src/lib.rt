@@ -21,7 +21,7 @@ pub const NUMBER_WORD: usize = 6;
 
 // A block of a node, as words of the work table. `superblock` is the paper's super. `left` and `right` are the ends in
 // the children; in a leaf, `left` holds the put's value. `number` is that of the record that wrote it.
-#[derive(Drop)]
+#[derive(Clone, Copy)]
 pub struct Block {
     pub puts: u32,
     pub takes: u32,
@@ -33,14 +33,14 @@ pub struct Block {
 }
 
 // A block's puts and takes.
-#[derive(Drop)]
+#[derive(Clone, Copy)]
 pub struct Totals {
     pub puts: u32,
     pub takes: u32,
 }
 
 // The two kinds of operations.
-#[derive(Drop)]
+#[derive(Clone, Copy)]
 pub enum Kind {
     Puts,
     Takes,

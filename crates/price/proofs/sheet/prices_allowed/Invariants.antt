@@ -1,0 +1,17 @@
+-- `sheet::prices_allowed` meets its contract. The loop's invariant: no price before band i is too high. The measure is
+-- what is left of the bands.
+use Prim.Native.Nat.{◌-◌, ◌/◌}
+use native.Mathlib.Omega.{arith}
+use mathlib.Core.Path.{refl, sym, ◌∙◌}
+use lib.ListN.{length}
+use borrow.Author.Rules.{rules}
+use Rattle.price.specs.Sheet.{prices_allowed}
+use Rattle.price.proofs.Bands.{bands_length}
+use Rattle.price.proofs.SheetTests.{DownTo, prices_end, price_high, price_low}
+use Rattle.price.proofs.sheet.prices_allowed.Given as goal
+
+abbrev pub invariant-loop-i : goal.invariant-loop-i
+invariant-loop-i l = DownTo prices_allowed l.sheet l.i
+
+abbrev pub decreases-loop-i : goal.decreases-loop-i
+decreases-loop-i l = length l.sheet / 8 - l.i

@@ -1,0 +1,15 @@
+-- `sequence::advance` meets its contract.
+use borrow.Author.Tests.{eq-eqb, ne_eqb}
+use Rattle.tree.specs.Shape.{root}
+use Rattle.steps.specs.Rules.{advance}
+use Rattle.stepping.proofs.sequence.advance.Goals as goal
+
+-- v is the root
+pub returns-then-v-eq1 : goal.returns-then-v-eq1
+unfolding advance root
+returns-then-v-eq1 c = simp (eq-eqb _ _ c.if-v-eq1.true)
+
+-- v is below it
+pub returns : goal.returns
+unfolding advance root
+returns c = simp (ne_eqb _ _ c.if-v-eq1.false)

@@ -1,0 +1,6 @@
+-- `turn::moved` meets its contract.
+use borrow.Author.Rules.{rules}
+use Rattle.stepping.proofs.turn.moved.Goals as goal
+
+pub returns : goal.returns
+returns c = rw c.operation_in.ensures

@@ -1,0 +1,8 @@
+-- `turn::moved_telling` meets its contract.
+use Rattle.steps.specs.Rules.{go_telling}
+use borrow.Author.Rules.{rules}
+use Rattle.stepping.proofs.turn.moved_telling.Goals as goal
+
+pub returns : goal.returns
+unfolding go_telling
+returns c s number k m after = rw (c.before.before.operation-in.ensures, c.helps-after.ensures)

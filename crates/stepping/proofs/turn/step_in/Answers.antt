@@ -1,0 +1,9 @@
+-- `turn::step_in` meets its contract.
+use borrow.Author.Rules.{rules}
+use Rattle.stepping.proofs.turn.step_in.Goals as goal
+
+pub returns-in-Idle : goal.returns-in-Idle
+returns-in-Idle c = rw c.in-Idle.is
+
+pub returns-in-Busy : goal.returns-in-Busy
+returns-in-Busy c = rw c.in-Busy.is

@@ -1,0 +1,8 @@
+-- `access::write_at` meets its contract.
+use Rattle.tree.specs.Clauses.Access.{node_part, with_node_block}
+use borrow.Author.Rules.{rules}
+use Rattle.table.proofs.access.write_at.Goals as goal
+
+pub returns : goal.returns
+unfolding with_node_block node_part
+returns c = rw (← c.start_of_lem.ensures, ← c.start_of-to.ensures, ← c.as_index.ensures) c.node_write.ensures

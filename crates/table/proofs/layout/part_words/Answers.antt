@@ -1,0 +1,16 @@
+-- `layout::part_words` meets its contract. By cases on node 0.
+use native.Mathlib.Omega.{arith}
+use borrow.Author.Rules.{rules}
+use Rattle.tree.specs.Shape.{Shape}
+use Rattle.tree.specs.Layout.{part_words}
+use Rattle.tree.proofs.Sizes.{words_of}
+use Rattle.table.proofs.layout.part_words.Goals as goal
+
+pub returns-then-v-eq0 : goal.returns-then-v-eq0
+unfolding part_words
+returns-then-v-eq0 c = (rw c.if-v-eq0.true, omega arith)
+
+pub returns : goal.returns
+returns c =
+    let s : Shape = record { height = c.args.h; most = c.args.l } in
+    (omega (arith, words_of s c.args.v (omega arith), c.last_place.ensures.0), omega arith)
