@@ -58,11 +58,13 @@ class Turn:
         self.asked = of["asked"]
         self.params = of["params"]
         # a fact of an arm: the step and the path that had it before, and its name now
-        self.arms = {}
+        self.arms, self.owns = {}, {}
         for arm in of["arms"]:
             for now, step, path in arm[2] if arm else []:
                 if path:
                     self.arms[alike(step), tuple(path)] = f"{arm[0]}.{now}"
+                else:
+                    self.owns[arm[0]] = f"{arm[0]}.{now}"
         self.problems = []
         self.records = set()
 
@@ -108,6 +110,13 @@ class Turn:
                 fields = self.clauses[k]
                 return fields if isinstance(fields, list) and all(isinstance(x, str) for x in fields) else fields
         return None
+
+    def param(self, step, n):
+        """The parameter of a call that a place of its '.new' stands for."""
+        for it in self.places:
+            if it[2][1] == step and it[3] in self.params:
+                return self.params[it[3]][n]
+        return str(n)
 
     def typed(self, at, step):
         """The variable whose type a step told of."""
@@ -164,6 +173,8 @@ def turn_body(turn, text, states, helpers, goal, var):
             if arm:
                 return ".".join([var, arm, *parts[n:]])
         step = turn.step(at, befores, parts[0])
+        if step in turn.owns and parts[1:2] and re.match(r"keys\d", parts[1]):
+            step = turn.owns[step]
         if parts[0] == "requires" and turn.pre and parts[1:2] and parts[1].isdigit():
             parts[1] = turn.pre[int(parts[1])]
         if parts[1:2] == ["ensures"] and parts[2:3] and parts[2].isdigit():
@@ -173,6 +184,8 @@ def turn_body(turn, text, states, helpers, goal, var):
         known = turn.typed(turn.up(at, befores), step)
         if known and parts[1:2] == ["given"]:
             return ".".join([var, "type_inv", known, *parts[2:]])
+        if parts[1:2] == ["new"] and parts[2:3] and parts[2].isdigit():
+            parts[2] = turn.param(step, int(parts[2]))
         return ".".join([var, step, *parts[1:]])
 
     text = path.sub(turn_path, text)
@@ -342,7 +355,7 @@ def turn_function(folder, of, crate, module):
                 k = 0
             record = turn.new_place[k]
             records.add(record)
-            sig = re.sub(r"[^\s(]+?\.((?:After|At|In|Then|Else)-?[^\s)→]*|Start)((?:\s+invariant-\S+|\s+decreases-\S+|\s+\(claims t\)|\s+\(\S+-at t\)|\s+\S+\.Post)*)", lambda m: record, sig, count=1)
+            sig = re.sub(r"[^\s(]+?\.((?:After|At|In|Then|Else)-?[^\s)→]*|Start)((?:\s+invariant-[^\s)]+|\s+decreases-[^\s)]+|\s+\(claims t\)|\s+\(\S+-at t\)|\s+\S+\.Post)*)", lambda m: record, sig, count=1)
             unfolds = re.match(r"(unfolding [^\n]*\n)", clause)
             head_line = unfolds[1] if unfolds else ""
             clause = clause[len(head_line):]

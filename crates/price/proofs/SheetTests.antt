@@ -1,5 +1,4 @@
 -- The tests of a sheet, band after band; and what a sheet that passes them is.
-use Rattle.std.specs.Prelude.{if◌then◌else◌}
 use Prim.Native.Nat.{ℕ, zero, suc, ◌+◌, ◌-◌, ◌*◌, ◌/◌, ◌%◌, ◌≤◌, ◌<◌}
 use native.Mathlib.Numerals.{add-one}
 use native.Mathlib.Omega.{arith}
@@ -9,6 +8,7 @@ use mathlib.Core.List.{List, [], ◌∷◌}
 use lib.ListN.{length, take, drop, length-drop, drop_of_length-le}
 use lib.Dec.{ltb, leb, eqb}
 use borrow.Author.Tests.{ltb-true, ltb-false, leb-true, lt-ltb, le-ltb, lt-leb, le-leb}
+use Rattle.std.specs.Prelude.{if◌then◌else◌}
 use Rattle.base.proofs.Cases.{and-true}
 use Rattle.price.specs.declared.Band.{Band}
 use Rattle.price.specs.Sheet.{band_size, band, bands, band_of, rising, most_bands, bands_allowed, highest_price, prices_allowed}
@@ -96,7 +96,7 @@ pub record Accepted (count : ℕ) (sheet : List ℕ) : Type 0 where
   pub prices : prices_allowed (bands sheet) ≡ true
 
 -- the four tests, by their outcomes
-passed : (a b c d : Bool) → ◌≡◌ {A = ℕ} (if a then 2 else (if not b then 4 else (if not c then 15 else (if not d then 16 else 0)))) 0 → (a ≡ false) × (c ≡ true) × (d ≡ true)
+passed : (a b c d : Bool) → ◌≡◌ {A = ℕ} (if a then 2 else if not b then 4 else if not c then 15 else if not d then 16 else 0) 0 → (a ≡ false) × (c ≡ true) × (d ≡ true)
 passed true b c d e = absurd (omega arith)
 passed false false c d e = absurd (omega arith)
 passed false true false d e = absurd (omega arith)

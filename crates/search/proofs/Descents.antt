@@ -1,6 +1,5 @@
 -- One level down from a block that has a put: the child and the number there, the search there, and the put in the
 -- subblock found.
-use Rattle.std.specs.Prelude.{if◌then◌else◌}
 use Prim.Native.Nat.{ℕ, zero, suc, ◌+◌, ◌-◌, ◌≤◌, ◌<◌}
 use native.Mathlib.Omega.{arith}
 use native.Mathlib.Decide.{dec_le}
@@ -10,6 +9,7 @@ use mathlib.Core.List.{List}
 use lib.ListN.{get_or}
 use lib.Dec.{leb}
 use borrow.Author.Tests.{leb-true, leb-false}
+use Rattle.std.specs.Prelude.{if◌then◌else◌}
 use Rattle.base.proofs.Cases.{cases}
 use Rattle.tree.specs.declared.Kind.TheVariants.{Puts}
 use Rattle.tree.specs.Shape.{Shape, left_of, right_of}

@@ -1,5 +1,4 @@
 -- `step_codec::ill_formed` meets its contract. The tests are passed in the order of the definition.
--- where the first three tests are passed: a begin of a put is well formed, and of any other record the value decides
 use Prim.Native.Nat.{ℕ, ◌≤◌, ◌<◌}
 use native.Mathlib.Omega.{arith}
 use mathlib.Core.Bool.{Bool, true, false, not}
@@ -10,6 +9,16 @@ use borrow.Author.Tests.{le-leb, lt-leb, lt-ltb, le-ltb, eq-eqb, ne_eqb}
 use Rattle.record.specs.declared.StepRecord.{StepRecord}
 use Rattle.record.specs.StepRecords.{is_begin_put, ill_formed}
 use Rattle.step_codec.proofs.ill_formed.Goals as goal
+
+-- where the first three tests are passed: a begin of a put is well formed, and of any other record the value decides
+module _ (p : ℕ) (x : StepRecord) (e : x.process < p) (f : x.kind ≤ 2) (g : x.zeros ≡ 0) where
+  begin_put_lem : {b : Bool} → b ≡ is_begin_put x → b ≡ true → false ≡ ill_formed p x
+  unfolding ill_formed
+  begin_put_lem h t = simp (lt-leb _ _ e, le-ltb _ _ f, eq-eqb _ _ g, ← h, t)
+
+  other : {b : Bool} → b ≡ is_begin_put x → b ≡ false → not (eqb x.value 0) ≡ ill_formed p x
+  unfolding ill_formed
+  other h t = simp (lt-leb _ _ e, le-ltb _ _ f, eq-eqb _ _ g, ← h, t)
 
 pub returns-then-p-x : goal.returns-then-p-x
 unfolding ill_formed

@@ -1,11 +1,12 @@
 -- `refusal::price_refusal` meets its contract. The tests are passed in the order of the definition.
-use Rattle.std.specs.Prelude.{if◌then◌else◌}
 use mathlib.Core.Path.{◌≡◌, sym, ◌∙◌}
 use mathlib.Core.Bool.{not}
 use borrow.Author.Rules.{rules}
 use borrow.Author.Tests.{not-true, not-false, lt-ltb, le-ltb, eq-eqb, ne_eqb}
+use Rattle.std.specs.Prelude.{if◌then◌else◌}
 use Rattle.price.specs.Sheet.{band_size}
 use Rattle.price.specs.Price.{most_deliveries, price_refusal}
+use Rattle.price.proofs.refusal.price_refusal.Goals.{After-prices_allowed}
 use Rattle.price.proofs.refusal.price_refusal.Goals as goal
 
 pub returns-then-count-gt4000 : goal.returns-then-count-gt4000
@@ -20,27 +21,25 @@ pub returns-then-not-bands_allowed : goal.returns-then-not-bands_allowed
 unfolding price_refusal most_deliveries band_size
 returns-then-not-bands_allowed c =
     let bands = c.bands_allowed in
-    rw (le-ltb 4000 _ c.if-count-gt4000.false, eq-eqb _ 0 c.if-sheet-ne0.false, ← bands.ensures, not-true bands.result c.if-not-bands_allowed.true)
+    rw (le-ltb 4000 _ c.if-count-gt4000.false, eq-eqb _ 0 c.if-sheet-ne0.false, ← bands.ensures, c.if-not-bands_allowed.true)
 
 -- the tests 2, 4 and 15 are passed
 abbrev AtPrices : Type 0
-AtPrices = tie.After-prices-allowed
+AtPrices = After-prices_allowed
 
-abbrev IsByPrices : AtPrices → Type 0
-IsByPrices c =
-    let a = c.before.before.before.before.before.before.args in
-    price_refusal a.count a.sheet.now ≡ (if not c.prices-allowed.result then 16 else 0)
+abbrev IsByPrices : After-prices_allowed → Type 0
+IsByPrices c = let a = c.args in
+    price_refusal a.count a.sheet.now ≡ (if not c.prices_allowed.result then 16 else 0)
 
-by-prices : (c : AtPrices) → IsByPrices c
+by-prices : (c : After-prices_allowed) → IsByPrices c
 unfolding price_refusal most_deliveries band_size
-by-prices c =
-    let bands = c.before.before.bands-allowed in
+by-prices c = let bands = c.bands_allowed in
     rw (
-      le-ltb 4000 _ c.before.before.before.before.if1.false,
-      eq-eqb _ 0 c.before.before.before.if2.false,
+      le-ltb 4000 _ c.if-count-gt4000.false,
+      eq-eqb _ 0 c.if-sheet-ne0.false,
       ← bands.ensures,
-      not-false bands.result c.before.if3.false,
-      ← c.prices-allowed.ensures,
+      c.if-not-bands_allowed.false,
+      ← c.prices_allowed.ensures,
     )
 
 pub returns-then-not-prices_allowed : goal.returns-then-not-prices_allowed

@@ -25,7 +25,7 @@ AtNext c = let start = c.args in
     let loop = c.loop-i in
     Next start.count start.sheet.now loop.i loop.priced loop.total c.band_at-here.result c.last_within-last.result
 
-at_next : (c : After-last_within-last → AtNext c
+at_next : (c : After-last_within-last) → AtNext c
 at_next c = let loop = c.loop-i in
     next _ _ (accepted _ _ c.requires) _ _ _ loop.invariant.1 _ c.band_at-here.ensures (omega arith) _ c.last_within-last.ensures
 
@@ -36,7 +36,7 @@ pub loop-i-preserved : goal.loop-i-preserved
 loop-i-preserved c = (omega arith, rw c.with_band-total.ensures (at_next (goal.at.loop-i-preserved c).After-last_within-last).then)
 
 -- there is a last band
-some : (c : After-loop-i → 1 ≤ length c.args.sheet.now / 8
+some : (c : After-loop-i) → 1 ≤ length c.args.sheet.now / 8
 some c = omega (arith, (accepted _ _ c.requires).some, bands_length c.args.sheet.now)
 
 pub band_at-here-requires-2 : goal.band_at-here-requires-2
@@ -47,7 +47,7 @@ AtFinal c = let start = c.args in
     let loop = c.loop-i in
     Final start.count start.sheet.now loop.priced loop.total c.band_at-here-2.result
 
-at-final : (c : After-band_at-here-2 → AtFinal c
+at-final : (c : After-band_at-here-2) → AtFinal c
 at-final c = let loop = c.loop-i in
     let e : loop.i ≡ length c.args.sheet.now / 8 - 1 = omega arith in
     final _ _ (accepted _ _ c.requires) _ _ _ (rw e at loop.invariant.1) _ c.band_at-here-2.ensures (omega (arith, some c.After-loop-i))

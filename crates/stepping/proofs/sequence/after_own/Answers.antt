@@ -25,4 +25,4 @@ unfolding resume
 returns-in-Again c = rw c.in-Again.is
 
 pub returns-in-Right : goal.returns-in-Right
-returns-in-Right c = c.above.ensures ∙ goes-up _ _ c.requires c.in-Right.keys2
+returns-in-Right c = c.above.ensures ∙ goes-up _ _ c.requires c.in-Right.in-Right-own.keys2

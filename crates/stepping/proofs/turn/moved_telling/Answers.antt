@@ -5,4 +5,4 @@ use Rattle.stepping.proofs.turn.moved_telling.Goals as goal
 
 pub returns : goal.returns
 unfolding go_telling
-returns c s number k m after = rw (c.before.before.operation-in.ensures, c.helps-after.ensures)
+returns c s number k m after = rw (c.operation_in.ensures, c.helps_after.ensures)

@@ -5,4 +5,5 @@ use Rattle.table.proofs.access.set_super_at.Goals as goal
 
 pub returns : goal.returns
 unfolding with_node_block node_block node_part
-returns c = rw (← c.start_of_lem.ensures, ← c.start_of-to.ensures, ← c.as_index.ensures) c.node_set_super.ensures
+returns c =
+    rw (← c.start_of-from.ensures, ← c.start_of-to.ensures, ← c.as_index.ensures) c.node_set_super.ensures

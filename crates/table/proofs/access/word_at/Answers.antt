@@ -6,4 +6,4 @@ use Rattle.table.proofs.access.word_at.Goals as goal
 
 pub returns : goal.returns
 unfolding word_in node_part
-returns c = rw (c.word_or_zero.ensures, c.as_index.ensures, c.start_of-to.ensures, c.start_of_lem.ensures)
+returns c = rw (c.word_or_zero.ensures, c.as_index.ensures, c.start_of-to.ensures, c.start_of-from.ensures)

@@ -6,4 +6,4 @@ use Rattle.table.proofs.access.word_in_place.Goals as goal
 
 pub returns : goal.returns
 unfolding word_in node_part
-returns c = rw (← c.start_of-to.ensures, ← c.start_of_lem.ensures, ← c.as_index.ensures)
+returns c = rw (← c.start_of-to.ensures, ← c.start_of-from.ensures, ← c.as_index.ensures)

@@ -19,4 +19,5 @@ returns-then-v-power t c =
     (omega (arith, e, c.height.ensures.0), omega arith)
 
 pub returns : goal.returns
-returns t c = (sym (height_low c.args.h c.args.v (rw (← c.power.ensures.0) c.if-v-power.false)), omega arith)
+returns t c =
+    (sym (height_low c.args.h c.args.v (rw (← c.power.ensures.0) c.if-v-power.false)), omega arith)

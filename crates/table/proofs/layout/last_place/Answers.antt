@@ -10,8 +10,7 @@ overflow_mul-result c = omega (arith, product_most c.args.l c.power.result 500 8
 
 pub returns : goal.returns
 unfolding last_place height_of
-returns c =
-    (
+returns c = (
   rw (c.power.ensures.0, c.height.ensures.0),
   product_most c.args.l c.power.result 500 8 c.requires.1 c.power.ensures.2,
 )

@@ -14,4 +14,5 @@ pub returns-then-k-eq2 : goal.returns-then-k-eq2
 returns-then-k-eq2 c = rw c.if-k-eq2.true (refl, omega arith, omega arith)
 
 pub returns : goal.returns
-returns c = rw (three _ c.requires c.if-k-eq0.false c.if-k-eq1.false c.if-k-eq2.false) (refl, omega arith, omega arith)
+returns c =
+    rw (three _ c.requires c.if-k-eq0.false c.if-k-eq1.false c.if-k-eq2.false) (refl, omega arith, omega arith)

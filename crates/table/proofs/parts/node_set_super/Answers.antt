@@ -5,4 +5,5 @@ use Rattle.tree.proofs.NodeParts.{put_back}
 use Rattle.table.proofs.parts.node_set_super.Goals as goal
 
 pub returns : goal.returns
-returns c = rw (← c.set_super.ensures) (put_back c.args.table.now c.set_super.new.0 c.args.from c.args.to c.requires.0)
+returns c =
+    rw (← c.set_super.ensures) (put_back c.args.table.now c.set_super.new.part c.args.from c.args.to c.requires.0)

@@ -5,4 +5,5 @@ use Rattle.tree.proofs.NodeParts.{put_back}
 use Rattle.table.proofs.parts.node_write.Goals as goal
 
 pub returns : goal.returns
-returns c = rw (← c.write_block.ensures) (put_back c.args.table.now c.write_block.new.0 c.args.from c.args.to c.requires.0)
+returns c =
+    rw (← c.write_block.ensures) (put_back c.args.table.now c.write_block.new.part c.args.from c.args.to c.requires.0)

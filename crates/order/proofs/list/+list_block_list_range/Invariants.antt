@@ -1,0 +1,30 @@
+-- `list::list_block` and `list::list_range` meet their contracts. Both measures are the node's height, which list_block
+-- lowers by one; a range counts for more than a block of its node. The invariant of the loop: the blocks after `from`,
+-- up to b, are stored.
+use Prim.Native.Nat.{ℕ, ◌+◌, ◌*◌, ◌-◌, ◌≤◌, ◌<◌}
+use native.Mathlib.Omega.{arith}
+use mathlib.Core.Path.{◌≡◌, refl, ap}
+use lib.ListN.{length}
+use borrow.Author.Rules.{rules}
+use Rattle.tree.specs.Shape.{left_of, right_of}
+use Rattle.order.specs.declared.Subtree.{Subtree}
+use Rattle.order.specs.Clauses.Opens.{RangeOf}
+use Rattle.order.specs.Clauses.Listed.{Lists, block_records, gathered}
+use Rattle.base.proofs.Stored.{stored_none}
+use Rattle.order.proofs.Storing.{room_first, room_second, lists_both, gathered_none, gathered_room, gathered_more}
+use Rattle.order.proofs.Subblocks.{subtree_low, block_first, block_place, range_block, block_parts}
+use Rattle.order.proofs.LeafRecords.{leaf_room, leaf_lists}
+use Rattle.order.proofs.list.+list_block_list_range.Given as goal
+
+abbrev pub decreases-list_block : goal.decreases-list_block
+decreases-list_block l = 2 * l.starts.1.1.0.height
+
+abbrev pub decreases-list-range : goal.decreases-list-range
+decreases-list-range l = 2 * a.1.1.1.0.height + 1
+
+-- ---- list_range
+abbrev pub invariant-loop-b : goal.invariant-loop-b
+invariant-loop-b l = (l.from ≤ l.b) × (l.b ≤ l.to) × (length l.out ≡ length l.initial.out) × Lists (RangeOf l.starts l.table l.list l.top l.from l.to) (gathered (block_records l.table l.list l.top) l.from l.b) l.initial.out l.at l.out l.end
+
+abbrev pub decreases-loop-b : goal.decreases-loop-b
+decreases-loop-b l = l.to - l.b
