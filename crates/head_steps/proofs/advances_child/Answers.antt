@@ -12,8 +12,8 @@ use Rattle.steps.specs.contracts.After as afters
 use Rattle.stepping.specs.Clauses.Next.{step_in}
 use Rattle.stepping.proofs.StepNames.{other, same_advance}
 use borrow.Author.Rules.{rules}
-use Rattle.head_steps.proofs.advances_child.Statement.{statement}
-use Rattle.head_steps.proofs.advances_child.Tie as tie
+use Rattle.head_steps.proofs.advances_child.Goals.{In-V3-2}
+use Rattle.head_steps.proofs.advances_child.Goals as goal
 
 -- by the arm
 of-child : (a : After) → OneOf (0 ∷ 1 ∷ []) (declared.tag_of afters.the_type a) → true ≡ of_child a
@@ -30,28 +30,18 @@ of-own Ends k = absurd (miss (2 ∷ 3 ∷ []) 1 tt k)
 of-own Again k = refl
 of-own Up k = refl
 
-at : (c : tie.After-after) → let x = c.after.given.0 in step_in c.before.before.before.args.q.status ≡ V3 x.0 x.1.0 x.1.1.0 x.1.1.1.0
-at c = sym c.before.before.step_in.ensures ∙ c.after.given.1
+at : (c : In-V3-2) → let x = c.after-1.given.0 in step_in c.args.q.status ≡ V3 x.0 x.1.0 x.1.1.0 x.1.1.1.0
+at c = sym c.step_in.ensures ∙ c.in-V3.is
 
-step-in-requires : tie.Need-step-in-requires
-step-in-requires c κs = search rules
+pub returns-in_default : goal.returns-in_default
+returns-in_default c = (λ _ _ _ _ e. absurd (other c.in_default.in_default-own.keys2 (c.step_in.ensures ∙ e) tt), λ _. refl)
 
-enum-known-after : tie.Need-enum-known-after
-enum-known-after c = search rules
+pub returns-in-Right : goal.returns-in-Right
+returns-in-Right c =
+    let here = at (goal.at.returns-in-Right c).In-V3-2 in
+    (λ _ _ _ _ e. of-child _ c.in-Right.in-Right-own.keys1 ∙ ap of_child (same_advance (sym here ∙ e)).0, λ no. absurd (no _ _ _ _ here))
 
-returns : tie.Need-returns
-returns c = (λ _ _ _ _ e. absurd (other c.match.keys2 (c.before.step_in.ensures ∙ e) tt), λ _. refl)
-
-returns-2 : tie.Need-returns-2
-returns-2 c =
-    let here = at c.before.before in
-    (λ _ _ _ _ e. of-child _ c.match2.keys1 ∙ ap of_child (same_advance (sym here ∙ e)).0, λ no. absurd (no _ _ _ _ here))
-
-returns-3 : tie.Need-returns-3
-returns-3 c =
-    let here = at c.before.before in
-    (λ _ _ _ _ e. of-own _ c.match2.keys2 ∙ ap of_child (same_advance (sym here ∙ e)).0, λ no. absurd (no _ _ _ _ here))
-
-pub advances-child-spec : {M : Type 1} → statement M
-advances-child-spec =
-    tie.close (tie.spec step-in-requires enum-known-after returns returns-2 returns-3)
+pub returns-in-Again : goal.returns-in-Again
+returns-in-Again c =
+    let here = at (goal.at.returns-in-Again c).In-V3-2 in
+    (λ _ _ _ _ e. of-own _ c.in-Again.in-Again-own.keys2 ∙ ap of_child (same_advance (sym here ∙ e)).0, λ no. absurd (no _ _ _ _ here))
