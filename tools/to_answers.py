@@ -192,6 +192,12 @@ def turn_body(turn, text, states, helpers, goal, var):
         return ".".join([var, step, *parts[1:]])
 
     text = path.sub(turn_path, text)
+    # the clauses of a call that a name stands for
+    for name, step, rest in re.findall(r"let\s+(\S+)\s+=\s+\S+?\.([^\s.]+)((?:\.ensures)?)\s+in", text):
+        fields = turn.clause_fields(step)
+        if fields:
+            label = re.escape(name) + ("" if rest else r"\.ensures")
+            text = re.sub(rf"(?<![\w.-])({label})\.(\d)(?!\d)", lambda m: f"{m[1]}.{fields[int(m[2])]}" if int(m[2]) < len(fields) else m[0], text)
     # states given to lemmas
     def given(found):
         k = int(found[1])

@@ -10,9 +10,9 @@ use Rattle.steps.specs.declared.Step.TheVariants.{V3}
 use Rattle.steps.specs.Rules.{of_child}
 use Rattle.steps.specs.contracts.After as afters
 use Rattle.stepping.specs.Clauses.Next.{step_in}
-use Rattle.stepping.proofs.StepNames.{other, same_advance}
+use Rattle.stepping.proofs.StepNames.{same_advance}
 use borrow.Author.Rules.{rules}
-use Rattle.head_steps.proofs.advances_child.Goals.{In-V3-2}
+use Rattle.head_steps.proofs.advances_child.Goals.{In-V3}
 use Rattle.head_steps.proofs.advances_child.Goals as goal
 
 -- by the arm
@@ -30,18 +30,18 @@ of-own Ends k = absurd (miss (2 ∷ 3 ∷ []) 1 tt k)
 of-own Again k = refl
 of-own Up k = refl
 
-at : (c : In-V3-2) → let x = c.after-1.given.0 in step_in c.args.q.status ≡ V3 x.0 x.1.0 x.1.1.0 x.1.1.1.0
+at : (c : In-V3) → step_in c.args.q.status ≡ V3 c.in-V3.after c.in-V3.visit c.in-V3.node c.in-V3.place
 at c = sym c.step_in.ensures ∙ c.in-V3.is
 
 pub returns-in_default : goal.returns-in_default
-returns-in_default c = (λ _ _ _ _ e. absurd (other c.in_default.in_default-own.keys2 (c.step_in.ensures ∙ e) tt), λ _. refl)
+returns-in_default c = (λ a b i j e. absurd (c.in_default.not-V3 a b i j (c.step_in.ensures ∙ e)), λ _. refl)
 
 pub returns-in-Right : goal.returns-in-Right
 returns-in-Right c =
-    let here = at (goal.at.returns-in-Right c).In-V3-2 in
+    let here = at (goal.at.returns-in-Right c).In-V3 in
     (λ _ _ _ _ e. of-child _ c.in-Right.in-Right-own.keys1 ∙ ap of_child (same_advance (sym here ∙ e)).0, λ no. absurd (no _ _ _ _ here))
 
 pub returns-in-Again : goal.returns-in-Again
 returns-in-Again c =
-    let here = at (goal.at.returns-in-Again c).In-V3-2 in
+    let here = at (goal.at.returns-in-Again c).In-V3 in
     (λ _ _ _ _ e. of-own _ c.in-Again.in-Again-own.keys2 ∙ ap of_child (same_advance (sym here ∙ e)).0, λ no. absurd (no _ _ _ _ here))

@@ -5,28 +5,28 @@ use Rattle.tree.specs.Memory.{head_of}
 use Rattle.steps.specs.declared.Step.TheVariants.{C1}
 use Rattle.steps.specs.Rules.{step, go}
 use Rattle.stepping.specs.Clauses.Next.{step_in}
-use Rattle.stepping.proofs.StepNames.{other, busy}
+use Rattle.stepping.proofs.StepNames.{busy}
 use borrow.Author.Rules.{rules}
-use Rattle.head_steps.proofs.step_c1.Goals.{In-C1-2}
+use Rattle.head_steps.proofs.step_c1.Goals.{In-C1}
 use Rattle.head_steps.proofs.step_c1.Goals as goal
 
-at : (c : In-C1-2) → step_in c.args.q.status ≡ C1 c.in-C1.visit
+at : (c : In-C1) → step_in c.args.q.status ≡ C1 c.in-C1.visit
 at c = sym c.step_in.ensures ∙ c.in-C1.is
 
 pub returns-in_default : goal.returns-in_default
-returns-in_default c = (λ _ e. absurd (other c.in_default.in_default-own.keys2 (c.step_in.ensures ∙ e) tt), λ _. (refl, refl))
+returns-in_default c = (λ a e. absurd (c.in_default.not-C1 a (c.step_in.ensures ∙ e)), λ _. (refl, refl))
 
 pub left_head-left-requires : goal.left_head-left-requires
-left_head-left-requires c = let p = c.requires.1 _ (at (goal.at.left_head-left-requires c).In-C1-2) in search rules
+left_head-left-requires c = let p = c.requires.1 _ (at (goal.at.left_head-left-requires c).In-C1) in search rules
 
 pub overflow_sub-left : goal.overflow_sub-left
-overflow_sub-left c = let p = c.requires.1 _ (at (goal.at.overflow_sub-left c).In-C1-2) in search rules
+overflow_sub-left c = let p = c.requires.1 _ (at (goal.at.overflow_sub-left c).In-C1) in search rules
 
 pub moved-requires : goal.moved-requires
-moved-requires c = (search rules, busy _ (at (goal.at.moved-requires c).In-C1-2) tt)
+moved-requires c = (search rules, busy _ (at (goal.at.moved-requires c).In-C1) tt)
 
 pub returns : goal.returns
 unfolding step go head_of left_of
 returns c =
-    let here = at (goal.at.returns c).In-C1-2 in
+    let here = at (goal.at.returns c).In-C1 in
     (λ _ _. rw c.moved.ensures (refl, λ s number k o table. rw (here, c.left_head-left.ensures)), λ no. absurd (no _ here))
