@@ -37,7 +37,7 @@ returns c =
               c.after_refresh.ensures,
               c.write_if_absent-success.ensures.words_after,
               node_written s _ _ _ _ _ g,
-              c.Block-of.ensures,
+              c.block_of.ensures,
               c.write_if_absent-success.ensures.value,
               node_read s _ _ _ _ g,
             ),
