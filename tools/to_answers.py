@@ -167,7 +167,7 @@ def turn_body(turn, text, states, helpers, goal, var):
         at = states[v]
         # a bare state, as a lemma takes it
         if not rest:
-            return f"\1{turn.up(at, befores)}\2"
+            return f"\1{turn.up(at, befores)}\2" if goal else var + found[2]
         parts = rest.split(".")[1:]
         for n in range(len(parts), 1, -1):
             arm = turn.arms.get((alike(parts[0]), tuple(parts[1:n])))
@@ -192,6 +192,8 @@ def turn_body(turn, text, states, helpers, goal, var):
         return ".".join([var, step, *parts[1:]])
 
     text = path.sub(turn_path, text)
+    # a test of `!x` says what x is
+    text = re.sub(r"not-(?:true|false) (?:\([^()]*\)|\S+) (\S+?\.if-not-[^\s.]+\.(?:true|false))", r"\1", text)
     # the clauses of a call that a name stands for
     for name, step, rest in re.findall(r"let\s+(\S+)\s+=\s+\S+?\.([^\s.]+)((?:\.ensures)?)\s+in", text):
         fields = turn.clause_fields(step)

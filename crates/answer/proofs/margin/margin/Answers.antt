@@ -28,4 +28,4 @@ returns c =
       to_z_pos w64 {n = c.args.size + c.args.puts} (omega arith),
       to_z_pos w64 {n = c.args.i} (omega arith),
     )
-    (to_z-of_z (record { sfits = mag_sub (c.args.size + c.args.puts) c.args.i (2 ^ 63) (omega arith) (omega arith) }))
+    (to_z-of_z {w = w64} (record { sfits = mag_sub (c.args.size + c.args.puts) c.args.i (2 ^ 63) (omega arith) (omega arith) }))
