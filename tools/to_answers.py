@@ -86,20 +86,16 @@ class Turn:
     def step(self, at, befores, field):
         """The new name of a step seen from a place after some '.before'."""
         field = re.sub(r"_lem$", "", field)
-        k = at
-        for _ in range(befores):
-            parent = self.places[k][1]
-            if parent is None:
-                break
-            k = self.by_name[parent]
-        seen = k
+        seen = at
         # the step itself, or one before it
-        while True:
-            if alike(self.places[k][2][0]) == alike(field) or alike(self.places[k][2][1]) == alike(field):
-                return self.places[k][2][1]
-            if self.places[k][1] is None:
-                break
-            k = self.by_name[self.places[k][1]]
+        for which in (0, 1):
+            k = at
+            while True:
+                if alike(self.places[k][2][which]) == alike(field):
+                    return self.places[k][2][1]
+                if self.places[k][1] is None:
+                    break
+                k = self.by_name[self.places[k][1]]
         if field in ("args", "requires", "ranges", "auto", "lifetimes"):
             return field
         self.problems.append(f"no step {field} at {self.places[seen][0]}")
