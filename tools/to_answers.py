@@ -108,12 +108,16 @@ class Turn:
                 return self.clauses[k]["fields"]
         return None
 
-    def param(self, step, n):
-        """The parameter of a call that a place of its '.new' stands for."""
+    def with_param(self, step, parts):
+        """The path of a call's '.new' or '.auto' with the parameter's name: '1.1.0' is the third."""
+        n = 2
+        while parts[n : n + 1] == ["1"]:
+            n += 1
+        count, n = n - 2, n + (parts[n : n + 1] == ["0"])
         for it in self.places:
-            if it[2][1] == step and it[3] in self.params:
-                return self.params[it[3]][n]
-        return str(n)
+            if it[2][1] == step and it[3] in self.params and n > 2:
+                return [*parts[:2], self.params[it[3]][count], *parts[n:]]
+        return parts
 
     def typed(self, at, step):
         """The variable whose type a step told of."""
@@ -183,13 +187,20 @@ def turn_body(turn, text, states, helpers, goal, var):
         known = turn.typed(turn.up(at, befores), step)
         if known and parts[1:2] == ["given"]:
             return ".".join([var, "type_inv", known, *parts[2:]])
-        if parts[1:2] == ["new"] and parts[2:3] and parts[2].isdigit():
-            parts[2] = turn.param(step, int(parts[2]))
+        if parts[1:2] in (["new"], ["auto"]):
+            parts = turn.with_param(step, parts)
         return ".".join([var, step, *parts[1:]])
 
     text = path.sub(turn_path, text)
     # a test of `!x` says what x is
     text = re.sub(r"not-(?:true|false) (?:\([^()]*\)|\S+) (\S+?\.if-not-[^\s.]+\.(?:true|false))", r"\1", text)
+    # what a name that stands for a call has of its parameters
+    for name, step in re.findall(r"let\s+(\S+)\s+=\s+\S+?\.([^\s.]+)\s+in", text):
+        text = re.sub(
+            rf"(?<![\w.-]){re.escape(name)}(\.(?:new|auto)(?:\.[01])+)",
+            lambda m: name + "." + ".".join(turn.with_param(step, ["", *m[1].split(".")[1:]])[1:]),
+            text,
+        )
     # the clauses of a call that a name stands for
     for name, step, rest in re.findall(r"let\s+(\S+)\s+=\s+\S+?\.([^\s.]+)((?:\.ensures)?)\s+in", text):
         fields = turn.clause_fields(step)
