@@ -96,6 +96,11 @@ class Turn:
                 if self.places[k][1] is None:
                     break
                 k = self.by_name[self.places[k][1]]
+        for it in self.places:
+            if alike(it[2][0]) == alike(field):
+                return it[2][1]
+        if field == "well-formed":
+            return "well_formed"
         if field in ("args", "requires", "ranges", "auto", "lifetimes"):
             return field
         self.problems.append(f"no step {field} at {self.places[seen][0]}")
@@ -131,7 +136,6 @@ class Turn:
         for _ in range(befores):
             parent = self.places[k][1]
             if parent is None:
-                self.problems.append("too many '.before'")
                 return k
             k = self.by_name[parent]
         return k
@@ -212,7 +216,14 @@ def turn_body(turn, text, states, helpers, goal, var):
         k = int(found[1])
         return place_record(k, None if goal else states.get(var))
 
-    return re.sub("\1(\\d+)\2", given, text)
+    text = re.sub("\1(\\d+)\2", given, text)
+    for name, k in helpers.items() if goal else ():
+        text = re.sub(
+            rf"(?<![\w.-])({re.escape(name)} \(goal\.at\.\S+ {re.escape(var)}\)\.)[\w-]+",
+            lambda m: m[1] + turn.new_place[k],
+            text,
+        )
+    return text
 
 
 def parts_of(text):
