@@ -10,6 +10,8 @@ ghost use Rattle.node_starts.specs.NodeStarts.{node_starts};
 ghost use Rattle.print_nodes.specs.NodesText.{row_line, table_text};
 
 use node_starts::node_starts;
+use std::io;
+use std::io::Write;
 use text::{put_decimal, put_number, put_text};
 
 // Numbers, one space before each. Returns the index after them.
@@ -48,9 +50,9 @@ fn table_text() -> [u8; 153]
     out
 }
 
-// Only writes; the text is made by table_text. No contract of the library io says which bytes a call writes, so main
-// promises nothing of them.
-fn main() {
+// Only writes; the text is made by table_text. No contract of the library says which bytes reach standard output, so
+// main promises nothing of them. A write that fails ends it with the error.
+fn main(rt: HostRuntime) -> io::Result<()> {
     let text = table_text();
-    io::write_all(1, &text);
+    rt.stdout().write_all(&text)
 }
