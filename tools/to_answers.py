@@ -52,6 +52,8 @@ class Turn:
         self.asked_at = of["asked_at"]
         self.loops = of["loops"]
         self.changed = of["changed"]
+        self.stem = of["stem"]
+        self.measured = False
         self.types = of["typed"]
         self.pre = (of["pre"] or {}).get("fields")
         self.clauses = of["clauses"]
@@ -72,7 +74,7 @@ class Turn:
         label = re.sub(r"^overflow-", "", alike(label))
         for k, (old, new) in enumerate(self.needs):
             if re.sub(r"^overflow-", "", alike(old)) == label:
-                return k, new
+                return k, self.stem + new
         return None, None
 
     def place(self, label):
@@ -107,8 +109,7 @@ class Turn:
         """The names of the clauses of a call that is a step."""
         for k, it in enumerate(self.places):
             if it[2][1] == step and self.clauses[k]:
-                fields = self.clauses[k]
-                return fields if isinstance(fields, list) and all(isinstance(x, str) for x in fields) else fields
+                return self.clauses[k]["fields"]
         return None
 
     def param(self, step, n):
@@ -173,6 +174,8 @@ def turn_body(turn, text, states, helpers, goal, var):
             if arm:
                 return ".".join([var, arm, *parts[n:]])
         step = turn.step(at, befores, parts[0])
+        if turn.measured and parts[0] == "requires" and parts[1:2] == ["1"]:
+            del parts[1]
         if step in turn.owns and parts[1:2] and re.match(r"keys\d", parts[1]):
             step = turn.owns[step]
         if parts[0] == "requires" and turn.pre and parts[1:2] and parts[1].isdigit():
@@ -189,6 +192,12 @@ def turn_body(turn, text, states, helpers, goal, var):
         return ".".join([var, step, *parts[1:]])
 
     text = path.sub(turn_path, text)
+    # the clauses of a call that a name stands for
+    for name, step, rest in re.findall(r"let\s+(\S+)\s+=\s+\S+?\.([^\s.]+)((?:\.ensures)?)\s+in", text):
+        fields = turn.clause_fields(step)
+        if fields:
+            label = re.escape(name) + ("" if rest else r"\.ensures")
+            text = re.sub(rf"(?<![\w.-])({label})\.(\d)(?!\d)", lambda m: f"{m[1]}.{fields[int(m[2])]}" if int(m[2]) < len(fields) else m[0], text)
     # states given to lemmas
     def given(found):
         k = int(found[1])
@@ -238,9 +247,16 @@ def as_record(body, fields, turn, goal):
     return text[:k] + ("record { " if not k or text[k - 1] in " (\n" else " record { ") + made + " }"
 
 
-def turn_function(folder, of, crate, module):
-    turn = Turn(of)
+def turn_function(folder, all_of, crate, module):
     text = open(f"{folder}/Proof.antt").read()
+    turns = {}
+    for label, of in all_of.items():
+        alias = re.search(rf"\.Lts-{re.escape(label)} as (\S+)", text) if label else None
+        turns[alias[1] if alias else label] = Turn(of)
+    turn = next(iter(turns.values()))
+    for it in turns.values():
+        it.records, it.problems = turn.records, turn.problems
+        it.measured = "/+" in folder
     parts = blocks(text)
     head = parts[0][1] if parts[0][0] is None else []
     uses = [it for it in head if it.startswith("use ")]
@@ -276,13 +292,15 @@ def turn_function(folder, of, crate, module):
         rest = code[body_at:]
         if re.search(r"-spec$|_spec$", name) or "statement" in sig:
             continue
+        turn = next((it for label, it in turns.items() if label and re.search(rf"(?<![^\s(]){re.escape(label)}\.(Need-|invariant-|decreases-|After|At|In|Then|Else|Start)", sig)), next(iter(turns.values())))
         if re.search(r": Measures ", sig):
             clause = "\n".join(rest)
             measured_name = re.match(r"(?:abbrev )?μ-(\S+)", name)[1]
-            params = next((v for k, v in turn.params.items() if alike(k.split("::")[-1]) == alike(measured_name)), [])
-            function = next((k.split("::")[-1] for k in turn.params if alike(k.split("::")[-1]) == alike(measured_name)), measured_name)
+            every = {k: v for it in turns.values() for k, v in it.params.items()}
+            params = next((v for k, v in every.items() if alike(k.split("::")[-1]) == alike(measured_name)), [])
+            function = next((k.split("::")[-1] for k in every if alike(k.split("::")[-1]) == alike(measured_name)), measured_name)
             body = clause.split(" = ", 1)[1]
-            body = re.sub(r"\ba\.(\d+)", lambda m: f"l.{params[int(m[1])]}" if int(m[1]) < len(params) else m[0], body)
+            body = re.sub(r"\ba((?:\.1)*)(\.0)?(?!\d)", lambda m: f"l.{params[m[1].count('.1')]}", body)
             invariants.append((notes, f"decreases-{function}", body, True))
             continue
         if re.search(r": ℕ → In |\.Claims$", sig):
@@ -308,7 +326,7 @@ def turn_function(folder, of, crate, module):
             out = []
             for k, it in enumerate(pieces):
                 out.append(of_arg[it] if it in of_arg and (k == 0 or pieces[k - 1] != ".") else it)
-            invariants.append((notes, f"{kind}-{new_loop}", "".join(out), m[0].startswith("abbrev")))
+            invariants.append((notes, f"{kind}-{turn.stem}{new_loop}", "".join(out), m[0].startswith("abbrev")))
             continue
         need = re.search(r"\.Need-([^\s)]+)", sig)
         if need:
@@ -407,17 +425,20 @@ def main():
     names = json.load(open(sys.argv[1]))
     only = sys.argv[2:]
     crate = os.path.basename(os.getcwd())
+    folders = {}
     for key, of in names.items():
         m = re.match(rf"Rattle-{crate}-proofs\.(.*)\.Lts(?:-(.*))?$", key)
         if not m:
             continue
-        folder = "proofs/" + m[1].replace(".", "/")
+        folders.setdefault(m[1], {})[m[2] or ""] = of
+    for label, all_of in folders.items():
+        folder = "proofs/" + label.replace(".", "/")
         if only and not any(it in folder for it in only):
             continue
         if not os.path.exists(f"{folder}/Proof.antt"):
             continue
         try:
-            turn_function(folder, of, crate, f"Rattle.{crate}.proofs.{m[1]}")
+            turn_function(folder, all_of, crate, f"Rattle.{crate}.proofs.{label}")
         except Exception as e:
             print(f"{folder}: {type(e).__name__} {e}")
 

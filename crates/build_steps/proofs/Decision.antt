@@ -1,9 +1,9 @@
 -- C3N by its decision: the outcome that was decided for is the one of the rules.
-use Rattle.std.specs.Prelude.{if◌then◌else◌}
 use Prim.Native.Nat.{ℕ, ◌-◌}
 use mathlib.Core.Path.{◌≡◌, refl}
 use mathlib.Core.Bool.{Bool}
 use mathlib.Core.List.{List}
+use Rattle.std.specs.Prelude.{if◌then◌else◌}
 use Rattle.tree.specs.Memory.{block}
 use Rattle.tree.specs.Clauses.Access.{node_block}
 use Rattle.tree.proofs.NodeReads.{node_read}

@@ -99,7 +99,7 @@ module _ (s : Shape) (m : Memory) (sound : Sound s m) (o : Operation) (u i z : �
     pub seen_turn : (n : Step) (d : Side) → Present s m (child_of d u) i → i ≤ head_of m (child_of d u) → Carried s m hold k b (stage n) → Seen m d u i z (Busy o n)
         → Seen (step s number k o m n).memory d u i z (step s number k o m n).next
     unfolding step go_telling go resume set_super write head_of built
-    seen_turn A d here low carried q = seen_advance d _ _ Up (leaf_of s k) (head_of m (leaf_of s k)) (λ e l. tt)
+    seen_turn A d here low carried q = seen_advance d (step s number k o m A).memory _ Up (leaf_of s k) (head_of m (leaf_of s k)) (λ e l. tt)
     seen_turn (V1 a w v h) d here low carried q = q
     seen_turn (V2 a w v h x) d here low carried q = λ e l. covers_rises m (set_super s m v h x) d u i (le_refl _) (help_sight a d v h) (q e l)
     seen_turn (V3 a w v h) d here low carried q = seen_resume sized d a w v h carried.node carried.present q
@@ -129,6 +129,6 @@ module _ (s : Shape) (m : Memory) (sound : Sound s m) (o : Operation) (u i z : �
         seen_built onLeft q = q
         seen_built onRight q = q
     seen_turn (C4 w n) d here low carried q =
-        seen_advance d _ w _ w.node w.head
+        seen_advance d (step s number k o m (C4 w n)).memory w _ w.node w.head
         (λ e l. next_refresh (λ (a : After). Covers (step s number k o m (C4 w n)).memory d u i (help_sight a d w.node w.head)) tt tt w.refresh (absent (block s m w.node w.head)))
     seen_turn Q d here low carried q = tt

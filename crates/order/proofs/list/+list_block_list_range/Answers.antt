@@ -19,34 +19,86 @@ use Rattle.order.proofs.list.+list_block_list_range.Goals as goal
 abbrev height : Subtree → ℕ
 height y = y.height
 
-pub returns : goal.returns
-returns t c = leaf_lists c.if1.true c.list-leaf.ensures
+-- ---- list_block: a leaf
+pub list_block-list_leaf-requires : goal.list_block-list_leaf-requires
+list_block-list_leaf-requires t c = leaf_room c.if-top-eq0.true c.requires
 
-pub loop-b-init : goal.loop-b-init
-loop-b-init t c =
-    (omega arith, c.requires.1.holds.rises, refl, λ s heads g. rw gathered_none (stored_none _ _))
+pub list_block-returns-then-top-eq0 : goal.list_block-returns-then-top-eq0
+list_block-returns-then-top-eq0 t c = leaf_lists c.if-top-eq0.true c.list_leaf.ensures
 
-pub overflow_add-b : goal.overflow_add-b
-overflow_add-b t c = omega (arith, c.ranges.to)
+-- ---- list_block: a node above the leaves
+pub list_block-overflow_sub-b : goal.list_block-overflow_sub-b
+list_block-overflow_sub-b t c = block_first c.requires.holds
 
-pub list_block-end-requires : goal.list_block-end-requires
-list_block-end-requires t c =
+pub list_block-block_at-old-requires : goal.list_block-block_at-old-requires
+list_block-block_at-old-requires t c = block_place c.requires.holds _ (omega arith)
+
+pub list_block-block_at-new-requires : goal.list_block-block_at-new-requires
+list_block-block_at-new-requires t c = block_place c.requires.holds _ (omega arith)
+
+pub list_block-overflow_mul-top : goal.list_block-overflow_mul-top
+list_block-overflow_mul-top t c = omega (arith, subtree_low c.requires.holds.within)
+
+pub list_block-child-left-requires : goal.list_block-child-left-requires
+list_block-child-left-requires t c = let n = c.if-top-eq0.false in omega arith
+
+pub list_block-overflow_mul-top-2 : goal.list_block-overflow_mul-top-2
+list_block-overflow_mul-top-2 t c = omega (arith, subtree_low c.requires.holds.within)
+
+pub list_block-overflow_add-top : goal.list_block-overflow_add-top
+list_block-overflow_add-top t c = omega (arith, subtree_low c.requires.holds.within)
+
+pub list_block-child-right-requires : goal.list_block-child-right-requires
+list_block-child-right-requires t c = let n = c.if-top-eq0.false in omega arith
+
+pub list_block-list_range-next-requires : goal.list_block-list_range-next-requires
+unfolding left_of right_of
+list_block-list_range-next-requires t c =
+    let p = c.requires in (
+      omega (arith, ap height c.child-left.ensures, ap height c.child-right.ensures),
+      room_first (block_parts c.if-top-eq0.false c.block_at-old.ensures c.block_at-new.ensures c.child-left.ensures c.child-right.ensures) _ _ p,
+    )
+
+pub list_block-list_range-requires : goal.list_block-list_range-requires
+unfolding left_of right_of
+list_block-list_range-requires t c =
+    let p = c.requires in (
+      omega (arith, ap height c.child-left.ensures, ap height c.child-right.ensures),
+      room_second (block_parts c.if-top-eq0.false c.block_at-old.ensures c.block_at-new.ensures c.child-left.ensures c.child-right.ensures)
+          c.list_range-next.ensures p,
+    )
+
+pub list_block-returns : goal.list_block-returns
+unfolding left_of right_of
+list_block-returns t c =
+    lists_both (block_parts c.if-top-eq0.false c.block_at-old.ensures c.block_at-new.ensures c.child-left.ensures c.child-right.ensures)
+    c.list_range-next.ensures c.list_range.ensures
+
+pub list_range-loop-b-init : goal.list_range-loop-b-init
+list_range-loop-b-init t c =
+    (omega arith, c.requires.holds.rises, refl, λ s heads g. rw gathered_none (stored_none _ _))
+
+pub list_range-overflow_add-b : goal.list_range-overflow_add-b
+list_range-overflow_add-b t c = omega (arith, c.ranges.to)
+
+pub list_range-list_block-end-requires : goal.list_range-list_block-end-requires
+list_range-list_block-end-requires t c =
     let p = c.requires in
     let i = c.loop-b.invariant in
     let l = c.loop-b-test.true in
-    (omega (arith, p.0), gathered_room _ i.0 (range_block _ l) i.3 _ l p.1)
+    (omega arith, gathered_room _ i.0 (range_block _ l) i.3 _ l p)
 
-pub loop-b-preserved : goal.loop-b-preserved
-loop-b-preserved t c =
+pub list_range-loop-b-preserved : goal.list_range-loop-b-preserved
+list_range-loop-b-preserved t c =
     let i = c.loop-b.invariant in
     let l = c.loop-b-test.true in
     (omega arith, omega arith, search rules, gathered_more _ i.0 (range_block _ l) i.3 c.list_block-end.ensures)
 
-pub shape_of-out : goal.shape_of-out
-shape_of-out t c = c.loop-b.invariant.2
+pub list_range-shape_of-out : goal.list_range-shape_of-out
+list_range-shape_of-out t c = c.loop-b.invariant.2
 
-pub returns : goal.returns
-returns t c =
+pub list_range-returns : goal.list_range-returns
+list_range-returns t c =
     let i = c.loop-b.invariant in
     let e : c.loop-b.b ≡ c.args.to = omega arith in
     λ s heads g. rw e at (i.3 s heads g)

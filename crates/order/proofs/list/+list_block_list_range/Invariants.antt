@@ -17,14 +17,14 @@ use Rattle.order.proofs.LeafRecords.{leaf_room, leaf_lists}
 use Rattle.order.proofs.list.+list_block_list_range.Given as goal
 
 abbrev pub decreases-list_block : goal.decreases-list_block
-decreases-list_block l = 2 * l.starts.1.1.0.height
+decreases-list_block l = 2 * l.top.height
 
-abbrev pub decreases-list-range : goal.decreases-list-range
-decreases-list-range l = 2 * a.1.1.1.0.height + 1
+abbrev pub decreases-list_range : goal.decreases-list_range
+decreases-list_range l = 2 * l.top.height + 1
 
 -- ---- list_range
-abbrev pub invariant-loop-b : goal.invariant-loop-b
-invariant-loop-b l = (l.from ≤ l.b) × (l.b ≤ l.to) × (length l.out ≡ length l.initial.out) × Lists (RangeOf l.starts l.table l.list l.top l.from l.to) (gathered (block_records l.table l.list l.top) l.from l.b) l.initial.out l.at l.out l.end
+abbrev pub invariant-list_range-loop-b : goal.invariant-list_range-loop-b
+invariant-list_range-loop-b l = (l.from ≤ l.b) × (l.b ≤ l.to) × (length l.out ≡ length l.initial.out) × Lists (RangeOf l.starts l.table l.list l.top l.from l.to) (gathered (block_records l.table l.list l.top) l.from l.b) l.initial.out l.at l.out l.end
 
-abbrev pub decreases-loop-b : goal.decreases-loop-b
-decreases-loop-b l = l.to - l.b
+abbrev pub decreases-list_range-loop-b : goal.decreases-list_range-loop-b
+decreases-list_range-loop-b l = l.to - l.b

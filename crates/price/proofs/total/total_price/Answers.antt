@@ -10,7 +10,7 @@ use Rattle.price.proofs.Bands.{bands_length}
 use Rattle.price.proofs.SheetTests.{accepted}
 use Rattle.price.proofs.Priced.{Priced, priced_none}
 use Rattle.price.proofs.PricedSheet.{Next, Final, next, final}
-use Rattle.price.proofs.total.total_price.Goals.{After-band_at-here-2, After-last_within-last, After-loop-i}
+use Rattle.price.proofs.total.total_price.Goals.{After-band_at-here-2, After-last_within-last}
 use Rattle.price.proofs.total.total_price.Goals as goal
 
 pub overflow_sub-others : goal.overflow_sub-others
@@ -30,30 +30,26 @@ at_next c = let loop = c.loop-i in
     next _ _ (accepted _ _ c.requires) _ _ _ loop.invariant.1 _ c.band_at-here.ensures (omega arith) _ c.last_within-last.ensures
 
 pub with_band-total-requires : goal.with_band-total-requires
-with_band-total-requires c = ((at_next (goal.at.with_band-total-requires c).After-last_within-last).rest, (at_next (goal.at.with_band-total-requires c).After-last_within-last).ranges)
+with_band-total-requires c = ((at_next (goal.at.with_band-total-requires c).After-last_within-last).rest, (at_next (goal.at.with_band-total-requires c).After-last_within-last).fits)
 
 pub loop-i-preserved : goal.loop-i-preserved
 loop-i-preserved c = (omega arith, rw c.with_band-total.ensures (at_next (goal.at.loop-i-preserved c).After-last_within-last).then)
 
--- there is a last band
-some : (c : After-loop-i) → 1 ≤ length c.args.sheet.now / 8
-some c = omega (arith, (accepted _ _ c.requires).some, bands_length c.args.sheet.now)
-
 pub band_at-here-requires-2 : goal.band_at-here-requires-2
-band_at-here-requires-2 c = omega (arith, some (goal.at.band_at-here-requires-2 c).After-loop-i)
+band_at-here-requires-2 c = omega (arith, (accepted _ _ c.requires).some, bands_length c.args.sheet.now)
 
 abbrev AtFinal : After-band_at-here-2 → Type 0
 AtFinal c = let start = c.args in
     let loop = c.loop-i in
     Final start.count start.sheet.now loop.priced loop.total c.band_at-here-2.result
 
-at-final : (c : After-band_at-here-2) → AtFinal c
-at-final c = let loop = c.loop-i in
+at_final : (c : After-band_at-here-2) → AtFinal c
+at_final c = let loop = c.loop-i in
     let e : loop.i ≡ length c.args.sheet.now / 8 - 1 = omega arith in
-    final _ _ (accepted _ _ c.requires) _ _ _ (rw e at loop.invariant.1) _ c.band_at-here-2.ensures (omega (arith, some c.After-loop-i))
+    final _ _ (accepted _ _ c.requires) _ _ _ (rw e at loop.invariant.1) _ c.band_at-here-2.ensures (omega (arith, (accepted _ _ c.requires).some, bands_length c.args.sheet.now))
 
 pub with_band-requires : goal.with_band-requires
-with_band-requires c = ((at-final (goal.at.with_band-requires c).After-band_at-here-2).rest, (at-final (goal.at.with_band-requires c).After-band_at-here-2).ranges)
+with_band-requires c = ((at_final (goal.at.with_band-requires c).After-band_at-here-2).rest, (at_final (goal.at.with_band-requires c).After-band_at-here-2).fits)
 
 pub returns : goal.returns
-returns c = c.with_band.ensures ∙ (at-final (goal.at.returns c).After-band_at-here-2).all
+returns c = c.with_band.ensures ∙ (at_final (goal.at.returns c).After-band_at-here-2).all

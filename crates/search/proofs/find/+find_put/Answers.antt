@@ -6,19 +6,19 @@ use Prim.Native.Nat.{ℕ, ◌<◌}
 use Rattle.search.proofs.find.+find_put.Goals as goal
 
 pub block_at-requires : goal.block_at-requires
-block_at-requires t c = find_place c.requires.1.holds.holds
+block_at-requires t c = find_place c.requires.holds.holds
 
 pub returns-then-height-eq0 : goal.returns-then-height-eq0
 returns-then-height-eq0 t c = λ s heads f. rw c.block_at.ensures (leaf_found s heads _ _ _ _ _ _ f c.if-height-eq0.true)
 
 pub descend-d-requires : goal.descend-d-requires
-descend-d-requires t c = down_ready c.requires.1.holds.holds c.if-height-eq0.false
+descend-d-requires t c = down_ready c.requires.holds.holds c.if-height-eq0.false
 
 pub first_place-c-requires : goal.first_place-c-requires
-first_place-c-requires t c = (down_to c.requires.1.holds.holds c.if-height-eq0.false _ c.descend-d.ensures).ready
+first_place-c-requires t c = (down_to c.requires.holds.holds c.if-height-eq0.false _ c.descend-d.ensures).ready
 
 pub find_put-requires : goal.find_put-requires
-find_put-requires t c = let p = c.requires.1 in (
+find_put-requires t c = let p = c.requires in (
   omega arith,
   some_two _ _ ((down_to p.holds.holds c.if-height-eq0.false _ c.descend-d.ensures).finds _ c.first_place-c.ensures),
 )

@@ -6,4 +6,4 @@ use Prim.Native.Nat.{ℕ, ◌<◌}
 use Rattle.search.proofs.find.+find_put.Given as goal
 
 abbrev pub decreases-find_put : goal.decreases-find_put
-decreases-find_put l = l.starts.1.0
+decreases-find_put l = l.height

@@ -1,0 +1,34 @@
+-- `build_steps::adds_nothing` meets its contract.
+use mathlib.Core.Path.{◌≡◌, refl, sym, ◌∙◌}
+use Rattle.steps.specs.declared.Step.TheVariants.{C3N}
+use Rattle.stepping.specs.Clauses.Next.{step_in}
+use Rattle.steps.specs.Clauses.Ready.{Decides}
+use Rattle.stepping.proofs.StepNames.{same_registers}
+use borrow.Author.Rules.{rules}
+use Rattle.build_steps.proofs.adds_nothing.Goals.{In-C3N}
+use Rattle.build_steps.proofs.adds_nothing.Goals as goal
+
+at : (c : In-C3N) → step_in c.args.q.status ≡ C3N c.in-C3N.visit c.in-C3N.left c.in-C3N.right c.in-C3N.puts c.in-C3N.takes
+at c = sym c.step_in.ensures ∙ c.in-C3N.is
+
+-- what is required of the memory at this C3N
+decides : (c : In-C3N) → let a = c.args in Decides a.starts.now a.table.now c.in-C3N.visit c.in-C3N.puts c.in-C3N.takes
+decides c = c.requires _ _ _ _ _ (at c)
+
+pub returns-in_default : goal.returns-in_default
+returns-in_default c = (λ a b i j k e. absurd (c.in_default.not-C3N a b i j k (c.step_in.ensures ∙ e)), λ _. refl)
+
+pub overflow_sub-visit : goal.overflow_sub-visit
+overflow_sub-visit c = let p = decides (goal.at.overflow_sub-visit c).In-C3N in search rules
+
+pub totals_at-old-requires : goal.totals_at-old-requires
+totals_at-old-requires c = (decides (goal.at.totals_at-old-requires c).In-C3N).place
+
+pub returns : goal.returns
+returns c =
+    let here = at (goal.at.returns c).In-C3N in (
+      λ _ _ _ _ _ e.
+          let same = same_registers (sym here ∙ e) in
+          rw (← same.0, ← same.3, ← same.4) (c.same_totals.ensures _ c.totals_at-old.ensures),
+      λ no. absurd (no _ _ _ _ _ here),
+    )
