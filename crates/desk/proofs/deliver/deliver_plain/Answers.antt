@@ -14,8 +14,8 @@ AtList = After-otq_list_order-listed
 
 abbrev IsListed : After-otq_list_order-listed → Type 0
 IsListed c = let last = c.otq_list_order-listed.new in
-    ListedBy c.args.p c.args.l c.args.licensed c.args.records.now c.args.table.now (replicate 32000 0) c.otq_list_order-listed.result last.1.1.1.0
-    last.1.1.1.1.0
+    ListedBy c.args.p c.args.l c.args.licensed c.args.records.now c.args.table.now (replicate 32000 0) c.otq_list_order-listed.result last.table
+    last.output
 
 listed_at : (c : After-otq_list_order-listed) → IsListed c
 listed_at c = record { allowed = c.requires.0; room = length-replicate {A = ℕ} 32000 0; left = c.otq_list_order-listed.ensures }
