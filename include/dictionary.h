@@ -1,8 +1,8 @@
 /* The legal dictionary for C and C++ on Linux, x86-64: two calls, each proved and a product of its own.
 
-   - The delivery desk, desk_deliver: which terms were delivered. `rt staticlib desk` writes its archive,
+   - The delivery desk, desk_deliver: which terms were delivered. `.ci/archive desk` writes its archive,
      target/staticlib/libdesk.a.
-   - The price sheet, price_deliveries: what a number of deliveries costs. `rt staticlib price` writes its
+   - The price sheet, price_deliveries: what a number of deliveries costs. `.ci/archive price` writes its
      archive, target/staticlib/libprice.a.
 
    A program links the archive of each call that it uses. Neither needs another library, and both may be
@@ -133,7 +133,7 @@ typedef struct PriceTotal {
 } PriceTotal;
 
 /* What the deliveries 1 to count cost by the sheet. Proved: for every input the result is what a definition
-   gives, `priceDeliveries` in crates/price/specs/Price.antt; and it is exact: without a refusal
+   gives, `price_deliveries` in crates/price/specs/Price.antt; and it is exact: without a refusal
    100 * cents + remainder is the sum of each delivery's price, and the remainder is 0 to 99. Nothing is
    rounded, and with the largest numbers that are taken nothing overflows. */
 PriceTotal price_deliveries(uint32_t count, const uint8_t *sheet, size_t sheet_bytes);

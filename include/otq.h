@@ -1,5 +1,5 @@
 /* The proved library for C and C++ on Linux, x86-64: a first-in first-out queue shared by several
-   processes, played step by step as a list of step records says. `rt staticlib queue` writes the archive
+   processes, played step by step as a list of step records says. `.ci/archive queue` writes the archive
    to link, target/staticlib/libqueue.a. otq_text.h has the text of each refusal.
 
    Every call takes p, the number of processes (2, 4 or 8), and l, the most operations of one process

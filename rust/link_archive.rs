@@ -1,7 +1,7 @@
 //! For build scripts: links the archive of a proved library, `target/staticlib/libNAME.a` of the
 //! repository.
 //!
-//! `rt staticlib NAME` writes it. It is not run from here: it proves the library, which takes
+//! `.ci/archive NAME` writes it. It is not run from here: it proves the library, which takes
 //! minutes that cargo would show nothing of, and builds at the same time would write to one folder.
 //! Without it the crate is built all the same, so that a program can say in its own words what is
 //! missing; `cfg(archive = "NAME")` tells, and cargo warns.
@@ -20,15 +20,17 @@ pub fn link(name: &str) {
     println!("cargo:rerun-if-changed={}", archive.display());
     println!("cargo:rustc-check-cfg=cfg(archive, values(\"{name}\"))");
     if !archive.is_file() {
-        println!("cargo:warning=the proved library is not there: run `rt staticlib {name}`");
+        println!("cargo:warning=the proved library is not there: run `.ci/archive {name}`");
         return;
     }
     println!("cargo:rustc-cfg=archive=\"{name}\"");
-    let sources = repository.join("crates");
-    println!("cargo:rerun-if-changed={}", sources.display());
+    let sources = sources(&repository.join("crates"));
+    for folder in &sources {
+        println!("cargo:rerun-if-changed={}", folder.display());
+    }
     if is_older(&archive, &sources) {
         println!(
-            "cargo:warning=a file of crates/ is newer than the archive: run `rt staticlib {name}`"
+            "cargo:warning=a file of crates/ is newer than the archive: run `.ci/archive {name}`"
         );
     }
     println!("cargo:rustc-link-search=native={}", folder.display());
@@ -37,9 +39,16 @@ pub fn link(name: &str) {
 
 /// An archive older than a source file may be of other code. It is a warning and no error, since a
 /// checkout gives files a new time without changing them.
-fn is_older(archive: &Path, sources: &Path) -> bool {
+fn is_older(archive: &Path, sources: &[PathBuf]) -> bool {
     let made = fs::metadata(archive).and_then(|data| data.modified());
-    made.is_ok_and(|made| newest(sources) > made)
+    made.is_ok_and(|made| sources.iter().any(|folder| newest(folder) > made))
+}
+
+/// The folders with the code of the crates. Beside them stands what `rt` makes, which has copies of
+/// it and changes with each check.
+fn sources(crates: &Path) -> Vec<PathBuf> {
+    let entries = fs::read_dir(crates).into_iter().flatten().flatten();
+    entries.map(|entry| entry.path().join("src")).collect()
 }
 
 /// The time of the last change of a Rattle file in a folder.

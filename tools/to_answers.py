@@ -86,20 +86,21 @@ class Turn:
     def step(self, at, befores, field):
         """The new name of a step seen from a place after some '.before'."""
         field = re.sub(r"_lem$", "", field)
-        k = at
-        for _ in range(befores):
-            parent = self.places[k][1]
-            if parent is None:
-                break
-            k = self.by_name[parent]
-        seen = k
+        seen = at
         # the step itself, or one before it
-        while True:
-            if alike(self.places[k][2][0]) == alike(field) or alike(self.places[k][2][1]) == alike(field):
-                return self.places[k][2][1]
-            if self.places[k][1] is None:
-                break
-            k = self.by_name[self.places[k][1]]
+        for which in (0, 1):
+            k = at
+            while True:
+                if alike(self.places[k][2][which]) == alike(field):
+                    return self.places[k][2][1]
+                if self.places[k][1] is None:
+                    break
+                k = self.by_name[self.places[k][1]]
+        for it in self.places:
+            if alike(it[2][0]) == alike(field):
+                return it[2][1]
+        if field == "well-formed":
+            return "well_formed"
         if field in ("args", "requires", "ranges", "auto", "lifetimes"):
             return field
         self.problems.append(f"no step {field} at {self.places[seen][0]}")
@@ -112,12 +113,16 @@ class Turn:
                 return self.clauses[k]["fields"]
         return None
 
-    def param(self, step, n):
-        """The parameter of a call that a place of its '.new' stands for."""
+    def with_param(self, step, parts):
+        """The path of a call's '.new' or '.auto' with the parameter's name: '1.1.0' is the third."""
+        n = 2
+        while parts[n : n + 1] == ["1"]:
+            n += 1
+        count, n = n - 2, n + (parts[n : n + 1] == ["0"])
         for it in self.places:
-            if it[2][1] == step and it[3] in self.params:
-                return self.params[it[3]][n]
-        return str(n)
+            if it[2][1] == step and it[3] in self.params and n > 2:
+                return [*parts[:2], self.params[it[3]][count], *parts[n:]]
+        return parts
 
     def typed(self, at, step):
         """The variable whose type a step told of."""
@@ -131,7 +136,6 @@ class Turn:
         for _ in range(befores):
             parent = self.places[k][1]
             if parent is None:
-                self.problems.append("too many '.before'")
                 return k
             k = self.by_name[parent]
         return k
@@ -187,13 +191,20 @@ def turn_body(turn, text, states, helpers, goal, var):
         known = turn.typed(turn.up(at, befores), step)
         if known and parts[1:2] == ["given"]:
             return ".".join([var, "type_inv", known, *parts[2:]])
-        if parts[1:2] == ["new"] and parts[2:3] and parts[2].isdigit():
-            parts[2] = turn.param(step, int(parts[2]))
+        if parts[1:2] in (["new"], ["auto"]):
+            parts = turn.with_param(step, parts)
         return ".".join([var, step, *parts[1:]])
 
     text = path.sub(turn_path, text)
     # a test of `!x` says what x is
     text = re.sub(r"not-(?:true|false) (?:\([^()]*\)|\S+) (\S+?\.if-not-[^\s.]+\.(?:true|false))", r"\1", text)
+    # what a name that stands for a call has of its parameters
+    for name, step in re.findall(r"let\s+(\S+)\s+=\s+\S+?\.([^\s.]+)\s+in", text):
+        text = re.sub(
+            rf"(?<![\w.-]){re.escape(name)}(\.(?:new|auto)(?:\.[01])+)",
+            lambda m: name + "." + ".".join(turn.with_param(step, ["", *m[1].split(".")[1:]])[1:]),
+            text,
+        )
     # the clauses of a call that a name stands for
     for name, step, rest in re.findall(r"let\s+(\S+)\s+=\s+\S+?\.([^\s.]+)((?:\.ensures)?)\s+in", text):
         fields = turn.clause_fields(step)
@@ -205,7 +216,14 @@ def turn_body(turn, text, states, helpers, goal, var):
         k = int(found[1])
         return place_record(k, None if goal else states.get(var))
 
-    return re.sub("\1(\\d+)\2", given, text)
+    text = re.sub("\1(\\d+)\2", given, text)
+    for name, k in helpers.items() if goal else ():
+        text = re.sub(
+            rf"(?<![\w.-])({re.escape(name)} \(goal\.at\.\S+ {re.escape(var)}\)\.)[\w-]+",
+            lambda m: m[1] + turn.new_place[k],
+            text,
+        )
+    return text
 
 
 def parts_of(text):

@@ -2,7 +2,7 @@
    the constants that say where each node starts. The first line is the refusal number and the records
    taken; then come the present blocks of the root, each with the record that wrote it and the length of
    the queue after it, and those of the leaf of process 1, with the value put. From the repository's root,
-   after `rt staticlib queue`:
+   after `.ci/archive queue`:
 
        gcc -std=c99 -Iinclude examples/c/viewer.c target/staticlib/libqueue.a -o target/viewer
        target/viewer */

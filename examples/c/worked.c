@@ -1,7 +1,7 @@
 /* The worked example through otq.h: what its two begins foretell, then its answers as the printing
    program prints them, the record that wrote each root block, the root order (kind, process, serial, root
    block), and the check of the log that it just got. From the repository's root, after
-   `rt staticlib queue`:
+   `.ci/archive queue`:
 
        gcc -std=c99 -Iinclude examples/c/worked.c target/staticlib/libqueue.a -o target/worked
        target/worked */

@@ -1,6 +1,6 @@
 /* The delivery desk through dictionary.h: process 0 is licensed, puts terms 1500 and 20 and between them
    30, which is no entry; process 1 takes all three. The terms are printed with their count, then what the
-   desk says if process 1 is licensed instead. From the repository's root, after `rt staticlib desk`:
+   desk says if process 1 is licensed instead. From the repository's root, after `.ci/archive desk`:
 
        gcc -std=c99 -Iinclude examples/dictionary/deliver.c target/staticlib/libdesk.a -o target/deliver
        target/deliver */

@@ -1,6 +1,6 @@
 /* The price sheet through dictionary.h: the bands of sheet.txt in this folder, and what some numbers of
    deliveries cost by them; last what is said of a count that is too large. From the repository's root, after
-   `rt staticlib price`:
+   `.ci/archive price`:
 
        gcc -std=c99 -Iinclude examples/dictionary/price.c target/staticlib/libprice.a -o target/price
        target/price */

@@ -1,4 +1,4 @@
-//! Links the archives that `rt staticlib desk` and `rt staticlib price` write. Without the first
+//! Links the archives that `.ci/archive desk` and `.ci/archive price` write. Without the first
 //! `BUILT` is false, and without the second `price::BUILT`.
 
 #[path = "../link_archive.rs"]

@@ -1,4 +1,4 @@
-//! Links the archive that `rt staticlib queue` writes. Without it `BUILT` is false.
+//! Links the archive that `.ci/archive queue` writes. Without it `BUILT` is false.
 
 #[path = "../link_archive.rs"]
 mod link_archive;

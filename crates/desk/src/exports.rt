@@ -1,4 +1,4 @@
-// The call for programs in C and Rust.
+// The call as programs in C and Rust have it: crate desk_c exports it.
 ghost use Rattle.std.specs.Prelude.{◌≡◌};
 ghost use Rattle.record.specs.StepRecords.{step_records};
 ghost use Rattle.desk_rules.specs.DeskRefusals.{desk_number};
@@ -24,8 +24,7 @@ fn number(x: DeskRefusal) -> u32
 }
 
 // The delivery of the terms that the finished takes of a list received.
-#[unsafe(no_mangle)]
-pub extern "C" fn desk_deliver(
+pub fn desk_deliver(
     p: u32,
     l: u32,
     licensed: u32,

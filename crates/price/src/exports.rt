@@ -1,4 +1,4 @@
-// The call for programs in C and Rust.
+// The call as programs in C and Rust have it: crate price_c exports it.
 ghost use Rattle.std.specs.Prelude.{◌≡◌};
 ghost use Rattle.price.specs.Sheet.{bands};
 ghost use Rattle.price.specs.Price.{price_deliveries};
@@ -10,8 +10,7 @@ use crate::refusal::price_refusal;
 use crate::total::total_price;
 
 // What deliveries 1 to count cost by a sheet.
-#[unsafe(no_mangle)]
-pub extern "C" fn price_deliveries(count: u32, sheet: &[u8]) -> PriceTotal
+pub fn price_deliveries(count: u32, sheet: &[u8]) -> PriceTotal
     ensures rules { price_returned result ≡ price_deliveries count sheet.now }
     ensures exact { result.refusal ≡ 0 → Exact (bands sheet.now) count result.cents result.remainder }
 {

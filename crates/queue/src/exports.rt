@@ -1,4 +1,5 @@
-// The calls for programs in C and Rust. A refusal is its number, a verdict 0 same, 1 differs, 2 refused.
+// The calls as programs in C and Rust have them: crate queue_c exports them. A refusal is its number, a verdict 0 same,
+// 1 differs, 2 refused.
 ghost use Rattle.std.specs.Prelude.{◌≡◌, true, List, ℕ, ◌*◌, length, take};
 ghost use Rattle.record.specs.StepRecords.{step_records};
 ghost use Rattle.record.specs.AnswerRecords.{answer_size};
@@ -24,14 +25,7 @@ use forecast::call::forecast;
 use refusals::numbers::number;
 
 // Run.
-#[unsafe(no_mangle)]
-pub extern "C" fn otq_run(
-    p: u32,
-    l: u32,
-    records: &[u8],
-    table: &mut [u32],
-    answers: &mut [u8],
-) -> OtqRun
+pub fn otq_run(p: u32, l: u32, records: &[u8], table: &mut [u32], answers: &mut [u8]) -> OtqRun
     ensures rules { run_exported result table.new answers.new ≡ run_of p l records.now table.old answers.old }
     ensures demand3 { accepted (call_refusal p l (length table.old) (length records.now)) ≡ true →
         Demand3 p l (take result.taken (step_records records.now)) (take (answer_size * result.answers) answers.new) (take (words_needed (shape_for p l)) table.new) }
@@ -50,8 +44,7 @@ pub extern "C" fn otq_run(
 }
 
 // List the order.
-#[unsafe(no_mangle)]
-pub extern "C" fn otq_list_order(
+pub fn otq_list_order(
     p: u32,
     l: u32,
     records: &[u8],
@@ -92,14 +85,7 @@ fn checked(v: Verdict) -> OtqCheck
 }
 
 // Check a log.
-#[unsafe(no_mangle)]
-pub extern "C" fn otq_check_log(
-    p: u32,
-    l: u32,
-    records: &[u8],
-    log: &[u8],
-    table: &mut [u32],
-) -> OtqCheck
+pub fn otq_check_log(p: u32, l: u32, records: &[u8], log: &[u8], table: &mut [u32]) -> OtqCheck
     ensures rules { check_exported result table.new ≡ check_log p l records.now log.now table.old }
     ensures judges { Judges p l (length table.old) records.now log.now result.verdict result.index }
 {
@@ -107,8 +93,7 @@ pub extern "C" fn otq_check_log(
 }
 
 // Forecast.
-#[unsafe(no_mangle)]
-pub extern "C" fn otq_forecast(p: u32, l: u32, begins: &[u8]) -> OtqForecast
+pub fn otq_forecast(p: u32, l: u32, begins: &[u8]) -> OtqForecast
     ensures rules { forecast_exported result ≡ forecast_of p l begins.now }
     ensures runs { Forecasts p l begins.now (forecast_exported result) }
 {

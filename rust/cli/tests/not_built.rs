@@ -20,14 +20,14 @@ fn assert_needs(words: &[&str], built: bool, not_built: &str) {
 }
 
 const NO_QUEUE: &str =
-    "otq: the proved library is not built: run `rt staticlib queue` in the repository \
-     (about 3 minutes, it proves it), then build this program again\n";
+    "otq: the proved library is not built: run `.ci/archive queue` in the repository \
+     (many minutes, it proves it), then build this program again\n";
 const NO_DESK: &str =
-    "otq: the proved delivery desk is not built: run `rt staticlib desk` in the repository \
-     (about 5 minutes, it proves it), then build this program again\n";
+    "otq: the proved delivery desk is not built: run `.ci/archive desk` in the repository \
+     (many minutes, it proves it), then build this program again\n";
 const NO_PRICES: &str =
-    "otq: the proved price sheet is not built: run `rt staticlib price` in the repository \
-     (less than a minute, it proves it), then build this program again\n";
+    "otq: the proved price sheet is not built: run `.ci/archive price` in the repository \
+     (a few minutes, it proves it), then build this program again\n";
 
 #[test]
 fn commands_that_call_the_queue() {

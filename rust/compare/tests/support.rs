@@ -13,10 +13,10 @@ use std::process::Command;
 
 /// A proved program, which must be there.
 pub fn built(program: &str) -> PathBuf {
-    let path = repository().join("target/bin").join(program);
+    let path = repository().join(format!("crates/{program}/out/{program}"));
     assert!(
         path.is_file(),
-        "there is no {}: run `rt check {program}` in the repository first",
+        "there is no {}: run `rt run` in crates/{program} first",
         path.display()
     );
     path

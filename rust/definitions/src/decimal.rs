@@ -3,7 +3,7 @@
 /// A run of equal words from this length on is written by its length.
 const LONG: usize = 64;
 
-/// Pieces joined by `++`: `wordsOf length number`, where `number` is the piece read in base 2^32,
+/// Pieces joined by `++`: `words_of length number`, where `number` is the piece read in base 2^32,
 /// low word first, and `replicate length word` for a long run of one word.
 pub fn words(list: &[u32]) -> String {
     let mut pieces = Vec::new();
@@ -25,10 +25,10 @@ pub fn words(list: &[u32]) -> String {
 }
 
 fn piece(words: Vec<u32>) -> String {
-    format!("wordsOf {} {}", words.len(), decimal(words))
+    format!("words_of {} {}", words.len(), decimal(words))
 }
 
-/// `(bytesOf length number)`, where `number` is the list read in base 2^8, low byte first.
+/// `(bytes_of length number)`, where `number` is the list read in base 2^8, low byte first.
 pub fn bytes(list: &[u8]) -> String {
     let words = list.chunks(4).map(|chunk| {
         chunk
@@ -36,7 +36,7 @@ pub fn bytes(list: &[u8]) -> String {
             .rev()
             .fold(0, |word, &byte| word << 8 | u32::from(byte))
     });
-    format!("(bytesOf {} {})", list.len(), decimal(words.collect()))
+    format!("(bytes_of {} {})", list.len(), decimal(words.collect()))
 }
 
 /// The number whose digits in base 2^32 are given, low digit first.

@@ -19,7 +19,7 @@ use reference::schedules::Plan;
 use reference::tree::Shape;
 
 /// The desk's own definitions that the prover computes with.
-pub const ALSO: &str = " deskRules delivered";
+pub const ALSO: &str = " desk_rules delivered";
 
 /// A call with what it is lent.
 #[derive(Clone)]

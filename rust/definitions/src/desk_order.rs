@@ -24,14 +24,14 @@ fn row(list: &DeskList) -> Row {
     let text = terms::list(order.iter().map(|&x| terms::operation(Some(x))));
     let values = terms::numbers(order.iter().filter_map(|&x| value_of(x)));
     let after_some = format!(
-        "replies ({}) (withNumbers {BEFORE} order-#)",
+        "replies ({}) (with_numbers {BEFORE} order_#)",
         terms::numbers(HELD)
     );
     let theorems = [
-        Statement::equal("values", "valuesPut order-#", &values),
+        Statement::equal("values", "values_put order_#", &values),
         Statement::equal(
             "first",
-            "replies [] (withNumbers 0 order-#)",
+            "replies [] (with_numbers 0 order_#)",
             &replies(&order, 0, &[]),
         ),
         Statement::equal("later", &after_some, &replies(&order, BEFORE, &HELD)),

@@ -56,11 +56,11 @@ fn order_row(record: OrderRecord) -> Row {
     };
     let (process, serial, block) = (record.process, record.serial, record.root_block);
     let placed = format!("placed {kind} {block} (op {process} {serial})");
-    let left = format!("orderBytes (orderRecord ({placed}))");
+    let left = format!("order_bytes (order_record ({placed}))");
     row("an order record", left, &record.bytes())
 }
 
 fn answer_row(answer: Answer) -> Row {
-    let left = format!("answerBytes ({})", terms::answer(answer));
+    let left = format!("bytes_of_answer ({})", terms::answer(answer));
     row("an answer record", left, &answer.bytes())
 }

@@ -40,8 +40,8 @@ pub fn row_of_list(p: u32, l: u32, records: &[u8]) -> Row {
     let mut row = row("the begins of the list", p, l, &begins);
     row.statements.push(Statement::equal(
         "begins",
-        &format!("beginRecords (stepRecords {})", bytes(records)),
-        &format!("stepRecords {}", bytes(&begins)),
+        &format!("begin_records (step_records {})", bytes(records)),
+        &format!("step_records {}", bytes(&begins)),
     ));
     row
 }

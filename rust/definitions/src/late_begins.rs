@@ -35,7 +35,7 @@ fn row(l: u32, list: List) -> Row {
     let [by_run, by_list, by_check] = numbers(shape, &records);
     let theorem = Statement::equal(
         "late",
-        &format!("lateBegin 2 {l} {} {}", standing(process), bytes(begin)),
+        &format!("late_begin 2 {l} {} {}", standing(process), bytes(begin)),
         &format!("numbers {by_run} {by_list} {by_check}"),
     );
     Row {

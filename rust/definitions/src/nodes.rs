@@ -8,7 +8,7 @@ use reference::node_starts::{start_row, start_table, L, NODES, PROCESSES};
 use reference::tree::Shape;
 
 /// The definitions that the prover computes with.
-const UNFOLDED: &str = "nodeStartRules";
+const UNFOLDED: &str = "node_start_rules";
 
 pub fn rows() -> Vec<Row> {
     let mut rows = vec![table()];
@@ -31,9 +31,9 @@ fn table() -> Row {
         about: format!("nodes: the table, L = {L}"),
         met,
         statements: vec![
-            equal("starts", "nodeStarts", &table),
-            equal("processes", "tableProcesses", &list(PROCESSES)),
-            equal("most", "tableMost", &L.to_string()),
+            equal("starts", "node_starts", &table),
+            equal("processes", "table_processes", &list(PROCESSES)),
+            equal("most", "table_most", &L.to_string()),
         ],
     }
 }
@@ -45,7 +45,7 @@ fn row(shape: Shape) -> Row {
         1 | L | 500 => format!("L={l}"),
         _ => "another L".to_string(),
     };
-    let left = format!("startRow {}", terms::shape(shape));
+    let left = format!("start_row {}", terms::shape(shape));
     let mut met = vec![Met::new("starts", case)];
     met.extend(nodes_met(shape));
     Row {

@@ -12,7 +12,7 @@ use reference::price_sheets::{billed, faultless, refused, FAULTS};
 use reference::random::Random;
 
 /// The definitions that the prover computes with.
-const UNFOLDED: &str = "priceRules priced";
+const UNFOLDED: &str = "price_rules priced";
 
 /// Deliveries of a random call: the definition adds them one by one, which takes the prover long for many.
 const MOST: u32 = 60;
@@ -41,7 +41,7 @@ fn row(about: impl std::fmt::Display, call: &PriceCall) -> Row {
     let priced = call.price();
     let theorem = Statement::equal(
         "price",
-        &format!("priceDeliveries {} {}", call.count, bytes(&call.sheet())),
+        &format!("price_deliveries {} {}", call.count, bytes(&call.sheet())),
         &format!(
             "priced {} {} {}",
             priced.refusal, priced.cents, priced.remainder

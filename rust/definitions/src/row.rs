@@ -3,8 +3,9 @@
 use crate::met::{Met, LINE};
 
 /// The rules, and the definitions of the common head that the prover computes with.
-const UNFOLDED: &str = "rules wordsOf leaves call left process numbers lateBegin op answer moved \
-     bits saidOf said pairsOf pair queueOf queue foretold";
+const UNFOLDED: &str =
+    "rules words_of leaves call left process numbers late_begin op answer moved \
+     bits said_of said pairs_of pair queue_of queue foretold";
 
 pub struct Row {
     /// In plain words.
@@ -13,9 +14,9 @@ pub struct Row {
     pub statements: Vec<Statement>,
 }
 
-/// A statement `name-N` of row N. In its text `#` stands for the row's number.
+/// A statement `name_N` of row N. In its text `#` stands for the row's number.
 pub struct Statement {
-    name: &'static str,
+    name: String,
     /// The type of a value, or what a theorem says.
     says: String,
     /// Definitions that the prover computes with.
@@ -31,9 +32,9 @@ enum Is {
 }
 
 impl Statement {
-    pub fn value(name: &'static str, of: &str, value: String) -> Statement {
+    pub fn value(name: &str, of: &str, value: String) -> Statement {
         Statement {
-            name,
+            name: name.to_string(),
             says: of.to_string(),
             unfolded: String::new(),
             is: Is::Value(value),
@@ -41,9 +42,9 @@ impl Statement {
     }
 
     /// Both sides compute to the same, by the rules and the common head.
-    pub fn equal(name: &'static str, left: &str, right: &str) -> Statement {
+    pub fn equal(name: impl Into<String>, left: &str, right: &str) -> Statement {
         Statement {
-            name,
+            name: name.into(),
             says: format!("{left} ≡ {right}"),
             unfolded: UNFOLDED.to_string(),
             is: Is::Theorem,
@@ -70,10 +71,10 @@ impl Statement {
             is,
         } = self;
         match is {
-            Is::Value(value) => format!("\nunfoldable {name}-# : {says}\n{name}-# = {value}\n"),
+            Is::Value(value) => format!("\nunfoldable {name}_# : {says}\n{name}_# = {value}\n"),
             Is::Theorem => {
                 let unfolded = format!("{unfolded}{own_values}");
-                format!("\n{name}-# : {says}\nunfolding {unfolded}\n{name}-# = refl\n")
+                format!("\n{name}_# : {says}\nunfolding {unfolded}\n{name}_# = refl\n")
             }
         }
     }
@@ -89,7 +90,7 @@ impl Row {
         }
         let is_value = |statement: &&Statement| matches!(statement.is, Is::Value(_));
         let values = self.statements.iter().filter(is_value);
-        let values: String = values.map(|value| format!(" {}-#", value.name)).collect();
+        let values: String = values.map(|value| format!(" {}_#", value.name)).collect();
         for statement in &self.statements {
             text += &statement.text(&values);
         }

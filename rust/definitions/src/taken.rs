@@ -15,6 +15,9 @@ use reference::tree::{Shape, Tree, ROOT};
 /// Bytes of a list whose events are computed from it too: each event plays the list anew.
 const SHORT: usize = 8 * 108;
 
+/// Operations that one theorem is about.
+const FEW: usize = 4;
+
 /// What the plain queue holds at first when it is fed an order of the row's own.
 const HELD: [u32; 2] = [41, 42];
 
@@ -82,23 +85,40 @@ impl Taken {
         let shape = terms::shape(self.shape);
         let history = (self.records.len() <= SHORT).then(|| {
             let records = bytes(&self.records);
-            let left = format!("history {shape} (numbered (stepRecords {records}))");
-            Statement::equal("history", &left, "events-#")
+            let left = format!("history {shape} (numbered (step_records {records}))");
+            Statement::equal("history", &left, "events_#")
         });
-        let each =
-            |of: fn(&Taken, Name) -> String| terms::list(self.names.iter().map(|&x| of(self, x)));
-        let root = format!("rootOperations {shape} table-#");
-        let said = format!("map (saidOf {shape} events-# table-# log-#) asked-#");
-        let pairs = "map (pairsOf events-# order-# other-# asked-#) asked-#";
+        let root = format!("root_operations {shape} table_#");
+        let said = format!("said_of {shape} events_# table_# log_#");
+        let pairs = "pairs_of events_# order_# other_# asked_#";
         let held = terms::numbers(HELD);
-        let queue = format!("queueOf {shape} events-# table-# ({held}) other-# asked-#");
-        let more = [
-            Statement::equal("root", &root, "order-#"),
-            Statement::equal("said", &said, &each(Taken::said)),
-            Statement::equal("pairs", pairs, &each(Taken::pairs)),
+        let queue = format!("queue_of {shape} events_# table_# ({held}) other_# asked_#");
+        let ends = [
+            Statement::equal("root", &root, "order_#"),
             Statement::equal("queue", &queue, &self.queue()),
         ];
+        let said = self.of_each("said", &said, Taken::said);
+        let pairs = self.of_each("pairs", pairs, Taken::pairs);
+        let more = said.chain(pairs).chain(ends);
         history.into_iter().chain(more).collect()
+    }
+
+    /// What a definition says of each operation, a few of them in a theorem: of more the prover's steps for one
+    /// declaration would run out.
+    fn of_each<'a>(
+        &'a self,
+        name: &'a str,
+        definition: &'a str,
+        of: fn(&Taken, Name) -> String,
+    ) -> impl Iterator<Item = Statement> + 'a {
+        self.names
+            .chunks(FEW)
+            .enumerate()
+            .map(move |(part, names)| {
+                let left = format!("map ({definition}) ({})", terms::names(names));
+                let right = terms::list(names.iter().map(|&x| of(self, x)));
+                Statement::equal(format!("{name}_{part}"), &left, &right)
+            })
     }
 
     fn said(&self, x: Name) -> String {

@@ -14,7 +14,7 @@ pub fn numbers(items: impl IntoIterator<Item = impl ToString>) -> String {
 }
 
 pub fn shape(shape: Shape) -> String {
-    format!("(shapeFor {} {})", shape.p(), shape.l())
+    format!("(shape_for {} {})", shape.p(), shape.l())
 }
 
 pub fn name(x: Name) -> String {

@@ -43,8 +43,8 @@ pub const BUILT: bool = cfg!(archive = "desk");
 
 /// What to do where the archive was not there, and how long it takes.
 pub const NOT_BUILT: &str =
-    "the proved delivery desk is not built: run `rt staticlib desk` in the repository \
-     (about 5 minutes, it proves it), then build this program again";
+    "the proved delivery desk is not built: run `.ci/archive desk` in the repository \
+     (many minutes, it proves it), then build this program again";
 
 /// The first value that is an entry, that of term 0.
 pub const FIRST_ENTRY: u32 = 1 << 31;

@@ -49,8 +49,8 @@ pub use sizes::{most_answer_bytes, most_order_bytes, table_words};
 pub const BUILT: bool = cfg!(archive = "queue");
 
 /// What to do where the archive was not there, and how long it takes.
-pub const NOT_BUILT: &str = "the proved library is not built: run `rt staticlib queue` in the \
-    repository (about 3 minutes, it proves it), then build this program again";
+pub const NOT_BUILT: &str = "the proved library is not built: run `.ci/archive queue` in the \
+    repository (many minutes, it proves it), then build this program again";
 
 /// What a run leaves besides its buffers.
 #[derive(Clone, Copy, PartialEq, Eq, Debug)]

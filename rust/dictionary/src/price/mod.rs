@@ -27,8 +27,8 @@ use crate::returned::refusal_of;
 pub const BUILT: bool = cfg!(archive = "price");
 
 /// What to do where the archive was not there, and how long it takes.
-pub const NOT_BUILT: &str = "the proved price sheet is not built: run `rt staticlib price` in the \
-    repository (less than a minute, it proves it), then build this program again";
+pub const NOT_BUILT: &str = "the proved price sheet is not built: run `.ci/archive price` in the \
+    repository (a few minutes, it proves it), then build this program again";
 
 /// The most deliveries that are priced.
 pub const MOST_DELIVERIES: u32 = 4000;
