@@ -5,6 +5,7 @@ ghost use Rattle.price.specs.Price.{price_refusal};
 use crate::sheet::{bands_allowed, prices_allowed};
 
 // The number of the first test that fails, 0 for none.
+#[tactic(auto, unfolding(crate::specs::Price::price_refusal, crate::specs::Price::most_deliveries, crate::specs::Sheet::band_size))]
 pub fn price_refusal(count: u32, sheet: &[u8]) -> u32
     ensures { result ≡ price_refusal count sheet.now }
 {

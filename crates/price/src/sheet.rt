@@ -31,6 +31,7 @@ fn ends_rise(sheet: &[u8]) -> bool
 }
 
 // Whether the bands are 1 to 8, and their ends rise.
+#[tactic(auto, using(crate::proofs::Bands::bands_length), unfolding(crate::specs::Sheet::bands_allowed, crate::specs::Sheet::most_bands))]
 pub fn bands_allowed(sheet: &[u8]) -> bool
     ensures { result ≡ bands_allowed (bands sheet.now) }
 {
