@@ -1,0 +1,39 @@
+-- `deliver::deliver_plain` meets its contract.
+use Prim.Native.Nat.{ℕ}
+use mathlib.Core.Path.{sym}
+use lib.ListN.{replicate, length-replicate}
+use lib.Seq.{length-take-le}
+use borrow.Author.Rules.{rules}
+use Rattle.desk.proofs.Listing.{ListedBy, plain_down, within_here, listed_here, listed_desk}
+use Rattle.desk.proofs.deliver.deliver_plain.Goals.{After-otq_list_order-listed}
+use Rattle.desk.proofs.deliver.deliver_plain.Goals as goal
+
+-- the list
+abbrev AtList : Type 0
+AtList = After-otq_list_order-listed
+
+abbrev IsListed : After-otq_list_order-listed → Type 0
+IsListed c = let last = c.otq_list_order-listed.new in
+    ListedBy c.args.p c.args.l c.args.licensed c.args.records.now c.args.table.now (replicate 32000 0) c.otq_list_order-listed.result last.table
+    last.output
+
+listed_at : (c : After-otq_list_order-listed) → IsListed c
+listed_at c = record { allowed = c.requires.0; room = length-replicate {A = ℕ} 32000 0; left = c.otq_list_order-listed.ensures }
+
+pub returns-then-listed-ne0 : goal.returns-then-listed-ne0
+returns-then-listed-ne0 c =
+    plain_down (listed_at (goal.at.returns-then-listed-ne0 c).After-otq_list_order-listed) c.if-listed-ne0.true _ c.refused.ensures c.requires.1 _
+
+pub slice_bounds-order-end : goal.slice_bounds-order-end
+slice_bounds-order-end c = within_here (listed_at (goal.at.slice_bounds-order-end c).After-otq_list_order-listed) c.if-listed-ne0.false
+
+pub slice_bounds-deliver_listed-end : goal.slice_bounds-deliver_listed-end
+slice_bounds-deliver_listed-end c = sym (length-take-le _ _ (within_here (listed_at (goal.at.slice_bounds-deliver_listed-end c).After-otq_list_order-listed) c.if-listed-ne0.false))
+
+pub deliver_listed-requires : goal.deliver_listed-requires
+deliver_listed-requires c =
+    listed_here (listed_at (goal.at.deliver_listed-requires c).After-otq_list_order-listed) c.if-listed-ne0.false c.otq_list_order-listed.auto.table
+
+pub returns : goal.returns
+returns c =
+    listed_desk (listed_at (goal.at.returns c).After-otq_list_order-listed) c.if-listed-ne0.false c.requires.1 _ _ c.deliver_listed.ensures

@@ -1,0 +1,27 @@
+-- `deliver::refuse_foreign` meets its contract.
+use Prim.Native.Nat.{ℕ}
+use lib.ListN.{replicate, length-replicate}
+use borrow.Author.Rules.{rules}
+use Rattle.desk.proofs.Listing.{ListedBy, foreign_down, foreign_14}
+use Rattle.desk.proofs.deliver.refuse_foreign.Goals.{After-otq_list_order-listed}
+use Rattle.desk.proofs.deliver.refuse_foreign.Goals as goal
+
+-- the list
+abbrev AtList : Type 0
+AtList = After-otq_list_order-listed
+
+abbrev IsListed : After-otq_list_order-listed → Type 0
+IsListed c = let last = c.otq_list_order-listed.new in
+    ListedBy c.args.p c.args.l c.args.licensed c.args.records.now c.args.table.now (replicate 32000 0) c.otq_list_order-listed.result last.table
+    last.output
+
+listed_at : (c : After-otq_list_order-listed) → IsListed c
+listed_at c = record { allowed = c.requires.0; room = length-replicate {A = ℕ} 32000 0; left = c.otq_list_order-listed.ensures }
+
+pub returns-then-listed-ne0 : goal.returns-then-listed-ne0
+returns-then-listed-ne0 c =
+    foreign_down (listed_at (goal.at.returns-then-listed-ne0 c).After-otq_list_order-listed) c.if-listed-ne0.true _ c.refused.ensures c.requires.1
+
+pub returns : goal.returns
+returns c =
+    foreign_14 (listed_at (goal.at.returns c).After-otq_list_order-listed) c.if-listed-ne0.false _ c.refused-2.ensures c.requires.1

@@ -1,0 +1,40 @@
+-- `listed::deliver_listed` meets its contract.
+use Prim.Native.Nat.{ℕ}
+use native.Mathlib.Omega.{arith}
+use mathlib.Core.Path.{refl, sym}
+use lib.ListN.{length-replicate}
+use lib.Seq.{length-take-le}
+use borrow.Author.Rules.{rules}
+use Rattle.desk_rules.specs.Entries.{term_size}
+use Rattle.desk_listed.proofs.ListedTerms.{listed_few, listed_room, listed_slots, received_length, listed_short, listed_sent}
+use Rattle.desk_listed.proofs.listed.deliver_listed.Goals as goal
+
+pub receive_all-requires : goal.receive_all-requires
+receive_all-requires c =
+    record { call = c.requires.call; zeros = refl }
+
+pub collect-count-requires : goal.collect-count-requires
+collect-count-requires c =
+    let k = c.requires in record { room = (omega arith, listed_few k, omega (arith, listed_room k, length-replicate {A = ℕ} 4000 0)); slots = listed_slots k _ (received_length k c.receive_all.ensures) }
+
+pub returns-then-output-count : goal.returns-then-output-count
+returns-then-output-count c =
+    listed_short c.requires c.receive_all.ensures c.collect-count.result _ c.collect-count.ensures.0 c.collect-count.ensures.1 _ c.refused.ensures _
+    c.if-output-count.true
+
+pub slice_bounds-terms-end : goal.slice_bounds-terms-end
+slice_bounds-terms-end c = c.collect-count.ensures.0
+
+pub slice_bounds-send-end : goal.slice_bounds-send-end
+slice_bounds-send-end c = sym (length-take-le _ _ c.collect-count.ensures.0)
+
+pub send-requires : goal.send-requires
+unfolding term_size
+send-requires c =
+    let made = c.collect-count in
+    omega (arith, length-take-le made.result made.new.terms made.ensures.0, c.if-output-count.false)
+
+pub returns : goal.returns
+returns c =
+    listed_sent c.requires c.receive_all.ensures c.collect-count.result _ c.collect-count.ensures.0 c.collect-count.ensures.1 _ _
+    (omega (arith, c.if-output-count.false)) c.send.ensures
