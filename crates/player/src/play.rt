@@ -8,6 +8,8 @@ ghost use Rattle.player.specs.Clauses.PlayCalls.{AtStart, PlayResult};
 
 use crate::Outcome;
 use answer::answers::answer_of;
+use answer_log::compare::equal_after;
+use answer_log::write::write_answer;
 use base::as_index;
 use block_steps::{step_a, step_c4, step_r3, step_r5, step_v2};
 use build_steps::{adds_nothing, step_c3l, step_c3n_on, step_c3n_up, step_c3r};
@@ -20,8 +22,6 @@ use head_steps::{
     advances_child, step_c1, step_c2, step_r1, step_r2, step_r4, step_v1, step_v3_child,
     step_v3_own,
 };
-use answer_log::compare::equal_after;
-use answer_log::write::write_answer;
 use refusals::begin::begin_refusal;
 use refusals::numbers::accepted;
 use stepping::turn::operation_in;

@@ -6,8 +6,8 @@ ghost use Rattle.calls.specs.LogVerdict.{Judges};
 ghost use Rattle.queue.specs.Left.{check_left};
 
 use crate::play_all::play_all;
-use calls::Verdict;
 use answer_log::compare::verdict;
+use calls::Verdict;
 use refusals::before::of_check;
 use refusals::numbers::accepted;
 

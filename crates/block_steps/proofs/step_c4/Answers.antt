@@ -22,8 +22,7 @@ moved-requires c = (search rules, busy _ (at (goal.at.moved-requires c).In-C4) t
 pub returns : goal.returns
 unfolding step go write_if_absent block
 returns c =
-    let here = at (goal.at.returns c).In-C4 in
-    (
+    let here = at (goal.at.returns c).In-C4 in (
       λ _ _ _. rw c.moved.ensures (
         refl,
         λ s k o heads b.

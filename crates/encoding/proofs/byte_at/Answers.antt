@@ -1,7 +1,6 @@
 -- `encoding::byte_at` meets its contract. A byte of a slice is below 256, and one byte is the number that it
 -- holds.
 use native.Mathlib.Omega.{arith}
-use borrow.Author.Rules.{rules}
 use Rattle.encoding.proofs.Numbers.{byte_number}
 use Rattle.encoding.proofs.byte_at.Goals as goal
 

@@ -1,7 +1,6 @@
 -- `encoding::half_at` meets its contract. The number in two bytes is that of the first and 256 times that of the
 -- second.
 use native.Mathlib.Omega.{arith}
-use borrow.Author.Rules.{rules}
 use Rattle.encoding.proofs.Numbers.{number_parts}
 use Rattle.encoding.proofs.half_at.Goals as goal
 

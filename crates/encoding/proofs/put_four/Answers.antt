@@ -1,5 +1,4 @@
 -- `encoding::put_four` meets its contract. Four bytes, stored one after the other.
-use borrow.Author.Rules.{rules}
 use Rattle.encoding.proofs.Stores.{four_stored}
 use Rattle.encoding.proofs.put_four.Goals as goal
 

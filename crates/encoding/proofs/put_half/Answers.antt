@@ -1,5 +1,4 @@
 -- `encoding::put_half` meets its contract. A byte stored after another is a half stored.
-use borrow.Author.Rules.{rules}
 use Rattle.encoding.proofs.Stores.{half_stored}
 use Rattle.encoding.proofs.put_half.Goals as goal
 

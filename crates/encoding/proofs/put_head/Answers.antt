@@ -1,5 +1,4 @@
 -- `encoding::put_head` meets its contract. A byte, a byte and a half, stored one after the other.
-use borrow.Author.Rules.{rules}
 use Rattle.encoding.proofs.Stores.{head_stored}
 use Rattle.encoding.proofs.put_head.Goals as goal
 

@@ -1,5 +1,4 @@
 -- `encoding::put_word` meets its contract. A half stored after another is a word stored.
-use borrow.Author.Rules.{rules}
 use Rattle.encoding.proofs.Stores.{word_stored}
 use Rattle.encoding.proofs.put_word.Goals as goal
 

@@ -1,7 +1,6 @@
 -- `encoding::word_at` meets its contract. The number in four bytes is that of the first two and 65536 times that
 -- of the others.
 use native.Mathlib.Omega.{arith}
-use borrow.Author.Rules.{rules}
 use Rattle.encoding.proofs.Numbers.{number_parts}
 use Rattle.encoding.proofs.word_at.Goals as goal
 

@@ -51,16 +51,22 @@ pub returns-in-Put : goal.returns-in-Put
 returns-in-Put c =
     let a = c.args in
     let p = c.requires in
-    let n = c.serial-serial.ensures in record { «record» = λ s ps w plays.
+    let n = c.serial-serial.ensures in record {
+      «record» = λ s ps w plays.
           c.answer.ensures
-          ∙ put_answer plays w p.1 n c.in-Put.is (c.root_block-block.ensures s a.k (stands_as plays w p.1 n)); bounds = answer_small p.0.plays p.0.width c.answer.ensures }
+          ∙ put_answer plays w p.1 n c.in-Put.is (c.root_block-block.ensures s a.k (stands_as plays w p.1 n));
+      bounds = answer_small p.0.plays p.0.width c.answer.ensures;
+    }
 
 pub returns-in-Take : goal.returns-in-Take
 returns-in-Take c =
     let a = c.args in
     let p = c.requires in
     let n = c.serial-serial.ensures in
-    let e = c.in-Take.is in record { «record» = λ s ps w plays.
+    let e = c.in-Take.is in record {
+      «record» = λ s ps w plays.
           let z = c.standing-at.ensures s a.k (take_stands plays w p.1 n e) in
           let taken = taken_as plays w p.1 n e z c.height_for.ensures.0 in
-          c.answer-in-Take.ensures ∙ take_answer plays w p.1 n e z (c.take_reply-reply.ensures s a.heads.now taken); bounds = answer_small p.0.plays p.0.width c.answer-in-Take.ensures }
+          c.answer-in-Take.ensures ∙ take_answer plays w p.1 n e z (c.take_reply-reply.ensures s a.heads.now taken);
+      bounds = answer_small p.0.plays p.0.width c.answer-in-Take.ensures;
+    }

@@ -12,11 +12,11 @@ use Rattle.call_player.proofs.call.play_call.Goals as goal
 -- where the words needed are worked out
 measured : (c : After-words_needed-needed) → let a = c.args in Measured a.p a.l a.heads.now (length a.table.now) a.room (length a.out.now) c.height_for-height.result c.as_index-most.result c.words_needed-needed.result
 measured c = record {
-      callable = c.requires;
-      height = c.height_for-height.ensures.0;
-      most = c.as_index-most.ensures;
-      needs = c.words_needed-needed.ensures.0;
-    }
+  callable = c.requires;
+  height = c.height_for-height.ensures.0;
+  most = c.as_index-most.ensures;
+  needs = c.words_needed-needed.ensures.0;
+}
 
 pub words_needed-needed-requires : goal.words_needed-needed-requires
 words_needed-needed-requires c =

@@ -13,7 +13,8 @@ play_call-requires c =
 
 pub returns : goal.returns
 returns c =
-    let o = c.play_call.ensures in record { result = record {
+    let o = c.play_call.ensures in record {
+      result = record {
         refusal = o.result.refusal;
         taken = o.result.taken;
         answered = o.result.answered;
@@ -21,4 +22,6 @@ returns c =
         words = o.result.words;
         nodes = o.result.nodes;
         bytes = sym (written_nowhere [] _ refl);
-      }; rest = o.rest }
+      };
+      rest = o.rest;
+    }

@@ -40,11 +40,10 @@ deliver_plain-requires c =
     let n = c.before_foreign-before.result in
     let length_of = length c.args.records.now in
     let either : (length_of % 8 ≢ 0) ⊎ (n ≡ length_of / 8) =
-        elim c.then-records-ne0.branch [
-          then-records-ne0-via-then-records-ne0 w ↦ inl w.if-records-ne0.true
-        | then-records-ne0-via-else-records-ne0+then-before-records w ↦ inr w.if-before-records.true
-        ] in
-    (
+    elim c.then-records-ne0.branch [
+      | then-records-ne0-via-then-records-ne0 w ↦ inl w.if-records-ne0.true
+      | then-records-ne0-via-else-records-ne0+then-before-records w ↦ inr w.if-before-records.true
+    ] in (
       allowed_at (goal.at.deliver_plain-requires c).After-before_foreign-before,
       none_foreign _ _ n c.before_foreign-before.ensures either (λ torn. torn) (λ all. eq-eqb _ _ all),
     )

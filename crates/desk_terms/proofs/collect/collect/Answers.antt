@@ -53,8 +53,8 @@ loop-i-preserved c =
     let slot = c.slot_of-slot.ensures in
     let entry = sym c.is_entry.ensures in
     elim c.if-is_entry.branch [
-      then-is_entry w ↦ rw (w.terms-is, w.count-is) (collected_entry _ _ _ _ _ _ _ at.invariant.0 more _ is _ slot (omega arith) (entry ∙ w.if-is_entry.true), simp length-set at.invariant.1)
-    | else-is_entry w ↦ rw (w.terms-is, w.count-is) (collected_other _ _ _ _ _ _ _ at.invariant.0 more _ is _ slot (entry ∙ w.if-is_entry.false), at.invariant.1)
+      | then-is_entry w ↦ rw (w.terms-is, w.count-is) (collected_entry _ _ _ _ _ _ _ at.invariant.0 more _ is _ slot (omega arith) (entry ∙ w.if-is_entry.true), simp length-set at.invariant.1)
+      | else-is_entry w ↦ rw (w.terms-is, w.count-is) (collected_other _ _ _ _ _ _ _ at.invariant.0 more _ is _ slot (entry ∙ w.if-is_entry.false), at.invariant.1)
     ]
 
 pub shape_of-terms : goal.shape_of-terms

@@ -26,12 +26,12 @@ IsTested c = let start = c.args in
 
 tested_at : (c : After-planned_refusal-refusal) → IsTested c
 tested_at c = record {
-      so_far = c.loop-i.invariant;
-      more = c.loop-i-test.true;
-      is = c.step_record-x.ensures;
-      slot = formed_slot c.args.p c.args.l c.requires c.step_record-x.result;
-      told = c.planned_refusal-refusal.ensures;
-    }
+  so_far = c.loop-i.invariant;
+  more = c.loop-i-test.true;
+  is = c.step_record-x.ensures;
+  slot = formed_slot c.args.p c.args.l c.requires c.step_record-x.result;
+  told = c.planned_refusal-refusal.ensures;
+}
 
 pub loop-i-init : goal.loop-i-init
 loop-i-init c = read_none _ _

@@ -11,8 +11,7 @@ loop-low-init c = (omega arith, omega arith, c.requires.reached.3, λ i a b. ome
 
 pub loop-low-preserved-then-part-middle : goal.loop-low-preserved-then-part-middle
 unfolding word_in
-loop-low-preserved-then-part-middle c =
-    (
+loop-low-preserved-then-part-middle c = (
   omega arith,
   omega arith,
   c.loop-low.invariant.2,

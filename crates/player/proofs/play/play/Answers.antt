@@ -129,7 +129,7 @@ number_after-requires c = loop_number (found (goal.at.number_after-requires c).I
 
 pub step_a-requires : goal.step_a-requires
 unfolding idle is_q is_idle
-step_a-requires c =     let busy = c.in-Busy.is in
+step_a-requires c = let busy = c.in-Busy.is in
     let at = sym (step_named (found (goal.at.step_a-requires c).In-Busy) busy c.in-A.is) in
     let ready = step_ready (found (goal.at.step_a-requires c).In-Busy) busy at refl in
     record { steps_bound = (few_steps (goal.at.step_a-requires c).In-Busy, rw busy refl, at); adds = (ready, step_fits_leaf (found (goal.at.step_a-requires c).In-Busy) ready.node) }

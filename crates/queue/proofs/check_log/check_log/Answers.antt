@@ -9,8 +9,8 @@ returns-then-not-accepted c =
     let a = c.args in
     let n = c.of_check-n.ensures in
     let w =
-        with_judges a.p a.l a.records.now a.log.now a.table.now _ _
-        (check_down _ _ _ _ _ _ n (found_refused n c.accepted.ensures c.if-not-accepted.true)) in
+    with_judges a.p a.l a.records.now a.log.now a.table.now _ _
+    (check_down _ _ _ _ _ _ n (found_refused n c.accepted.ensures c.if-not-accepted.true)) in
     record { rules = w.0; judges = w.1 }
 
 pub check_accepted-requires : goal.check_accepted-requires

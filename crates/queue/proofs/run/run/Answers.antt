@@ -9,8 +9,8 @@ returns-then-not-accepted c =
     let a = c.args in
     let n = c.of_call-n.ensures in
     let w =
-        with_claims a.p a.l a.records.now a.table.now a.answers.now _ _ _
-        (run_down _ _ _ _ _ _ n (found_refused n c.accepted.ensures c.if-not-accepted.true)) in
+    with_claims a.p a.l a.records.now a.table.now a.answers.now _ _ _
+    (run_down _ _ _ _ _ _ n (found_refused n c.accepted.ensures c.if-not-accepted.true)) in
     record { rules = w.0; demand3 = w.1.0; supers = w.1.1.0; numbers = w.1.1.1 }
 
 pub run_accepted-requires : goal.run_accepted-requires
