@@ -13,9 +13,6 @@ use Rattle.block_steps.proofs.step_c4.Goals as goal
 at : (c : In-C4) → step_in c.args.q.status ≡ C4 c.in-C4.visit c.in-C4.built
 at c = sym c.step_in.ensures ∙ c.in-C4.is
 
-pub returns-in_default : goal.returns-in_default
-returns-in_default c = (λ a b e. absurd (c.in_default.not-C4 a b (c.step_in.ensures ∙ e)), λ _. (refl, refl))
-
 pub write_if_absent-success-requires : goal.write_if_absent-success-requires
 write_if_absent-success-requires c = let p = (c.requires.1 _ _ (at (goal.at.write_if_absent-success-requires c).In-C4)).0 in search rules
 

@@ -11,7 +11,6 @@ use Rattle.steps.specs.Rules.{of_child}
 use Rattle.steps.specs.contracts.After as afters
 use Rattle.stepping.specs.Clauses.Next.{step_in}
 use Rattle.stepping.proofs.StepNames.{same_advance}
-use borrow.Author.Rules.{rules}
 use Rattle.head_steps.proofs.advances_child.Goals.{In-V3}
 use Rattle.head_steps.proofs.advances_child.Goals as goal
 

@@ -1,5 +1,5 @@
 -- `head_steps::raise_in` meets its contract.
-use mathlib.Core.Path.{◌≡◌, refl, sym, ◌∙◌}
+use mathlib.Core.Path.{◌≡◌, sym, ◌∙◌}
 use Rattle.steps.specs.declared.Step.TheVariants.{V3}
 use Rattle.stepping.specs.Clauses.Next.{step_in}
 use Rattle.stepping.proofs.StepNames.{same_advance}
@@ -9,9 +9,6 @@ use Rattle.head_steps.proofs.raise_in.Goals as goal
 
 at : (c : In-V3) → step_in c.args.q.status ≡ V3 c.in-V3.after c.in-V3.visit c.in-V3.node c.in-V3.place
 at c = sym c.step_in.ensures ∙ c.in-V3.is
-
-pub returns-in_default : goal.returns-in_default
-returns-in_default c = (λ a b i j e. absurd (c.in_default.not-V3 a b i j (c.step_in.ensures ∙ e)), λ _. (refl, refl))
 
 pub raise-requires : goal.raise-requires
 raise-requires c = let p = c.requires _ _ _ _ (at (goal.at.raise-requires c).In-V3) in search rules
