@@ -1,4 +1,5 @@
 -- `call::play_unanswered` meets its contract.
+use mathlib.Core.List.{[]}
 use mathlib.Core.Path.{refl, sym}
 use mathlib.Core.Logic.{inl}
 use Rattle.answer_log.proofs.Written.{written_nowhere}
