@@ -3,7 +3,6 @@
 use native.Mathlib.Omega.{arith}
 use lib.ListN.{drop}
 use lib.Seq.{take-take}
-use borrow.Author.Rules.{rules}
 use Rattle.encoding.proofs.Numbers.{part_of_part}
 use Rattle.record.specs.ReadAnswers.{answer_record}
 use Rattle.answer_codec.proofs.answer_record.Goals as goal

@@ -1,7 +1,6 @@
 -- `answer_codec::put_answer` meets its contract. The stores follow each other; a kind fits in a byte.
 use Prim.Native.Nat.{◌<◌}
 use native.Mathlib.Omega.{arith}
-use borrow.Author.Rules.{rules}
 use Rattle.record.specs.declared.Reply.TheVariants.{Done, Value, Nothing}
 use Rattle.record.specs.declared.Reply.{Reply}
 use Rattle.record.specs.AnswerRecords.{reply_kind}

@@ -1,5 +1,4 @@
 -- `answer_codec::reply_kind` meets its contract. By cases.
-use borrow.Author.Rules.{rules}
 use Rattle.record.specs.AnswerRecords.{reply_kind}
 use Rattle.answer_codec.proofs.reply_kind.Goals as goal
 

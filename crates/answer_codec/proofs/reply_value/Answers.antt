@@ -1,5 +1,4 @@
 -- `answer_codec::reply_value` meets its contract. By cases.
-use borrow.Author.Rules.{rules}
 use Rattle.record.specs.AnswerRecords.{reply_value}
 use Rattle.answer_codec.proofs.reply_value.Goals as goal
 

@@ -2,7 +2,6 @@
 use Rattle.tree.specs.Memory.{block}
 use Rattle.steps.specs.Rules.{help}
 use Rattle.tree.proofs.NodeReads.{node_read}
-use borrow.Author.Rules.{rules}
 use Rattle.block_steps.proofs.help.Goals as goal
 
 pub returns-then-absent_at : goal.returns-then-absent_at

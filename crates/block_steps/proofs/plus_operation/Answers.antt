@@ -1,6 +1,5 @@
 -- `block_steps::plus_operation` meets its contract.
 use Rattle.steps.specs.Rules.{plus_operation}
-use borrow.Author.Rules.{rules}
 use Rattle.block_steps.proofs.plus_operation.Goals as goal
 
 pub returns-in-Put : goal.returns-in-Put

@@ -3,7 +3,6 @@ use mathlib.Core.Path.{refl}
 use Rattle.tree.specs.Memory.{head_of, block, write}
 use Rattle.steps.specs.Rules.{step, go}
 use Rattle.tree.proofs.NodeReads.{node_read, node_written}
-use borrow.Author.Rules.{rules}
 use Rattle.block_steps.proofs.step_a.Goals as goal
 
 pub plus_operation-new-requires : goal.plus_operation-new-requires

@@ -4,7 +4,6 @@ use mathlib.Core.Path.{ap}
 use Rattle.tree.specs.declared.Totals.{Totals}
 use Rattle.tree.specs.Size.{root_size}
 use Rattle.tree.specs.Clauses.Access.{totals_of}
-use borrow.Author.Rules.{rules}
 use Rattle.build_steps.proofs.root_size.Goals as goal
 
 pub returns-then-held-taken : goal.returns-then-held-taken

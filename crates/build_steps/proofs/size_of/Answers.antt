@@ -3,7 +3,6 @@ use borrow.Author.Tests.{eq-eqb, ne_eqb}
 use Rattle.tree.specs.Shape.{root}
 use Rattle.tree.specs.Clauses.Access.{totals_of}
 use Rattle.steps.specs.Rules.{built}
-use borrow.Author.Rules.{rules}
 use Rattle.build_steps.proofs.size_of.Goals as goal
 
 pub size_at_root-size-requires : goal.size_at_root-size-requires

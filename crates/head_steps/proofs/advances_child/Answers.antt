@@ -1,7 +1,7 @@
 -- `head_steps::advances_child` meets its contract.
 use mathlib.Core.Path.{◌≡◌, refl, ap, sym, ◌∙◌}
 use mathlib.Core.Bool.{true, false}
-use mathlib.Core.List.{[], ◌∷◌}
+use mathlib.Core.List.{◌∷◌}
 use types.Run.{OneOf, miss}
 use denote.Enum.Declared as declared
 use Rattle.steps.specs.declared.After.{After}

@@ -1,6 +1,5 @@
 -- `head_steps::step_v3_child` meets its contract.
 use mathlib.Core.Path.{◌≡◌, refl, sym, ◌∙◌}
-use mathlib.Core.List.{[]}
 use Rattle.tree.specs.Memory.{memory_of, head_of, head_is, raise}
 use Rattle.steps.specs.declared.Step.TheVariants.{V3}
 use Rattle.steps.specs.Rules.{step, go_telling}

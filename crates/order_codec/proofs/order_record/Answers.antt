@@ -3,7 +3,6 @@
 use native.Mathlib.Omega.{arith}
 use lib.ListN.{drop}
 use lib.Seq.{take-take}
-use borrow.Author.Rules.{rules}
 use Rattle.record.specs.ReadOrders.{read_order}
 use Rattle.encoding.proofs.Numbers.{part_of_part}
 use Rattle.order_codec.proofs.order_record.Goals as goal

@@ -1,5 +1,4 @@
 -- `order_codec::put_order` meets its contract. The stores follow each other.
-use borrow.Author.Rules.{rules}
 use Rattle.record.proofs.Stores.{order_stored}
 use Rattle.order_codec.proofs.put_order.Goals as goal
 

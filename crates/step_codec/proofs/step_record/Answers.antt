@@ -3,7 +3,6 @@
 use native.Mathlib.Omega.{arith}
 use lib.ListN.{drop}
 use lib.Seq.{take-take}
-use borrow.Author.Rules.{rules}
 use Rattle.record.specs.StepRecords.{step_record}
 use Rattle.encoding.proofs.Numbers.{part_of_part}
 use Rattle.step_codec.proofs.step_record.Goals as goal

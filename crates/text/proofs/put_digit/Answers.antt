@@ -1,6 +1,5 @@
 -- `text::put_digit` meets its contract.
 use mathlib.Core.Path.{refl}
-use borrow.Author.Rules.{rules}
 use Rattle.text.specs.Decimal.{digit}
 use Rattle.text.proofs.put_digit.Goals as goal
 

@@ -1,6 +1,5 @@
 -- `text::put_number` meets its contract.
 use native.Mathlib.Omega.{arith}
-use borrow.Author.Rules.{rules}
 use Rattle.base.proofs.Stored.{stored_then}
 use Rattle.text.specs.Characters.{ascii}
 use Rattle.text.specs.Decimal.{number_field}

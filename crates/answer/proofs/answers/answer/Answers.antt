@@ -1,5 +1,4 @@
 -- `answers::answer` meets its contract.
-use borrow.Author.Rules.{rules}
 use Rattle.answer.proofs.answers.answer.Goals as goal
 
 pub returns : goal.returns

@@ -3,7 +3,6 @@ use Prim.Native.Nat.{◌+◌, ◌^◌}
 use native.Mathlib.Omega.{arith}
 use mir.Facts.{to_z_pos, to_z-of_z}
 use mir.Syntax.{w64}
-use borrow.Author.Rules.{rules}
 use Rattle.answer.proofs.Margins.{mag_sub}
 use Rattle.answer.proofs.margin.margin.Goals as goal
 

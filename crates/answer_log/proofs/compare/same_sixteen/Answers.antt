@@ -1,6 +1,6 @@
 -- `compare::same_sixteen` meets its contract. The loop's invariant: the bytes from i on are equal just where all
 -- sixteen are. The measure is what is left of the sixteen.
-use Prim.Native.Nat.{ℕ, ◌+◌, ◌-◌, ◌≤◌, ◌<◌}
+use Prim.Native.Nat.{ℕ, ◌+◌, ◌≤◌, ◌<◌}
 use native.Mathlib.Omega.{arith}
 use native.Mathlib.Numerals.{add-one}
 use mathlib.Core.Bool.{true, ◌&&◌}
@@ -9,7 +9,6 @@ use mathlib.Core.List.{List}
 use lib.Dec.{eqb}
 use lib.ListN.{length, get_or, take, drop, length-drop, drop_of_length-le}
 use lib.Seq.{drop-cons, get_or-take, get_or-drop, length-take-le}
-use borrow.Author.Rules.{rules}
 use borrow.Author.Tests.{eq-eqb, ne_eqb}
 use Rattle.calls.specs.CheckLog.{same_bytes}
 use Rattle.answer_log.proofs.compare.same_sixteen.Goals as goal

@@ -1,5 +1,4 @@
 -- `compare::verdict` meets its contract.
-use borrow.Author.Rules.{rules}
 use borrow.Author.Tests.{eq-eqb, ne_eqb}
 use Rattle.record.specs.AnswerRecords.{answer_size}
 use Rattle.answer_log.specs.Clauses.Leading.{verdict_of}

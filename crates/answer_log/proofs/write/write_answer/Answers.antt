@@ -1,5 +1,4 @@
 -- `write::write_answer` meets its contract.
-use borrow.Author.Rules.{rules}
 use borrow.Author.Tests.{le-leb, lt-leb}
 use Rattle.record.specs.AnswerRecords.{answer_size}
 use Rattle.answer_log.specs.Clauses.Leading.{with_answer}

@@ -3,7 +3,6 @@ use native.Mathlib.Omega.{arith}
 use mathlib.Core.Path.{sym, ◌∙◌}
 use lib.ListN.{length}
 use lib.Seq.{length-take-le}
-use borrow.Author.Rules.{rules}
 use Rattle.steps.proofs.Limits.{allowed_most, allowed_width}
 use Rattle.call_player.proofs.PlayCallLaws.{Measured, call_fits, call_starts, call_words, call_rest}
 use Rattle.call_player.proofs.call.play_call.Goals.{After-words_needed-needed}

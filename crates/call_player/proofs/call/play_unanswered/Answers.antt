@@ -1,8 +1,6 @@
 -- `call::play_unanswered` meets its contract.
 use mathlib.Core.Path.{refl, sym}
 use mathlib.Core.Logic.{inl}
-use mathlib.Core.List.{[]}
-use borrow.Author.Rules.{rules}
 use Rattle.answer_log.proofs.Written.{written_nowhere}
 use Rattle.call_player.proofs.call.play_unanswered.Goals as goal
 

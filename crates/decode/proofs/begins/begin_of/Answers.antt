@@ -1,6 +1,5 @@
 -- `begins::begin_of` meets its contract.
 use mathlib.Core.Path.{◌∙◌}
-use borrow.Author.Rules.{rules}
 use Rattle.decode.proofs.BeginWords.{begin_none, begin_put_lem, begin_valued, begin_take_lem}
 use Rattle.decode.proofs.begins.begin_of.Goals as goal
 

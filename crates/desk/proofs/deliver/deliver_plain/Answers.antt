@@ -3,7 +3,6 @@ use Prim.Native.Nat.{ℕ}
 use mathlib.Core.Path.{sym}
 use lib.ListN.{replicate, length-replicate}
 use lib.Seq.{length-take-le}
-use borrow.Author.Rules.{rules}
 use Rattle.desk.proofs.Listing.{ListedBy, plain_down, within_here, listed_here, listed_desk}
 use Rattle.desk.proofs.deliver.deliver_plain.Goals.{After-otq_list_order-listed}
 use Rattle.desk.proofs.deliver.deliver_plain.Goals as goal

@@ -1,7 +1,6 @@
 -- `deliver::refuse_foreign` meets its contract.
 use Prim.Native.Nat.{ℕ}
 use lib.ListN.{replicate, length-replicate}
-use borrow.Author.Rules.{rules}
 use Rattle.desk.proofs.Listing.{ListedBy, foreign_down, foreign_14}
 use Rattle.desk.proofs.deliver.refuse_foreign.Goals.{After-otq_list_order-listed}
 use Rattle.desk.proofs.deliver.refuse_foreign.Goals as goal

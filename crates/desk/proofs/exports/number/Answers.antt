@@ -1,5 +1,4 @@
 -- `exports::number` meets its contract.
-use borrow.Author.Rules.{rules}
 use Rattle.desk_rules.specs.DeskRefusals.{desk_number}
 use Rattle.desk.proofs.exports.number.Goals as goal
 

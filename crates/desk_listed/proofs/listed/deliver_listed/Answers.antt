@@ -4,7 +4,6 @@ use native.Mathlib.Omega.{arith}
 use mathlib.Core.Path.{refl, sym}
 use lib.ListN.{length-replicate}
 use lib.Seq.{length-take-le}
-use borrow.Author.Rules.{rules}
 use Rattle.desk_rules.specs.Entries.{term_size}
 use Rattle.desk_listed.proofs.ListedTerms.{listed_few, listed_room, listed_slots, received_length, listed_short, listed_sent}
 use Rattle.desk_listed.proofs.listed.deliver_listed.Goals as goal

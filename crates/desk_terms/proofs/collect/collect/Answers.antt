@@ -1,8 +1,7 @@
 -- `collect::collect` meets its contract. The loop's invariant: the terms of the first i orders are collected. The
 -- measure is what is left of them.
-use Prim.Native.Nat.{◌-◌, ◌<◌}
 use native.Mathlib.Omega.{arith}
-use mathlib.Core.Path.{◌≡◌, refl, sym, ◌∙◌}
+use mathlib.Core.Path.{refl, sym, ◌∙◌}
 use lib.ListN.{length, get_or, length-set}
 use borrow.Author.Rules.{rules}
 use borrow.Author.Tests.{leb-true}
@@ -11,7 +10,7 @@ use Rattle.record.specs.ReadOrders.{read_order}
 use Rattle.encoding.proofs.Cuts.{read_member}
 use Rattle.desk_rules.specs.Entries.{first_entry, is_entry, term_of}
 use Rattle.desk_terms.specs.Clauses.Slots.{orders_in, HasSlot}
-use Rattle.desk_terms.proofs.Collected.{CollectedFirst, collected_none, collected_all, collected_entry, collected_other}
+use Rattle.desk_terms.proofs.Collected.{collected_none, collected_all, collected_entry, collected_other}
 use Rattle.desk_terms.proofs.collect.collect.Goals.{After-order_record-x, then-is_entry, else-is_entry}
 use Rattle.desk_terms.proofs.collect.collect.Goals as goal
 

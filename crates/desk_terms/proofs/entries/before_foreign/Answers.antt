@@ -1,10 +1,9 @@
 -- `entries::before_foreign` meets its contract. The loop's invariant: no record before the i-th is a foreign entry. The
 -- measure is what is left of them.
-use Prim.Native.Nat.{◌-◌, ◌≤◌}
 use native.Mathlib.Omega.{arith}
 use mathlib.Core.Path.{sym, ◌∙◌}
 use borrow.Author.Rules.{rules}
-use Rattle.desk_terms.proofs.BeforeForeign.{NoneBefore, none_left, foreign_next, none_next}
+use Rattle.desk_terms.proofs.BeforeForeign.{none_left, foreign_next, none_next}
 use Rattle.desk_terms.proofs.entries.before_foreign.Goals as goal
 
 pub returns-then-is_foreign : goal.returns-then-is_foreign

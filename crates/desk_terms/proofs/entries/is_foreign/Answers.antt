@@ -1,6 +1,4 @@
 -- `entries::is_foreign` meets its contract. The tests are passed in the order of the definition.
-use borrow.Author.Rules.{rules}
-use borrow.Author.Tests.{not-true, not-false}
 use Rattle.desk_rules.specs.Entries.{is_foreign}
 use Rattle.desk_terms.proofs.entries.is_foreign.Goals as goal
 

@@ -2,7 +2,6 @@
 use native.Mathlib.Nat.{mul-le-mul_left}
 use native.Mathlib.Omega.{arith}
 use mathlib.Core.Path.{refl}
-use borrow.Author.Rules.{rules}
 use Rattle.desk_terms.specs.Clauses.Slots.{slot_of}
 use Rattle.desk_terms.proofs.receive.slot_of.Goals as goal
 

@@ -1,13 +1,7 @@
 -- `send::send` meets its contract. The loop's invariant: the bytes of the first i terms are stored. The measure is what
 -- is left of them.
 use Prim.Native.Nat.{◌-◌, ◌≤◌}
-use native.Mathlib.Omega.{arith}
-use mathlib.Core.Path.{◌≡◌}
-use lib.ListN.{length}
-use borrow.Author.Rules.{rules}
-use Rattle.base.proofs.Stored.{stored_length}
-use Rattle.desk_rules.specs.Entries.{term_size}
-use Rattle.desk_terms.proofs.Sent.{SentFirst, sent_none, sent_more, sent_all}
+use Rattle.desk_terms.proofs.Sent.{SentFirst}
 use Rattle.desk_terms.proofs.send.send.Given as goal
 
 abbrev pub invariant-loop-i : goal.invariant-loop-i

@@ -1,6 +1,5 @@
 -- `begins::planned_refusal` meets its contract.
 use native.Mathlib.Omega.{arith}
-use borrow.Author.Rules.{rules}
 use borrow.Author.Tests.{ne_eqb, le-leb, lt-leb}
 use Rattle.record.specs.StepRecords.{is_step}
 use Rattle.tree.specs.Shape.{shape_for}

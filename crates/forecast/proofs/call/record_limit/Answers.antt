@@ -1,6 +1,5 @@
 -- `call::record_limit` meets its contract.
 use native.Mathlib.Omega.{arith}
-use borrow.Author.Rules.{rules}
 use Rattle.calls.specs.Demand3.{step_limit}
 use Rattle.calls.specs.Forecast.{record_limit}
 use Rattle.forecast.proofs.call.record_limit.Goals as goal

@@ -1,7 +1,5 @@
 -- `call::refusal_of` meets its contract.
 use mathlib.Core.Path.{ap, sym, ◌∙◌}
-use borrow.Author.Rules.{rules}
-use borrow.Author.Tests.{not-true, not-false}
 use Rattle.calls.specs.Refusals.{accepted}
 use Rattle.calls.specs.Forecast.{forecast_refusal}
 use Rattle.forecast.proofs.CallLaws.{first_refuses, second_refuses, third_refuses}

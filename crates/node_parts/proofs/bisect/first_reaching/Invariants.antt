@@ -1,8 +1,6 @@
 -- `bisect::first_reaching` meets its contract. The loop's invariant: places up to low are below x, and high reaches it.
 -- The measure is the distance between the two.
 use Prim.Native.Nat.{ℕ, ◌-◌, ◌≤◌, ◌<◌}
-use native.Mathlib.Omega.{arith}
-use native.Mathlib.Nat.{lt_of_le_of_lt}
 use Rattle.tree.specs.Blocks.{word_in}
 use Rattle.node_parts.proofs.bisect.first_reaching.Given as goal
 

@@ -1,7 +1,6 @@
 -- `blocks::block_in` meets its contract. Each word read is a word of the block.
 use mathlib.Core.Path.{refl}
 use Rattle.tree.specs.Blocks.{word_in, block_in}
-use borrow.Author.Rules.{rules}
 use Rattle.node_parts.proofs.blocks.block_in.Goals as goal
 
 pub returns : goal.returns

@@ -1,6 +1,5 @@
 -- `blocks::set_super` meets its contract. A store of one word is the block written with that word changed, and no store
 -- is the block written back.
-use borrow.Author.Rules.{rules}
 use Rattle.node_parts.proofs.BlockStores.{super_stored, super_kept}
 use Rattle.node_parts.proofs.blocks.set_super.Goals as goal
 

@@ -1,6 +1,5 @@
 -- `blocks::total` meets its contract.
 use Rattle.tree.specs.Order.{total}
-use borrow.Author.Rules.{rules}
 use Rattle.node_parts.proofs.blocks.total.Goals as goal
 
 pub returns-in-Puts : goal.returns-in-Puts

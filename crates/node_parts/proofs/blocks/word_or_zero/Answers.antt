@@ -1,7 +1,6 @@
 -- `blocks::word_or_zero` meets its contract. Past the end a list reads as 0.
 use mathlib.Core.Path.{sym}
 use lib.ListN.{get_or-eq_default}
-use borrow.Author.Rules.{rules}
 use Rattle.node_parts.proofs.blocks.word_or_zero.Goals as goal
 
 pub returns : goal.returns

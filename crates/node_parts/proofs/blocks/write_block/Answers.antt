@@ -2,7 +2,6 @@
 use native.Mathlib.Omega.{arith}
 use lib.ListN.{length-set}
 use Rattle.node_parts.proofs.BlockStores.{block_stored}
-use borrow.Author.Rules.{rules}
 use Rattle.node_parts.proofs.blocks.write_block.Goals as goal
 
 pub bounds-part-at-2 : goal.bounds-part-at-2

@@ -1,6 +1,5 @@
 -- `heads::head_of` meets its contract.
 use Rattle.base.proofs.Entries.{entry}
-use borrow.Author.Rules.{rules}
 use Rattle.node_parts.proofs.heads.head_of.Goals as goal
 
 pub returns : goal.returns

@@ -2,7 +2,6 @@
 use mathlib.Core.Path.{refl}
 use borrow.Author.Tests.{eq-eqb, ne_eqb}
 use Rattle.tree.specs.Memory.{head_of, head_is, raise}
-use borrow.Author.Rules.{rules}
 use Rattle.node_parts.proofs.heads.raise.Goals as goal
 
 pub returns-then-head_of-h : goal.returns-then-head_of-h

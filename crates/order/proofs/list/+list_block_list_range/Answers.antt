@@ -1,15 +1,12 @@
 -- `list::list_block` and `list::list_range` meet their contracts. Both measures are the node's height, which list_block
 -- lowers by one; a range counts for more than a block of its node. The invariant of the loop: the blocks after `from`,
 -- up to b, are stored.
-use Prim.Native.Nat.{ℕ, ◌+◌, ◌*◌, ◌-◌, ◌≤◌, ◌<◌}
+use Prim.Native.Nat.{ℕ}
 use native.Mathlib.Omega.{arith}
 use mathlib.Core.Path.{◌≡◌, refl, ap}
-use lib.ListN.{length}
 use borrow.Author.Rules.{rules}
 use Rattle.tree.specs.Shape.{left_of, right_of}
 use Rattle.order.specs.declared.Subtree.{Subtree}
-use Rattle.order.specs.Clauses.Opens.{RangeOf}
-use Rattle.order.specs.Clauses.Listed.{Lists, block_records, gathered}
 use Rattle.base.proofs.Stored.{stored_none}
 use Rattle.order.proofs.Storing.{room_first, room_second, lists_both, gathered_none, gathered_room, gathered_more}
 use Rattle.order.proofs.Subblocks.{subtree_low, block_first, block_place, range_block, block_parts}

@@ -1,5 +1,4 @@
 -- `list::adds` meets its contract.
-use borrow.Author.Rules.{rules}
 use Rattle.order.proofs.list.adds.Goals as goal
 
 pub returns : goal.returns

@@ -1,5 +1,4 @@
 -- `list::kind_number` meets its contract. By cases.
-use borrow.Author.Rules.{rules}
 use Rattle.order.specs.OrderList.{kind_number}
 use Rattle.order.proofs.list.kind_number.Goals as goal
 

@@ -4,7 +4,6 @@ use Rattle.record.proofs.Lengths.{order_record_length}
 use Rattle.base.proofs.Stored.{stored_none, stored_all}
 use Rattle.order.proofs.Subblocks.{block_first, block_small, block_place}
 use Rattle.order.proofs.LeafRecords.{kind_small, leaf_process, leaf_small, leaf_none, leaf_one}
-use borrow.Author.Rules.{rules}
 use Rattle.order.proofs.list.list_leaf.Goals as goal
 
 pub adds-requires : goal.adds-requires

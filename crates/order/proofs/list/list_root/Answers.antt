@@ -1,5 +1,4 @@
 -- `list::list_root` meets its contract.
-use borrow.Author.Rules.{rules}
 use Rattle.order.proofs.Storing.{room_first, room_second, lists_both}
 use Rattle.order.proofs.RootRecords.{root_parts}
 use Rattle.order.proofs.list.list_root.Goals as goal

@@ -1,5 +1,4 @@
 -- `roots::list_length` meets its contract.
-use borrow.Author.Rules.{rules}
 use native.Mathlib.Omega.{arith}
 use Rattle.order.proofs.LastBlock.{root_small, last_place_lem, last_counts}
 use Rattle.order.proofs.roots.list_length.Goals as goal

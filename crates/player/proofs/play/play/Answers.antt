@@ -5,9 +5,7 @@ use native.Mathlib.Omega.{arith}
 use mathlib.Core.Path.{refl, ap, sym, ◌∙◌}
 use mathlib.Core.Bool.{true, false}
 use lib.ListN.{get_or}
-use borrow.Author.Rules.{rules}
 use Rattle.steps.specs.declared.Status.TheVariants.{Idle}
-use Rattle.steps.specs.declared.Process.{Process}
 use Rattle.steps.specs.Process.{idle}
 use Rattle.steps.specs.Machine.{is_idle, is_q}
 use Rattle.build_steps.proofs.Decision.{decided_next}

@@ -1,5 +1,4 @@
 -- The loop of `play`: its invariant is `LoopInvariant`, its measure what is left of the records.
-use Prim.Native.Nat.{◌-◌}
 use Rattle.player.proofs.LoopInvariant.{LoopInvariant}
 use Rattle.player.proofs.play.play.Given as goal
 

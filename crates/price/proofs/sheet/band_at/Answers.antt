@@ -2,7 +2,6 @@
 use native.Mathlib.Omega.{arith}
 use lib.ListN.{drop}
 use lib.Seq.{take-take}
-use borrow.Author.Rules.{rules}
 use Rattle.encoding.proofs.Numbers.{part_of_part}
 use Rattle.price.specs.Sheet.{band}
 use Rattle.price.proofs.sheet.band_at.Goals as goal

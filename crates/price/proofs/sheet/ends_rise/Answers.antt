@@ -1,13 +1,10 @@
 -- `sheet::ends_rise` meets its contract. The loop's invariant: the ends rise up to that of the band before number i.
 -- The measure is what is left of the bands.
-use Prim.Native.Nat.{◌-◌, ◌/◌, ◌≤◌}
+use Prim.Native.Nat.{◌-◌}
 use native.Mathlib.Omega.{arith}
 use mathlib.Core.Path.{refl, sym, ◌∙◌}
-use lib.ListN.{length}
-use borrow.Author.Rules.{rules}
-use Rattle.price.specs.Sheet.{rising}
 use Rattle.price.proofs.Bands.{bands_length}
-use Rattle.price.proofs.SheetTests.{DownTo, rising_end, end_falls, end_rises}
+use Rattle.price.proofs.SheetTests.{rising_end, end_falls, end_rises}
 use Rattle.price.proofs.sheet.ends_rise.Goals as goal
 
 pub loop-i-init : goal.loop-i-init

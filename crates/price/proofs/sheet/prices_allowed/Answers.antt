@@ -1,13 +1,9 @@
 -- `sheet::prices_allowed` meets its contract. The loop's invariant: no price before band i is too high. The measure is
 -- what is left of the bands.
-use Prim.Native.Nat.{◌-◌, ◌/◌}
 use native.Mathlib.Omega.{arith}
 use mathlib.Core.Path.{refl, sym, ◌∙◌}
-use lib.ListN.{length}
-use borrow.Author.Rules.{rules}
-use Rattle.price.specs.Sheet.{prices_allowed}
 use Rattle.price.proofs.Bands.{bands_length}
-use Rattle.price.proofs.SheetTests.{DownTo, prices_end, price_high, price_low}
+use Rattle.price.proofs.SheetTests.{prices_end, price_high, price_low}
 use Rattle.price.proofs.sheet.prices_allowed.Goals as goal
 
 pub loop-i-init : goal.loop-i-init

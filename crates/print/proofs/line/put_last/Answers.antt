@@ -1,6 +1,5 @@
 -- `line::put_last` meets its contract.
 use native.Mathlib.Omega.{arith}
-use borrow.Author.Rules.{rules}
 use Rattle.base.proofs.Stored.{stored_then}
 use Rattle.text.specs.Characters.{ascii}
 use Rattle.print.specs.Lines.{last_line}

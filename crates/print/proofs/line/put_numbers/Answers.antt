@@ -1,6 +1,5 @@
 -- `line::put_numbers` meets its contract.
 use native.Mathlib.Omega.{arith}
-use borrow.Author.Rules.{rules}
 use Rattle.base.proofs.Stored.{stored_then}
 use Rattle.print.specs.Lines.{number_fields}
 use Rattle.print.proofs.Lengths.{numbers_length}

@@ -2,7 +2,6 @@
 use native.Mathlib.Omega.{arith}
 use mathlib.Core.Path.{ap}
 use lib.ListN.{length}
-use borrow.Author.Rules.{rules}
 use Rattle.record.specs.declared.Reply.{Reply}
 use Rattle.base.proofs.Stored.{stored_none}
 use Rattle.text.specs.Characters.{ascii}

@@ -1,6 +1,5 @@
 -- `page::put_printed` meets its contract.
 use native.Mathlib.Omega.{arith}
-use borrow.Author.Rules.{rules}
 use Rattle.base.proofs.Stored.{stored_then}
 use Rattle.print.specs.Printed.{printed}
 use Rattle.print.proofs.AnswerLines.{text_most}

@@ -1,6 +1,5 @@
 -- `check_log::check_accepted` meets its contract.
 use mathlib.Core.Path.{refl}
-use borrow.Author.Rules.{rules}
 use Rattle.calls.proofs.CallAccepted.{check_call}
 use Rattle.refusals.proofs.Found.{found_accepted, found_refused}
 use Rattle.queue.proofs.CheckLaws.{check_few, check_refused, check_compared}

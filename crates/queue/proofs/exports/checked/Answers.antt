@@ -1,6 +1,5 @@
 -- `exports::checked` meets its contract.
 use mathlib.Core.Path.{refl}
-use borrow.Author.Rules.{rules}
 use Rattle.calls.specs.CheckLog.{verdict_refusal, verdict_number, verdict_index, checked}
 use Rattle.queue.specs.Exported.{check_exported}
 use Rattle.queue.proofs.exports.checked.Goals as goal

@@ -1,5 +1,4 @@
 -- `exports::otq_list_order` meets its contract.
-use borrow.Author.Rules.{rules}
 use Rattle.queue.proofs.Exporting.{list_export}
 use Rattle.queue.proofs.exports.otq_list_order.Goals as goal
 

@@ -1,6 +1,5 @@
 -- `list_order::list_accepted` meets its contract.
 use mathlib.Core.Path.{refl}
-use borrow.Author.Rules.{rules}
 use Rattle.refusals.proofs.Found.{found_accepted, found_refused}
 use Rattle.queue.proofs.ListLaws.{list_refused, list_listing, list_left_lem}
 use Rattle.queue.proofs.list_order.list_accepted.Goals as goal

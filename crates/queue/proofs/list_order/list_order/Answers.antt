@@ -1,5 +1,4 @@
 -- `list_order::list_order` meets its contract.
-use borrow.Author.Rules.{rules}
 use Rattle.refusals.proofs.Found.{found_accepted, found_refused}
 use Rattle.queue.proofs.ListLaws.{list_down}
 use Rattle.queue.proofs.list_order.list_order.Goals as goal

@@ -3,7 +3,6 @@ use Prim.Native.Nat.{◌*◌}
 use native.Mathlib.Omega.{arith}
 use mathlib.Core.Path.{◌≡◌, ◌∙◌}
 use lib.ListN.{take}
-use borrow.Author.Rules.{rules}
 use Rattle.tree.specs.Layout.{words_needed}
 use Rattle.tree.specs.Clauses.SoundTree.{SoundTree}
 use Rattle.tree.specs.Shape.{shape_for}

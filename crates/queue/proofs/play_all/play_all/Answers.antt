@@ -2,7 +2,6 @@
 use Prim.Native.Nat.{ℕ, ◌*◌}
 use mathlib.Core.Path.{refl, ap, sym, ◌∙◌}
 use mathlib.Core.Logic.{inl}
-use borrow.Author.Rules.{rules}
 use Rattle.queue.proofs.Accepted.{accepted_heads, accepted_nodes, accepted_callable}
 use Rattle.queue.proofs.PlayAll.{played_all}
 use Rattle.queue.proofs.play_all.play_all.Goals as goal

@@ -1,7 +1,6 @@
 -- `run::run_accepted` meets its contract.
 use mathlib.Core.Path.{refl, sym}
 use mathlib.Core.Logic.{inr}
-use borrow.Author.Rules.{rules}
 use Rattle.queue.proofs.Accepted.{accepted_heads, accepted_nodes, accepted_callable}
 use Rattle.queue.proofs.RunLaws.{run_left_lem}
 use Rattle.queue.proofs.run.run_accepted.Goals as goal

@@ -1,7 +1,6 @@
 -- `before::buffers` meets its contract.
 use native.Mathlib.Omega.{arith}
 use mathlib.Core.Path.{◌∙◌}
-use borrow.Author.Rules.{rules}
 use borrow.Author.Tests.{lt-ltb, le-ltb}
 use Rattle.calls.specs.Refusals.{buffer_refusal}
 use Rattle.calls.proofs.CallAccepted.{settings_operations}

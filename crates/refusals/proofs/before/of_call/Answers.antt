@@ -1,5 +1,4 @@
 -- `before::of_call` meets its contract.
-use borrow.Author.Rules.{rules}
 use Rattle.calls.specs.Refusals.{first_refusal, call_refusal}
 use Rattle.refusals.proofs.Found.{found_accepted, found_refused}
 use Rattle.refusals.proofs.before.of_call.Goals as goal

@@ -1,5 +1,4 @@
 -- `before::of_check` meets its contract.
-use borrow.Author.Rules.{rules}
 use borrow.Author.Tests.{eq-eqb, ne_eqb}
 use Rattle.record.specs.AnswerRecords.{answer_size}
 use Rattle.calls.specs.Refusals.{torn, first_refusal}

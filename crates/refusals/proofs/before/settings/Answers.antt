@@ -1,5 +1,4 @@
 -- `before::settings` meets its contract.
-use borrow.Author.Rules.{rules}
 use Rattle.calls.specs.Refusals.{settings_refusal}
 use Rattle.refusals.proofs.before.settings.Goals as goal
 

@@ -1,5 +1,4 @@
 -- `numbers::accepted` meets its contract.
-use borrow.Author.Rules.{rules}
 use Rattle.calls.specs.Refusals.{accepted}
 use Rattle.refusals.proofs.numbers.accepted.Goals as goal
 

@@ -1,5 +1,4 @@
 -- `numbers::number` meets its contract.
-use borrow.Author.Rules.{rules}
 use Rattle.calls.specs.Refusals.{refusal_number}
 use Rattle.refusals.proofs.numbers.number.Goals as goal
 

@@ -2,7 +2,6 @@
 use borrow.Author.Tests.{eq-eqb, ne_eqb}
 use Rattle.tree.specs.Order.{total}
 use Rattle.search.specs.Clauses.Climbing.{beside_of}
-use borrow.Author.Rules.{rules}
 use Rattle.search.proofs.climb.beside.Goals as goal
 
 pub block_at-requires : goal.block_at-requires

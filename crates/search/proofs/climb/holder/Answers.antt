@@ -1,5 +1,4 @@
 -- `climb::holder` meets its contract.
-use borrow.Author.Rules.{rules}
 use Rattle.search.proofs.climb.holder.Goals as goal
 
 pub first_place-requires : goal.first_place-requires

@@ -1,11 +1,7 @@
 -- `climb::root_block` meets its contract. The loop's invariant is `Reached`; the measure is the node, which each turn
 -- halves.
-use Prim.Native.Nat.{ℕ}
 use native.Mathlib.Omega.{arith}
-use Rattle.tree.specs.Shape.{Shape}
-use Rattle.search.specs.Clauses.Stands.{Stands}
-use Rattle.search.proofs.Holding.{Reached}
-use Rattle.base.proofs.Somes.{OfEach, of_one, of_next}
+use Rattle.base.proofs.Somes.{of_one, of_next}
 use Rattle.search.proofs.LeafHolds.{leaf_reached}
 use Rattle.search.proofs.ClimbLaws.{node_first, top_block, node_ascends, climbs}
 use Rattle.search.proofs.climb.root_block.Goals as goal

@@ -1,15 +1,11 @@
 -- `climb::standing` meets its contract. The loop's invariant is that of `root_block` with the count, `Counted`; the
 -- measure is the node, which each turn halves.
 use Prim.Native.Nat.{ℕ}
-use native.Mathlib.Omega.{arith}
 use Rattle.tree.specs.declared.Kind.TheVariants.{Takes}
 use Rattle.tree.specs.Shape.{Shape}
-use Rattle.tree.specs.Order.{total}
 use Rattle.search.specs.Clauses.Stands.{StandsOf}
 use Rattle.search.proofs.Holding.{Counted}
-use Rattle.base.proofs.Somes.{OfEach, of_one, of_next}
-use Rattle.search.proofs.LeafHolds.{leaf_place, leaf_counted}
-use Rattle.search.proofs.ClimbLaws.{node_first, top_place, node_ascends, node_beside, number_small, top_low, top_stands, climbs_counted}
+use Rattle.base.proofs.Somes.{OfEach}
 use Rattle.search.proofs.climb.standing.Given as goal
 
 abbrev pub invariant-loop-v : goal.invariant-loop-v

@@ -2,7 +2,6 @@
 use native.Mathlib.Omega.{arith}
 use Rattle.base.proofs.Somes.{some_two}
 use Rattle.search.proofs.FindLaws.{down_ready, down_to, find_place, leaf_found}
-use Prim.Native.Nat.{ℕ, ◌<◌}
 use Rattle.search.proofs.find.+find_put.Goals as goal
 
 pub block_at-requires : goal.block_at-requires

@@ -3,7 +3,6 @@ use Prim.Native.Nat.{◌+◌}
 use native.Mathlib.Omega.{arith}
 use borrow.Author.Tests.{le-leb, lt-leb}
 use Rattle.search.specs.Clauses.Descending.{descent_of}
-use borrow.Author.Rules.{rules}
 use Rattle.search.proofs.find.descend.Goals as goal
 
 pub block_at-left-requires : goal.block_at-left-requires

@@ -1,6 +1,5 @@
 -- `places::first_in` meets its contract.
 use Rattle.search.proofs.Firsts.{last_some, first_found}
-use borrow.Author.Rules.{rules}
 use Rattle.search.proofs.places.first_in.Goals as goal
 
 pub returns-then-is_first : goal.returns-then-is_first

@@ -1,6 +1,5 @@
 -- `places::first_place` meets its contract.
 use Rattle.tree.specs.Clauses.Access.{node_part}
-use borrow.Author.Rules.{rules}
 use Rattle.search.proofs.places.first_place.Goals as goal
 
 pub first_in-requires : goal.first_in-requires

@@ -3,7 +3,6 @@ use native.Mathlib.Omega.{arith}
 use mathlib.Core.Bool.{false≢true}
 use borrow.Author.Tests.{ltb-true, lt-ltb}
 use Rattle.tree.specs.Blocks.{word_in}
-use borrow.Author.Rules.{rules}
 use Rattle.search.proofs.places.is_first.Goals as goal
 
 pub returns-then-i-eq0 : goal.returns-then-i-eq0

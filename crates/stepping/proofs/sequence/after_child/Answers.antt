@@ -2,7 +2,6 @@
 use mathlib.Core.Path.{ap, sym, ◌∙◌}
 use mathlib.Core.Bool.{false≢true}
 use Rattle.steps.specs.Rules.{of_child, resume}
-use borrow.Author.Rules.{rules}
 use Rattle.stepping.proofs.sequence.after_child.Goals as goal
 
 pub returns-in-Right : goal.returns-in-Right

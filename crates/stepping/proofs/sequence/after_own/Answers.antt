@@ -1,12 +1,11 @@
 -- `sequence::after_own` meets its contract.
-use mathlib.Core.Path.{◌≡◌, refl, ◌∙◌}
+use mathlib.Core.Path.{◌≡◌, ◌∙◌}
 use mathlib.Core.Bool.{false, true≢false}
 use mathlib.Core.Logic.{◌⊎◌, inl, inr}
 use Rattle.steps.specs.declared.Visit.{Visit}
 use Rattle.steps.specs.declared.After.{After}
 use Rattle.steps.specs.declared.After.TheVariants.{Right, Ends, Up}
 use Rattle.steps.specs.Rules.{above, of_child, resume}
-use borrow.Author.Rules.{rules}
 use Rattle.stepping.proofs.sequence.after_own.Goals as goal
 
 -- in the arm of the way up

@@ -1,6 +1,5 @@
 -- `sequence::after_refresh` meets its contract.
 use Rattle.steps.specs.Rules.{after_failed, after_refresh}
-use borrow.Author.Rules.{rules}
 use Rattle.stepping.proofs.sequence.after_refresh.Goals as goal
 
 -- it succeeded

@@ -1,5 +1,4 @@
 -- `turn::helps_after` meets its contract.
-use borrow.Author.Rules.{rules}
 use Rattle.stepping.proofs.turn.helps_after.Goals as goal
 
 pub returns-then-helped : goal.returns-then-helped

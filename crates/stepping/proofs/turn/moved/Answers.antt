@@ -1,5 +1,4 @@
 -- `turn::moved` meets its contract.
-use borrow.Author.Rules.{rules}
 use Rattle.stepping.proofs.turn.moved.Goals as goal
 
 pub returns : goal.returns

@@ -1,6 +1,5 @@
 -- `turn::moved_telling` meets its contract.
 use Rattle.steps.specs.Rules.{go_telling}
-use borrow.Author.Rules.{rules}
 use Rattle.stepping.proofs.turn.moved_telling.Goals as goal
 
 pub returns : goal.returns

@@ -1,5 +1,4 @@
 -- `turn::operation_in` meets its contract.
-use borrow.Author.Rules.{rules}
 use Rattle.stepping.proofs.turn.operation_in.Goals as goal
 
 pub returns-in-Idle : goal.returns-in-Idle

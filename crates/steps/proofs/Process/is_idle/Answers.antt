@@ -1,5 +1,4 @@
 -- `Process::is_idle` meets its contract.
-use borrow.Author.Rules.{rules}
 use Rattle.steps.specs.Machine.{is_idle}
 use Rattle.steps.proofs.Process.is_idle.Goals as goal
 

@@ -1,6 +1,5 @@
 -- `Process::rested` meets its contract.
 use mathlib.Core.Path.{refl}
-use borrow.Author.Rules.{rules}
 use Rattle.steps.specs.Clauses.Operations.{rested}
 use Rattle.steps.proofs.Process.rested.Goals as goal
 

@@ -2,7 +2,6 @@
 use borrow.Author.Tests.{eq-eqb, ne_eqb}
 use Rattle.tree.specs.Blocks.{block_in, absent}
 use Rattle.tree.specs.Clauses.Access.{node_block}
-use borrow.Author.Rules.{rules}
 use Rattle.table.proofs.access.absent_at.Goals as goal
 
 pub returns-then-word_at-eq0 : goal.returns-then-word_at-eq0

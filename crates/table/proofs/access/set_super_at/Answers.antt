@@ -1,6 +1,5 @@
 -- `access::set_super_at` meets its contract.
 use Rattle.tree.specs.Clauses.Access.{node_part, node_block, with_node_block}
-use borrow.Author.Rules.{rules}
 use Rattle.table.proofs.access.set_super_at.Goals as goal
 
 pub returns : goal.returns

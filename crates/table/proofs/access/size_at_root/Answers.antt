@@ -1,7 +1,6 @@
 -- `access::size_at_root` meets its contract.
 use Rattle.tree.specs.Blocks.{block_in}
 use Rattle.tree.specs.Clauses.Access.{node_block}
-use borrow.Author.Rules.{rules}
 use Rattle.table.proofs.access.size_at_root.Goals as goal
 
 pub returns : goal.returns

@@ -1,5 +1,4 @@
 -- `access::start_of` meets its contract.
-use borrow.Author.Rules.{rules}
 use Rattle.table.proofs.access.start_of.Goals as goal
 
 pub returns : goal.returns

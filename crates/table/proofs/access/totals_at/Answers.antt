@@ -1,7 +1,6 @@
 -- `access::totals_at` meets its contract. Each word read is a word of the block.
 use Rattle.tree.specs.Blocks.{block_in}
 use Rattle.tree.specs.Clauses.Access.{node_block, totals_of}
-use borrow.Author.Rules.{rules}
 use Rattle.table.proofs.access.totals_at.Goals as goal
 
 pub returns : goal.returns

@@ -1,7 +1,6 @@
 -- `access::word_in_place` meets its contract.
 use Rattle.tree.specs.Blocks.{word_in}
 use Rattle.tree.specs.Clauses.Access.{node_part}
-use borrow.Author.Rules.{rules}
 use Rattle.table.proofs.access.word_in_place.Goals as goal
 
 pub returns : goal.returns

@@ -1,6 +1,5 @@
 -- `access::write_at` meets its contract.
 use Rattle.tree.specs.Clauses.Access.{node_part, with_node_block}
-use borrow.Author.Rules.{rules}
 use Rattle.table.proofs.access.write_at.Goals as goal
 
 pub returns : goal.returns

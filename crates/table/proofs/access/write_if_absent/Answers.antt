@@ -1,5 +1,4 @@
 -- `access::write_if_absent` meets its contract.
-use borrow.Author.Rules.{rules}
 use Rattle.table.proofs.access.write_if_absent.Goals as goal
 
 pub returns-then-empty : goal.returns-then-empty

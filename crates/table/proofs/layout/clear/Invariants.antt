@@ -1,12 +1,9 @@
 -- `layout::clear` meets its contract. The loop's invariant: the first i words are 0, the others as they were. The
 -- measure is what is left of the n.
 use Prim.Native.Nat.{◌≤◌, ◌-◌}
-use native.Mathlib.Omega.{arith}
-use mathlib.Core.Path.{◌≡◌, refl}
+use mathlib.Core.Path.{◌≡◌}
 use mathlib.Core.List.{◌++◌}
-use lib.ListN.{length, drop, replicate, length-set}
-use borrow.Author.Rules.{rules}
-use borrow.Author.Fill.{fill_more}
+use lib.ListN.{length, drop, replicate}
 use Rattle.table.proofs.layout.clear.Given as goal
 
 abbrev pub invariant-loop-i : goal.invariant-loop-i

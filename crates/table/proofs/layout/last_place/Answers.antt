@@ -1,6 +1,5 @@
 -- `layout::last_place` meets its contract. The product is small, since each factor is.
 use native.Mathlib.Omega.{arith}
-use borrow.Author.Rules.{rules}
 use Rattle.tree.specs.Shape.{height_of, last_place}
 use Rattle.tree.proofs.LayoutSums.{product_most}
 use Rattle.table.proofs.layout.last_place.Goals as goal

@@ -1,6 +1,5 @@
 -- `layout::part_words` meets its contract. By cases on node 0.
 use native.Mathlib.Omega.{arith}
-use borrow.Author.Rules.{rules}
 use Rattle.tree.specs.Shape.{Shape}
 use Rattle.tree.specs.Layout.{part_words}
 use Rattle.tree.proofs.Sizes.{words_of}

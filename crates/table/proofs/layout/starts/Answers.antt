@@ -1,13 +1,12 @@
 -- `layout::starts` meets its contract. The loop's invariant: the starts up to v are right, the others are the words
 -- needed. The measure is what is left of the nodes.
-use Prim.Native.Nat.{ℕ, ◌+◌, ◌*◌, ◌-◌, ◌≤◌, ◌<◌}
+use Prim.Native.Nat.{◌+◌, ◌<◌}
 use native.Mathlib.Omega.{arith}
 use mathlib.Core.Path.{◌≡◌, refl, ◌∙◌}
-use lib.ListN.{length, get_or, length-set}
+use lib.ListN.{length, length-set}
 use lib.Seq.{get_or-set_same}
-use borrow.Author.Rules.{rules}
 use Rattle.tree.specs.Shape.{processes}
-use Rattle.tree.specs.Layout.{part_start, block_words}
+use Rattle.tree.specs.Layout.{part_start}
 use Rattle.tree.proofs.LayoutSums.{start_more, starts_blank, start_rest}
 use Rattle.table.proofs.layout.starts.Goals as goal
 

@@ -1,6 +1,5 @@
 -- `layout::words_needed` meets its contract. The products are small, since each factor is.
 use native.Mathlib.Omega.{arith}
-use borrow.Author.Rules.{rules}
 use Rattle.tree.specs.Shape.{processes}
 use Rattle.tree.specs.Layout.{words_needed}
 use Rattle.tree.proofs.LayoutSums.{places_most}

@@ -1,6 +1,5 @@
 -- `table::node_set_super` meets its contract. The part that was written is put back between what stands before it and
 -- behind it.
-use borrow.Author.Rules.{rules}
 use Rattle.tree.proofs.NodeParts.{put_back}
 use Rattle.table.proofs.parts.node_set_super.Goals as goal
 
