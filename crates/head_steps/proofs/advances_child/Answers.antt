@@ -15,19 +15,19 @@ use Rattle.head_steps.proofs.advances_child.Goals.{In-V3}
 use Rattle.head_steps.proofs.advances_child.Goals as goal
 
 -- by the arm
-of-child : (a : After) → OneOf (0 ∷ 1 ∷ []) (declared.tag_of afters.the_type a) → true ≡ of_child a
+child_of : (a : After) → OneOf (0 ∷ 1 ∷ []) (declared.tag_of afters.the_type a) → true ≡ of_child a
 unfolding of_child
-of-child Right k = refl
-of-child Ends k = refl
-of-child Again k = absurd (miss (0 ∷ 1 ∷ []) 2 tt k)
-of-child Up k = absurd (miss (0 ∷ 1 ∷ []) 3 tt k)
+child_of Right k = refl
+child_of Ends k = refl
+child_of Again k = absurd (miss (0 ∷ 1 ∷ []) 2 tt k)
+child_of Up k = absurd (miss (0 ∷ 1 ∷ []) 3 tt k)
 
-of-own : (a : After) → OneOf (2 ∷ 3 ∷ []) (declared.tag_of afters.the_type a) → false ≡ of_child a
+own_of : (a : After) → OneOf (2 ∷ 3 ∷ []) (declared.tag_of afters.the_type a) → false ≡ of_child a
 unfolding of_child
-of-own Right k = absurd (miss (2 ∷ 3 ∷ []) 0 tt k)
-of-own Ends k = absurd (miss (2 ∷ 3 ∷ []) 1 tt k)
-of-own Again k = refl
-of-own Up k = refl
+own_of Right k = absurd (miss (2 ∷ 3 ∷ []) 0 tt k)
+own_of Ends k = absurd (miss (2 ∷ 3 ∷ []) 1 tt k)
+own_of Again k = refl
+own_of Up k = refl
 
 at : (c : In-V3) → step_in c.args.q.status ≡ V3 c.in-V3.after c.in-V3.visit c.in-V3.node c.in-V3.place
 at c = sym c.step_in.ensures ∙ c.in-V3.is
@@ -38,9 +38,9 @@ returns-in_default c = (λ a b i j e. absurd (c.in_default.not-V3 a b i j (c.ste
 pub returns-in-Right : goal.returns-in-Right
 returns-in-Right c =
     let here = at (goal.at.returns-in-Right c).In-V3 in
-    (λ _ _ _ _ e. of-child _ c.in-Right.in-Right-own.keys1 ∙ ap of_child (same_advance (sym here ∙ e)).0, λ no. absurd (no _ _ _ _ here))
+    (λ _ _ _ _ e. child_of _ c.in-Right.in-Right-own.keys1 ∙ ap of_child (same_advance (sym here ∙ e)).0, λ no. absurd (no _ _ _ _ here))
 
 pub returns-in-Again : goal.returns-in-Again
 returns-in-Again c =
     let here = at (goal.at.returns-in-Again c).In-V3 in
-    (λ _ _ _ _ e. of-own _ c.in-Again.in-Again-own.keys2 ∙ ap of_child (same_advance (sym here ∙ e)).0, λ no. absurd (no _ _ _ _ here))
+    (λ _ _ _ _ e. own_of _ c.in-Again.in-Again-own.keys2 ∙ ap of_child (same_advance (sym here ∙ e)).0, λ no. absurd (no _ _ _ _ here))

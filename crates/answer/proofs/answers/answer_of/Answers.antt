@@ -12,8 +12,8 @@ use Rattle.answer.proofs.AtQ.{leaf_small, answer_small, stands_as, put_answer, t
 use Rattle.answer.proofs.answers.answer_of.Goals as goal
 
 -- its own steps and its serial fit their fields
-answer-fits : {s : Shape} {ps : List Process} {starts heads table : List ℕ} {k : ℕ} {q : Process} → Plays s ps starts heads table k q → (q.steps < 65535) × (q.begun < 65536)
-answer-fits plays = (omega (arith, steps_small _ _ _ _ _ _ _ plays), omega (arith, begun_small _ _ _ _ _ _ _ plays))
+answer_fits : {s : Shape} {ps : List Process} {starts heads table : List ℕ} {k : ℕ} {q : Process} → Plays s ps starts heads table k q → (q.steps < 65535) × (q.begun < 65536)
+answer_fits plays = (omega (arith, steps_small _ _ _ _ _ _ _ plays), omega (arith, begun_small _ _ _ _ _ _ _ plays))
 
 pub overflow_add-leaf : goal.overflow_add-leaf
 overflow_add-leaf c = let p = c.requires.0 in omega (arith, leaf_small p.plays p.width)
@@ -27,7 +27,7 @@ root_block-block-requires c =
     some_two _ _ (stands_as p.0.plays p.0.width p.1 c.serial-serial.ensures)
 
 pub answer-requires : goal.answer-requires
-answer-requires c = answer-fits c.requires.0.plays
+answer-requires c = answer_fits c.requires.0.plays
 
 pub standing-at-requires : goal.standing-at-requires
 standing-at-requires c =
@@ -44,7 +44,7 @@ take_reply-reply-requires c =
     some_two _ _ (taken_as p.0.plays p.0.width p.1 n e z c.height_for.ensures.0)
 
 pub answer-requires-in-Take : goal.answer-requires-in-Take
-answer-requires-in-Take c = answer-fits c.requires.0.plays
+answer-requires-in-Take c = answer_fits c.requires.0.plays
 
 pub returns-in-Put : goal.returns-in-Put
 returns-in-Put c =

@@ -25,9 +25,6 @@ returns-then-p-licensed c =
     licence_down _ _ told.result _ refl told.ensures.rules _ _ _ _ _ c.if-settings-ne0.false c.if-p-licensed.true c.refused-then-p-licensed.ensures
 
 -- p, l and the licensed process passed their tests
-abbrev AtFirst : Type 0
-AtFirst = After-before_foreign-before
-
 abbrev IsAllowed : After-before_foreign-before → Type 0
 IsAllowed c = let a = c.args in Allowed a.p a.l a.licensed
 
@@ -49,9 +46,6 @@ deliver_plain-requires c =
     )
 
 -- the list has a foreign entry, and is cut behind the first
-abbrev AtCut : Type 0
-AtCut = Else-before-records
-
 abbrev records_at : Else-before-records → List ℕ
 records_at c = c.args.records.now
 

@@ -8,9 +8,6 @@ use Rattle.desk.proofs.deliver.deliver_plain.Goals.{After-otq_list_order-listed}
 use Rattle.desk.proofs.deliver.deliver_plain.Goals as goal
 
 -- the list
-abbrev AtList : Type 0
-AtList = After-otq_list_order-listed
-
 abbrev IsListed : After-otq_list_order-listed → Type 0
 IsListed c = let last = c.otq_list_order-listed.new in
     ListedBy c.args.p c.args.l c.args.licensed c.args.records.now c.args.table.now (replicate 32000 0) c.otq_list_order-listed.result last.table

@@ -11,9 +11,6 @@ use Rattle.desk_listed.proofs.listed.receive_all.Goals.{After-otq_run-ran}
 use Rattle.desk_listed.proofs.listed.receive_all.Goals as goal
 
 -- the run
-abbrev AtRun : Type 0
-AtRun = After-otq_run-ran
-
 abbrev IsRan : After-otq_run-ran → Type 0
 IsRan c = let last = c.otq_run-ran.new in
     Ran c.args.p c.args.l c.args.records.now c.args.table.now (replicate 64000 0) c.otq_run-ran.result last.table last.answers

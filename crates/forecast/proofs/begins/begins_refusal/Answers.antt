@@ -13,9 +13,6 @@ use Rattle.forecast.proofs.begins.begins_refusal.Goals.{After-as_index-k, After-
 use Rattle.forecast.proofs.begins.begins_refusal.Goals as goal
 
 -- a record that was tested
-abbrev AtTest : Type 0
-AtTest = After-planned_refusal-refusal
-
 abbrev IsTested : After-planned_refusal-refusal → Type 0
 IsTested c = let start = c.args in
     let at-loop = c.loop-i in
@@ -40,9 +37,6 @@ pub returns-then-not-accepted : goal.returns-then-not-accepted
 returns-then-not-accepted c = read_refused (tested_at (goal.at.returns-then-not-accepted c).After-planned_refusal-refusal) (sym c.accepted.ensures ∙ c.if-not-accepted.true)
 
 -- one that is not refused
-abbrev AtSlot : Type 0
-AtSlot = After-as_index-k
-
 taken_at : (c : After-as_index-k) → accepted c.planned_refusal-refusal.result ≡ true
 taken_at c = sym c.accepted.ensures ∙ c.if-not-accepted.false
 
