@@ -22,7 +22,6 @@ use Rattle.calls.specs.Refusals.{accepted, begin_refusal}
 use Rattle.calls.specs.Run.{operation_of}
 use Rattle.answer.proofs.PlaysLaws.{begun_small}
 use Rattle.decode.specs.declared.Begin.{Begin}
-use Rattle.decode.specs.declared.Begin.TheVariants as Begin
 use Rattle.decode.specs.declared.Begin.TheVariants.{Opens}
 use Rattle.decode.specs.Clauses.Begins.{first_word, begin_of}
 use Rattle.decode.proofs.StepWords.{formed, first_word_lem, second_word, step_words}

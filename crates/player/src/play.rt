@@ -72,6 +72,8 @@ pub fn play(
                 return ended(Refusal::IllFormed, i, answers, equal);
             }
             let k = as_index(first);
+            // so that no arm has its bounds to prove
+            prove!(k < 8);
             let seen = procs[k];
             let status = seen.status;
             match status {
@@ -181,6 +183,7 @@ pub fn play(
             return ended(Refusal::IllFormed, i, answers, equal);
         };
         let k = as_index(process);
+        prove!(k < 8);
         let q = procs[k];
         let refusal = begin_refusal(l, q);
         if !accepted(refusal) {

@@ -14,14 +14,8 @@ use Rattle.player.proofs.LoopInvariant.{loop_start, loop_number, loop_narrow, lo
 use Rattle.player.proofs.StepLoop.{StepAt, step_low, step_idle, step_plays, q, step_named, step_busy, step_leaf, step_begins, step_playing, step_same, step_ready, step_fits, step_fits_leaf}
 use Rattle.player.proofs.StepLoop.{telling_moves, step_moves, heads_move, table_moves, finish_full, finish_moves}
 use Rattle.player.proofs.BeginLoop.{OtherAt, begin_low, valued_ill, other_ill, begin_few, begin_refused, begin_moves}
-use Rattle.player.proofs.play.play.Goals.{After-as_index-k, After-begin_of-begin, Else-free-lt16, In-Busy, In-loop-i}
+use Rattle.player.proofs.play.play.Goals.{After-as_index-k, After-begin_of-begin, Else-free-lt16}
 use Rattle.player.proofs.play.play.Goals as goal
-
--- ---- at each record
-
--- the loop's counter stays small
-few : (c : In-loop-i) → c.loop-i.i + 1 < 18446744073709551616
-few c = omega arith
 
 -- ---- at a step record
 
@@ -41,32 +35,14 @@ step_at c =
       at = c.as_index-k.ensures;
     }
 
--- where that process is busy
-found : (c : In-Busy) →
-    StepAt
-    (record { p = c.args.p; l = c.args.l; starts = c.args.starts.now; records = c.args.records.now; heads = c.args.heads.now; table = c.args.table.now; room = c.args.room; out = c.args.out.now; log = c.args.log.now })
-    (record { heads = c.loop-i.heads; table = c.loop-i.table; out = c.loop-i.out; procs = c.loop-i.procs; answers = c.loop-i.answers; equal = c.loop-i.equal; left = c.loop-i.free })
-    c.loop-i.i c.word_at-first.result c.as_index-k.result
-found c =
-    record {
-      inv = c.loop-i.invariant;
-      more = c.loop-i-test.true;
-      word = c.word_at-first.ensures;
-      zero = sym c.word_at.ensures ∙ c.if-word_at-ne0.false;
-      low = c.if-first-p.true;
-      at = c.as_index-k.ensures;
-    }
-
-slot : (c : In-Busy) → c.as_index-k.result < 8
-slot c = step_low (found c)
-
-few_steps : (c : In-Busy) → (get_or c.loop-i.procs c.as_index-k.result (record { status = Idle; begun = 0; steps = 0; helps = 0 })).steps < 65536
+-- its counts are small
+few_steps : (c : After-as_index-k) → (get_or c.loop-i.procs c.as_index-k.result (record { status = Idle; begun = 0; steps = 0; helps = 0 })).steps < 65536
 unfolding idle
-few_steps c = omega (arith, steps_small _ _ _ _ _ _ _ (step_plays (found c)))
+few_steps c = omega (arith, steps_small _ _ _ _ _ _ _ (step_plays (step_at c)))
 
-few_helps : (c : In-Busy) → (get_or c.loop-i.procs c.as_index-k.result (record { status = Idle; begun = 0; steps = 0; helps = 0 })).helps < 65536
+few_helps : (c : After-as_index-k) → (get_or c.loop-i.procs c.as_index-k.result (record { status = Idle; begun = 0; steps = 0; helps = 0 })).helps < 65536
 unfolding idle
-few_helps c = omega (arith, helps_small _ _ _ _ _ _ _ (step_plays (found c)))
+few_helps c = omega (arith, helps_small _ _ _ _ _ _ _ (step_plays (step_at c)))
 
 -- where there is room for an answer
 few_answers : (c : Else-free-lt16) → 16 * c.loop-i.answers + 16 < 18446744073709551616
@@ -91,141 +67,81 @@ other_at c =
       says = c.begin_of-begin.ensures;
     }
 
+pub prove-unreachable-requires : goal.prove-unreachable-requires
+prove-unreachable-requires c =
+    omega (arith, step_low (step_at (goal.at.prove-unreachable-requires c).After-as_index-k))
+
+pub prove-unreachable-requires-in-loop-i : goal.prove-unreachable-requires-in-loop-i
+prove-unreachable-requires-in-loop-i c =
+    let begin = other_at (goal.at.prove-unreachable-requires-in-loop-i c).After-begin_of-begin in
+    omega (arith, begin_low begin c.in-Opens.is c.as_index-k-in-loop-i.ensures)
+
 pub loop-i-init : goal.loop-i-init
 unfolding idle
 loop-i-init c = rw c.start-idle.ensures (loop_start _ c.requires.0 c.requires.1)
-
-pub word_at-first-requires : goal.word_at-first-requires
-word_at-first-requires c = omega (arith, c.loop-i-test.true)
-
-pub word_at-requires : goal.word_at-requires
-word_at-requires c = omega (arith, c.loop-i-test.true)
 
 pub returns-then-word_at-ne0 : goal.returns-then-word_at-ne0
 returns-then-word_at-ne0 c =
     rw c.ended.ensures
     (valued_ill c.loop-i.invariant c.loop-i-test.true c.word_at-first.ensures c.word_at.ensures c.if-first-p.true c.if-word_at-ne0.true)
 
-pub bounds-procs-k : goal.bounds-procs-k
-bounds-procs-k c = step_low (step_at (goal.at.bounds-procs-k c).After-as_index-k)
-
 pub returns-in-Idle : goal.returns-in-Idle
 unfolding idle
 returns-in-Idle c = rw c.ended-in-Idle.ensures (step_idle (step_at (goal.at.returns-in-Idle c).After-as_index-k) c.in-Idle.is)
 
-pub offset_bounds-procs-k-in-A : goal.offset_bounds-procs-k-in-A
-offset_bounds-procs-k-in-A c = record { fits = omega (arith, slot (goal.at.offset_bounds-procs-k-in-A c).In-Busy) }
-
-pub bounds-procs-k-in-A : goal.bounds-procs-k-in-A
-bounds-procs-k-in-A c = slot (goal.at.bounds-procs-k-in-A c).In-Busy
-
 pub overflow_add-p : goal.overflow_add-p
-overflow_add-p c = let f = found (goal.at.overflow_add-p c).In-Busy in record { fits = omega (arith, f.low, loop_narrow f.inv) }
+overflow_add-p c = let f = step_at (goal.at.overflow_add-p c).After-as_index-k in record { fits = omega (arith, f.low, loop_narrow f.inv) }
 
 pub number_after-requires : goal.number_after-requires
-number_after-requires c = loop_number (found (goal.at.number_after-requires c).In-Busy).inv
+number_after-requires c = loop_number (step_at (goal.at.number_after-requires c).After-as_index-k).inv
 
 pub step_a-requires : goal.step_a-requires
 unfolding idle is_q is_idle
 step_a-requires c = let busy = c.in-Busy.is in
-    let at = sym (step_named (found (goal.at.step_a-requires c).In-Busy) busy c.in-A.is) in
-    let ready = step_ready (found (goal.at.step_a-requires c).In-Busy) busy at refl in
-    record { steps_bound = (few_steps (goal.at.step_a-requires c).In-Busy, rw busy refl, at); adds = (ready, step_fits_leaf (found (goal.at.step_a-requires c).In-Busy) ready.node) }
-
-pub offset_bounds-procs-k-in-A-2 : goal.offset_bounds-procs-k-in-A-2
-offset_bounds-procs-k-in-A-2 c = record { fits = omega (arith, slot (goal.at.offset_bounds-procs-k-in-A-2 c).In-Busy) }
-
-pub bounds-procs-k-in-A-2 : goal.bounds-procs-k-in-A-2
-bounds-procs-k-in-A-2 c = slot (goal.at.bounds-procs-k-in-A-2 c).In-Busy
-
-pub overflow_step-i : goal.overflow_step-i
-overflow_step-i c = record { fits = few (goal.at.overflow_step-i c).In-loop-i }
+    let at = sym (step_named (step_at (goal.at.step_a-requires c).After-as_index-k) busy c.in-A.is) in
+    let ready = step_ready (step_at (goal.at.step_a-requires c).After-as_index-k) busy at refl in
+    record { steps_bound = (few_steps (goal.at.step_a-requires c).After-as_index-k, rw busy refl, at); adds = (ready, step_fits_leaf (step_at (goal.at.step_a-requires c).After-as_index-k) ready.node) }
 
 pub loop-i-preserved-in-A : goal.loop-i-preserved-in-A
 unfolding idle is_q
 loop-i-preserved-in-A c =
-    let f = found (goal.at.loop-i-preserved-in-A c).In-Busy in
+    let f = step_at (goal.at.loop-i-preserved-in-A c).After-as_index-k in
     step_moves f c.in-Busy.is c.in-A.is refl _ _ _ refl c.step_a.auto.table
     (λ is ready _.
     let e = rw c.number_after.ensures at c.step_a.ensures in
     (e.0, rw is (e.1 _ _ (step_leaf f) (step_begins f _ ready.node))))
 
-pub offset_bounds-procs-k-in-V1 : goal.offset_bounds-procs-k-in-V1
-offset_bounds-procs-k-in-V1 c = record { fits = omega (arith, slot (goal.at.offset_bounds-procs-k-in-V1 c).In-Busy) }
-
-pub bounds-procs-k-in-V1 : goal.bounds-procs-k-in-V1
-bounds-procs-k-in-V1 c = slot (goal.at.bounds-procs-k-in-V1 c).In-Busy
-
 pub step_v1-requires : goal.step_v1-requires
 unfolding idle is_q
-step_v1-requires c = (few_steps (goal.at.step_v1-requires c).In-Busy, λ _ _ _ _ e. step_ready (found (goal.at.step_v1-requires c).In-Busy) c.in-Busy.is e refl)
-
-pub offset_bounds-procs-k-in-V1-2 : goal.offset_bounds-procs-k-in-V1-2
-offset_bounds-procs-k-in-V1-2 c = record { fits = omega (arith, slot (goal.at.offset_bounds-procs-k-in-V1-2 c).In-Busy) }
-
-pub bounds-procs-k-in-V1-2 : goal.bounds-procs-k-in-V1-2
-bounds-procs-k-in-V1-2 c = slot (goal.at.bounds-procs-k-in-V1-2 c).In-Busy
-
-pub overflow_step-i-in-V1 : goal.overflow_step-i-in-V1
-overflow_step-i-in-V1 c = record { fits = few (goal.at.overflow_step-i-in-V1 c).In-loop-i }
+step_v1-requires c = (few_steps (goal.at.step_v1-requires c).After-as_index-k, λ _ _ _ _ e. step_ready (step_at (goal.at.step_v1-requires c).After-as_index-k) c.in-Busy.is e refl)
 
 pub loop-i-preserved-in-V1 : goal.loop-i-preserved-in-V1
 unfolding idle is_q
 loop-i-preserved-in-V1 c =
-    heads_move (found (goal.at.loop-i-preserved-in-V1 c).In-Busy) c.in-Busy.is c.in-V1.is refl _ _ refl (c.step_v1.ensures.0 _ _ _ _)
-
-pub offset_bounds-procs-k-in-V2 : goal.offset_bounds-procs-k-in-V2
-offset_bounds-procs-k-in-V2 c = record { fits = omega (arith, slot (goal.at.offset_bounds-procs-k-in-V2 c).In-Busy) }
-
-pub bounds-procs-k-in-V2 : goal.bounds-procs-k-in-V2
-bounds-procs-k-in-V2 c = slot (goal.at.bounds-procs-k-in-V2 c).In-Busy
+    heads_move (step_at (goal.at.loop-i-preserved-in-V1 c).After-as_index-k) c.in-Busy.is c.in-V1.is refl _ _ refl (c.step_v1.ensures.0 _ _ _ _)
 
 pub step_v2-requires : goal.step_v2-requires
 unfolding idle is_q
 step_v2-requires c =
     let busy = c.in-Busy.is in
-    (few_steps (goal.at.step_v2-requires c).In-Busy, λ _ _ _ _ _ e. ((step_ready (found (goal.at.step_v2-requires c).In-Busy) busy e refl).1, step_fits (found (goal.at.step_v2-requires c).In-Busy) busy e refl))
-
-pub offset_bounds-procs-k-in-V2-2 : goal.offset_bounds-procs-k-in-V2-2
-offset_bounds-procs-k-in-V2-2 c = record { fits = omega (arith, slot (goal.at.offset_bounds-procs-k-in-V2-2 c).In-Busy) }
-
-pub bounds-procs-k-in-V2-2 : goal.bounds-procs-k-in-V2-2
-bounds-procs-k-in-V2-2 c = slot (goal.at.bounds-procs-k-in-V2-2 c).In-Busy
-
-pub overflow_step-i-in-V2 : goal.overflow_step-i-in-V2
-overflow_step-i-in-V2 c = record { fits = few (goal.at.overflow_step-i-in-V2 c).In-loop-i }
+    (few_steps (goal.at.step_v2-requires c).After-as_index-k, λ _ _ _ _ _ e. ((step_ready (step_at (goal.at.step_v2-requires c).After-as_index-k) busy e refl).1, step_fits (step_at (goal.at.step_v2-requires c).After-as_index-k) busy e refl))
 
 pub loop-i-preserved-in-V2 : goal.loop-i-preserved-in-V2
 unfolding idle is_q
 loop-i-preserved-in-V2 c =
-    table_moves (found (goal.at.loop-i-preserved-in-V2 c).In-Busy) c.in-Busy.is c.in-V2.is refl _ _ c.step_v2.auto.table
+    table_moves (step_at (goal.at.loop-i-preserved-in-V2 c).After-as_index-k) c.in-Busy.is c.in-V2.is refl _ _ c.step_v2.auto.table
     ((c.step_v2.ensures _).0 _ _ _ _ _)
-
-pub offset_bounds-procs-k-in-V3 : goal.offset_bounds-procs-k-in-V3
-offset_bounds-procs-k-in-V3 c = record { fits = omega (arith, slot (goal.at.offset_bounds-procs-k-in-V3 c).In-Busy) }
-
-pub bounds-procs-k-in-V3 : goal.bounds-procs-k-in-V3
-bounds-procs-k-in-V3 c = slot (goal.at.bounds-procs-k-in-V3 c).In-Busy
 
 pub step_v3_child-requires : goal.step_v3_child-requires
 unfolding idle is_q
 step_v3_child-requires c =
     let told = c.advances_child.ensures.0 in
-    (few_steps (goal.at.step_v3_child-requires c).In-Busy, few_helps (goal.at.step_v3_child-requires c).In-Busy, λ _ _ _ _ e. let r = step_ready (found (goal.at.step_v3_child-requires c).In-Busy) c.in-Busy.is e refl in (sym (told _ _ _ _ e) ∙ c.if-advances_child.true, r.0, r.1))
-
-pub offset_bounds-procs-k-then-advances_child : goal.offset_bounds-procs-k-then-advances_child
-offset_bounds-procs-k-then-advances_child c = record { fits = omega (arith, slot (goal.at.offset_bounds-procs-k-then-advances_child c).In-Busy) }
-
-pub bounds-procs-k-then-advances_child : goal.bounds-procs-k-then-advances_child
-bounds-procs-k-then-advances_child c = slot (goal.at.bounds-procs-k-then-advances_child c).In-Busy
-
-pub overflow_step-i-then-advances_child : goal.overflow_step-i-then-advances_child
-overflow_step-i-then-advances_child c = record { fits = few (goal.at.overflow_step-i-then-advances_child c).In-loop-i }
+    (few_steps (goal.at.step_v3_child-requires c).After-as_index-k, few_helps (goal.at.step_v3_child-requires c).After-as_index-k, λ _ _ _ _ e. let r = step_ready (step_at (goal.at.step_v3_child-requires c).After-as_index-k) c.in-Busy.is e refl in (sym (told _ _ _ _ e) ∙ c.if-advances_child.true, r.0, r.1))
 
 pub loop-i-preserved-then-advances_child : goal.loop-i-preserved-then-advances_child
 unfolding idle is_q
 loop-i-preserved-then-advances_child c =
-    let f = found (goal.at.loop-i-preserved-then-advances_child c).In-Busy in
+    let f = step_at (goal.at.loop-i-preserved-then-advances_child c).After-as_index-k in
     telling_moves f c.in-Busy.is c.in-V3.is refl _ _ _ c.step_v3_child.auto.heads refl
     (λ is _ _. c.step_v3_child.ensures.0 _ _ _ _ is _ _ _ _)
 
@@ -233,344 +149,155 @@ pub step_v3_own-requires : goal.step_v3_own-requires
 unfolding idle is_q
 step_v3_own-requires c =
     let told = c.advances_child.ensures.0 in
-    (few_steps (goal.at.step_v3_own-requires c).In-Busy, λ _ _ _ _ e. let r = step_ready (found (goal.at.step_v3_own-requires c).In-Busy) c.in-Busy.is e refl in (sym (told _ _ _ _ e) ∙ c.if-advances_child.false, r.0, r.1))
-
-pub offset_bounds-procs-k-in-V3-2 : goal.offset_bounds-procs-k-in-V3-2
-offset_bounds-procs-k-in-V3-2 c = record { fits = omega (arith, slot (goal.at.offset_bounds-procs-k-in-V3-2 c).In-Busy) }
-
-pub bounds-procs-k-in-V3-2 : goal.bounds-procs-k-in-V3-2
-bounds-procs-k-in-V3-2 c = slot (goal.at.bounds-procs-k-in-V3-2 c).In-Busy
-
-pub overflow_step-i-in-V3 : goal.overflow_step-i-in-V3
-overflow_step-i-in-V3 c = record { fits = few (goal.at.overflow_step-i-in-V3 c).In-loop-i }
+    (few_steps (goal.at.step_v3_own-requires c).After-as_index-k, λ _ _ _ _ e. let r = step_ready (step_at (goal.at.step_v3_own-requires c).After-as_index-k) c.in-Busy.is e refl in (sym (told _ _ _ _ e) ∙ c.if-advances_child.false, r.0, r.1))
 
 pub loop-i-preserved-in-V3 : goal.loop-i-preserved-in-V3
 unfolding idle is_q
 loop-i-preserved-in-V3 c =
-    heads_move (found (goal.at.loop-i-preserved-in-V3 c).In-Busy) c.in-Busy.is c.in-V3.is refl _ _ c.step_v3_own.auto.heads
+    heads_move (step_at (goal.at.loop-i-preserved-in-V3 c).After-as_index-k) c.in-Busy.is c.in-V3.is refl _ _ c.step_v3_own.auto.heads
     (c.step_v3_own.ensures.0 _ _ _ _)
-
-pub offset_bounds-procs-k-in-R1 : goal.offset_bounds-procs-k-in-R1
-offset_bounds-procs-k-in-R1 c = record { fits = omega (arith, slot (goal.at.offset_bounds-procs-k-in-R1 c).In-Busy) }
-
-pub bounds-procs-k-in-R1 : goal.bounds-procs-k-in-R1
-bounds-procs-k-in-R1 c = slot (goal.at.bounds-procs-k-in-R1 c).In-Busy
 
 pub step_r1-requires : goal.step_r1-requires
 unfolding idle is_q
-step_r1-requires c = (few_steps (goal.at.step_r1-requires c).In-Busy, λ _ _ e. step_ready (found (goal.at.step_r1-requires c).In-Busy) c.in-Busy.is e refl)
-
-pub offset_bounds-procs-k-in-R1-2 : goal.offset_bounds-procs-k-in-R1-2
-offset_bounds-procs-k-in-R1-2 c = record { fits = omega (arith, slot (goal.at.offset_bounds-procs-k-in-R1-2 c).In-Busy) }
-
-pub bounds-procs-k-in-R1-2 : goal.bounds-procs-k-in-R1-2
-bounds-procs-k-in-R1-2 c = slot (goal.at.bounds-procs-k-in-R1-2 c).In-Busy
-
-pub overflow_step-i-in-R1 : goal.overflow_step-i-in-R1
-overflow_step-i-in-R1 c = record { fits = few (goal.at.overflow_step-i-in-R1 c).In-loop-i }
+step_r1-requires c = (few_steps (goal.at.step_r1-requires c).After-as_index-k, λ _ _ e. step_ready (step_at (goal.at.step_r1-requires c).After-as_index-k) c.in-Busy.is e refl)
 
 pub loop-i-preserved-in-R1 : goal.loop-i-preserved-in-R1
 unfolding idle is_q
 loop-i-preserved-in-R1 c =
-    heads_move (found (goal.at.loop-i-preserved-in-R1 c).In-Busy) c.in-Busy.is c.in-R1.is refl _ _ refl (c.step_r1.ensures.0 _ _)
-
-pub offset_bounds-procs-k-in-R2 : goal.offset_bounds-procs-k-in-R2
-offset_bounds-procs-k-in-R2 c = record { fits = omega (arith, slot (goal.at.offset_bounds-procs-k-in-R2 c).In-Busy) }
-
-pub bounds-procs-k-in-R2 : goal.bounds-procs-k-in-R2
-bounds-procs-k-in-R2 c = slot (goal.at.bounds-procs-k-in-R2 c).In-Busy
+    heads_move (step_at (goal.at.loop-i-preserved-in-R1 c).After-as_index-k) c.in-Busy.is c.in-R1.is refl _ _ refl (c.step_r1.ensures.0 _ _)
 
 pub step_r2-requires : goal.step_r2-requires
 unfolding idle is_q
-step_r2-requires c = (few_steps (goal.at.step_r2-requires c).In-Busy, λ _ e. step_ready (found (goal.at.step_r2-requires c).In-Busy) c.in-Busy.is e refl)
-
-pub offset_bounds-procs-k-in-R2-2 : goal.offset_bounds-procs-k-in-R2-2
-offset_bounds-procs-k-in-R2-2 c = record { fits = omega (arith, slot (goal.at.offset_bounds-procs-k-in-R2-2 c).In-Busy) }
-
-pub bounds-procs-k-in-R2-2 : goal.bounds-procs-k-in-R2-2
-bounds-procs-k-in-R2-2 c = slot (goal.at.bounds-procs-k-in-R2-2 c).In-Busy
-
-pub overflow_step-i-in-R2 : goal.overflow_step-i-in-R2
-overflow_step-i-in-R2 c = record { fits = few (goal.at.overflow_step-i-in-R2 c).In-loop-i }
+step_r2-requires c = (few_steps (goal.at.step_r2-requires c).After-as_index-k, λ _ e. step_ready (step_at (goal.at.step_r2-requires c).After-as_index-k) c.in-Busy.is e refl)
 
 pub loop-i-preserved-in-R2 : goal.loop-i-preserved-in-R2
 unfolding idle is_q
 loop-i-preserved-in-R2 c =
-    heads_move (found (goal.at.loop-i-preserved-in-R2 c).In-Busy) c.in-Busy.is c.in-R2.is refl _ _ refl (c.step_r2.ensures.0 _)
-
-pub offset_bounds-procs-k-in-R3 : goal.offset_bounds-procs-k-in-R3
-offset_bounds-procs-k-in-R3 c = record { fits = omega (arith, slot (goal.at.offset_bounds-procs-k-in-R3 c).In-Busy) }
-
-pub bounds-procs-k-in-R3 : goal.bounds-procs-k-in-R3
-bounds-procs-k-in-R3 c = slot (goal.at.bounds-procs-k-in-R3 c).In-Busy
+    heads_move (step_at (goal.at.loop-i-preserved-in-R2 c).After-as_index-k) c.in-Busy.is c.in-R2.is refl _ _ refl (c.step_r2.ensures.0 _)
 
 pub step_r3-requires : goal.step_r3-requires
 unfolding idle is_q
 step_r3-requires c =
     let busy = c.in-Busy.is in
-    (few_steps (goal.at.step_r3-requires c).In-Busy, λ _ _ e. ((step_ready (found (goal.at.step_r3-requires c).In-Busy) busy e refl).1, step_fits (found (goal.at.step_r3-requires c).In-Busy) busy e refl))
-
-pub offset_bounds-procs-k-in-R3-2 : goal.offset_bounds-procs-k-in-R3-2
-offset_bounds-procs-k-in-R3-2 c = record { fits = omega (arith, slot (goal.at.offset_bounds-procs-k-in-R3-2 c).In-Busy) }
-
-pub bounds-procs-k-in-R3-2 : goal.bounds-procs-k-in-R3-2
-bounds-procs-k-in-R3-2 c = slot (goal.at.bounds-procs-k-in-R3-2 c).In-Busy
-
-pub overflow_step-i-in-R3 : goal.overflow_step-i-in-R3
-overflow_step-i-in-R3 c = record { fits = few (goal.at.overflow_step-i-in-R3 c).In-loop-i }
+    (few_steps (goal.at.step_r3-requires c).After-as_index-k, λ _ _ e. ((step_ready (step_at (goal.at.step_r3-requires c).After-as_index-k) busy e refl).1, step_fits (step_at (goal.at.step_r3-requires c).After-as_index-k) busy e refl))
 
 pub loop-i-preserved-in-R3 : goal.loop-i-preserved-in-R3
 unfolding idle is_q
 loop-i-preserved-in-R3 c =
-    table_moves (found (goal.at.loop-i-preserved-in-R3 c).In-Busy) c.in-Busy.is c.in-R3.is refl _ _ refl ((c.step_r3.ensures _).0 _ _)
-
-pub offset_bounds-procs-k-in-R4 : goal.offset_bounds-procs-k-in-R4
-offset_bounds-procs-k-in-R4 c = record { fits = omega (arith, slot (goal.at.offset_bounds-procs-k-in-R4 c).In-Busy) }
-
-pub bounds-procs-k-in-R4 : goal.bounds-procs-k-in-R4
-bounds-procs-k-in-R4 c = slot (goal.at.bounds-procs-k-in-R4 c).In-Busy
+    table_moves (step_at (goal.at.loop-i-preserved-in-R3 c).After-as_index-k) c.in-Busy.is c.in-R3.is refl _ _ refl ((c.step_r3.ensures _).0 _ _)
 
 pub step_r4-requires : goal.step_r4-requires
 unfolding idle is_q
-step_r4-requires c = (few_steps (goal.at.step_r4-requires c).In-Busy, λ _ e. step_ready (found (goal.at.step_r4-requires c).In-Busy) c.in-Busy.is e refl)
-
-pub offset_bounds-procs-k-in-R4-2 : goal.offset_bounds-procs-k-in-R4-2
-offset_bounds-procs-k-in-R4-2 c = record { fits = omega (arith, slot (goal.at.offset_bounds-procs-k-in-R4-2 c).In-Busy) }
-
-pub bounds-procs-k-in-R4-2 : goal.bounds-procs-k-in-R4-2
-bounds-procs-k-in-R4-2 c = slot (goal.at.bounds-procs-k-in-R4-2 c).In-Busy
-
-pub overflow_step-i-in-R4 : goal.overflow_step-i-in-R4
-overflow_step-i-in-R4 c = record { fits = few (goal.at.overflow_step-i-in-R4 c).In-loop-i }
+step_r4-requires c = (few_steps (goal.at.step_r4-requires c).After-as_index-k, λ _ e. step_ready (step_at (goal.at.step_r4-requires c).After-as_index-k) c.in-Busy.is e refl)
 
 pub loop-i-preserved-in-R4 : goal.loop-i-preserved-in-R4
 unfolding idle is_q
 loop-i-preserved-in-R4 c =
-    heads_move (found (goal.at.loop-i-preserved-in-R4 c).In-Busy) c.in-Busy.is c.in-R4.is refl _ _ refl (c.step_r4.ensures.0 _)
-
-pub offset_bounds-procs-k-in-R5 : goal.offset_bounds-procs-k-in-R5
-offset_bounds-procs-k-in-R5 c = record { fits = omega (arith, slot (goal.at.offset_bounds-procs-k-in-R5 c).In-Busy) }
-
-pub bounds-procs-k-in-R5 : goal.bounds-procs-k-in-R5
-bounds-procs-k-in-R5 c = slot (goal.at.bounds-procs-k-in-R5 c).In-Busy
+    heads_move (step_at (goal.at.loop-i-preserved-in-R4 c).After-as_index-k) c.in-Busy.is c.in-R4.is refl _ _ refl (c.step_r4.ensures.0 _)
 
 pub step_r5-requires : goal.step_r5-requires
 unfolding idle is_q
 step_r5-requires c =
     let busy = c.in-Busy.is in
-    (few_steps (goal.at.step_r5-requires c).In-Busy, λ _ _ e. ((step_ready (found (goal.at.step_r5-requires c).In-Busy) busy e refl).1, step_fits (found (goal.at.step_r5-requires c).In-Busy) busy e refl))
-
-pub offset_bounds-procs-k-in-R5-2 : goal.offset_bounds-procs-k-in-R5-2
-offset_bounds-procs-k-in-R5-2 c = record { fits = omega (arith, slot (goal.at.offset_bounds-procs-k-in-R5-2 c).In-Busy) }
-
-pub bounds-procs-k-in-R5-2 : goal.bounds-procs-k-in-R5-2
-bounds-procs-k-in-R5-2 c = slot (goal.at.bounds-procs-k-in-R5-2 c).In-Busy
-
-pub overflow_step-i-in-R5 : goal.overflow_step-i-in-R5
-overflow_step-i-in-R5 c = record { fits = few (goal.at.overflow_step-i-in-R5 c).In-loop-i }
+    (few_steps (goal.at.step_r5-requires c).After-as_index-k, λ _ _ e. ((step_ready (step_at (goal.at.step_r5-requires c).After-as_index-k) busy e refl).1, step_fits (step_at (goal.at.step_r5-requires c).After-as_index-k) busy e refl))
 
 pub loop-i-preserved-in-R5 : goal.loop-i-preserved-in-R5
 unfolding idle is_q
 loop-i-preserved-in-R5 c =
-    table_moves (found (goal.at.loop-i-preserved-in-R5 c).In-Busy) c.in-Busy.is c.in-R5.is refl _ _ refl ((c.step_r5.ensures _).0 _ _)
-
-pub offset_bounds-procs-k-in-C1 : goal.offset_bounds-procs-k-in-C1
-offset_bounds-procs-k-in-C1 c = record { fits = omega (arith, slot (goal.at.offset_bounds-procs-k-in-C1 c).In-Busy) }
-
-pub bounds-procs-k-in-C1 : goal.bounds-procs-k-in-C1
-bounds-procs-k-in-C1 c = slot (goal.at.bounds-procs-k-in-C1 c).In-Busy
+    table_moves (step_at (goal.at.loop-i-preserved-in-R5 c).After-as_index-k) c.in-Busy.is c.in-R5.is refl _ _ refl ((c.step_r5.ensures _).0 _ _)
 
 pub step_c1-requires : goal.step_c1-requires
 unfolding idle is_q
-step_c1-requires c = (few_steps (goal.at.step_c1-requires c).In-Busy, λ _ e. step_ready (found (goal.at.step_c1-requires c).In-Busy) c.in-Busy.is e refl)
-
-pub offset_bounds-procs-k-in-C1-2 : goal.offset_bounds-procs-k-in-C1-2
-offset_bounds-procs-k-in-C1-2 c = record { fits = omega (arith, slot (goal.at.offset_bounds-procs-k-in-C1-2 c).In-Busy) }
-
-pub bounds-procs-k-in-C1-2 : goal.bounds-procs-k-in-C1-2
-bounds-procs-k-in-C1-2 c = slot (goal.at.bounds-procs-k-in-C1-2 c).In-Busy
-
-pub overflow_step-i-in-C1 : goal.overflow_step-i-in-C1
-overflow_step-i-in-C1 c = record { fits = few (goal.at.overflow_step-i-in-C1 c).In-loop-i }
+step_c1-requires c = (few_steps (goal.at.step_c1-requires c).After-as_index-k, λ _ e. step_ready (step_at (goal.at.step_c1-requires c).After-as_index-k) c.in-Busy.is e refl)
 
 pub loop-i-preserved-in-C1 : goal.loop-i-preserved-in-C1
 unfolding idle is_q
 loop-i-preserved-in-C1 c =
-    heads_move (found (goal.at.loop-i-preserved-in-C1 c).In-Busy) c.in-Busy.is c.in-C1.is refl _ _ refl (c.step_c1.ensures.0 _)
-
-pub offset_bounds-procs-k-in-C2 : goal.offset_bounds-procs-k-in-C2
-offset_bounds-procs-k-in-C2 c = record { fits = omega (arith, slot (goal.at.offset_bounds-procs-k-in-C2 c).In-Busy) }
-
-pub bounds-procs-k-in-C2 : goal.bounds-procs-k-in-C2
-bounds-procs-k-in-C2 c = slot (goal.at.bounds-procs-k-in-C2 c).In-Busy
+    heads_move (step_at (goal.at.loop-i-preserved-in-C1 c).After-as_index-k) c.in-Busy.is c.in-C1.is refl _ _ refl (c.step_c1.ensures.0 _)
 
 pub step_c2-requires : goal.step_c2-requires
 unfolding idle is_q
-step_c2-requires c = (few_steps (goal.at.step_c2-requires c).In-Busy, λ _ _ e. step_ready (found (goal.at.step_c2-requires c).In-Busy) c.in-Busy.is e refl)
-
-pub offset_bounds-procs-k-in-C2-2 : goal.offset_bounds-procs-k-in-C2-2
-offset_bounds-procs-k-in-C2-2 c = record { fits = omega (arith, slot (goal.at.offset_bounds-procs-k-in-C2-2 c).In-Busy) }
-
-pub bounds-procs-k-in-C2-2 : goal.bounds-procs-k-in-C2-2
-bounds-procs-k-in-C2-2 c = slot (goal.at.bounds-procs-k-in-C2-2 c).In-Busy
-
-pub overflow_step-i-in-C2 : goal.overflow_step-i-in-C2
-overflow_step-i-in-C2 c = record { fits = few (goal.at.overflow_step-i-in-C2 c).In-loop-i }
+step_c2-requires c = (few_steps (goal.at.step_c2-requires c).After-as_index-k, λ _ _ e. step_ready (step_at (goal.at.step_c2-requires c).After-as_index-k) c.in-Busy.is e refl)
 
 pub loop-i-preserved-in-C2 : goal.loop-i-preserved-in-C2
 unfolding idle is_q
 loop-i-preserved-in-C2 c =
-    heads_move (found (goal.at.loop-i-preserved-in-C2 c).In-Busy) c.in-Busy.is c.in-C2.is refl _ _ refl (c.step_c2.ensures.0 _ _)
-
-pub offset_bounds-procs-k-in-C3L : goal.offset_bounds-procs-k-in-C3L
-offset_bounds-procs-k-in-C3L c = record { fits = omega (arith, slot (goal.at.offset_bounds-procs-k-in-C3L c).In-Busy) }
-
-pub bounds-procs-k-in-C3L : goal.bounds-procs-k-in-C3L
-bounds-procs-k-in-C3L c = slot (goal.at.bounds-procs-k-in-C3L c).In-Busy
+    heads_move (step_at (goal.at.loop-i-preserved-in-C2 c).After-as_index-k) c.in-Busy.is c.in-C2.is refl _ _ refl (c.step_c2.ensures.0 _ _)
 
 pub step_c3l-requires : goal.step_c3l-requires
 unfolding idle is_q
 step_c3l-requires c =
     let busy = c.in-Busy.is in
-    (few_steps (goal.at.step_c3l-requires c).In-Busy, λ _ _ _ e. ((step_ready (found (goal.at.step_c3l-requires c).In-Busy) busy e refl).1, step_fits (found (goal.at.step_c3l-requires c).In-Busy) busy e refl))
-
-pub offset_bounds-procs-k-in-C3L-2 : goal.offset_bounds-procs-k-in-C3L-2
-offset_bounds-procs-k-in-C3L-2 c = record { fits = omega (arith, slot (goal.at.offset_bounds-procs-k-in-C3L-2 c).In-Busy) }
-
-pub bounds-procs-k-in-C3L-2 : goal.bounds-procs-k-in-C3L-2
-bounds-procs-k-in-C3L-2 c = slot (goal.at.bounds-procs-k-in-C3L-2 c).In-Busy
-
-pub overflow_step-i-in-C3L : goal.overflow_step-i-in-C3L
-overflow_step-i-in-C3L c = record { fits = few (goal.at.overflow_step-i-in-C3L c).In-loop-i }
+    (few_steps (goal.at.step_c3l-requires c).After-as_index-k, λ _ _ _ e. ((step_ready (step_at (goal.at.step_c3l-requires c).After-as_index-k) busy e refl).1, step_fits (step_at (goal.at.step_c3l-requires c).After-as_index-k) busy e refl))
 
 pub loop-i-preserved-in-C3L : goal.loop-i-preserved-in-C3L
 unfolding idle is_q
 loop-i-preserved-in-C3L c =
-    table_moves (found (goal.at.loop-i-preserved-in-C3L c).In-Busy) c.in-Busy.is c.in-C3L.is refl _ _ refl ((c.step_c3l.ensures _).0 _ _ _)
-
-pub offset_bounds-procs-k-in-C3R : goal.offset_bounds-procs-k-in-C3R
-offset_bounds-procs-k-in-C3R c = record { fits = omega (arith, slot (goal.at.offset_bounds-procs-k-in-C3R c).In-Busy) }
-
-pub bounds-procs-k-in-C3R : goal.bounds-procs-k-in-C3R
-bounds-procs-k-in-C3R c = slot (goal.at.bounds-procs-k-in-C3R c).In-Busy
+    table_moves (step_at (goal.at.loop-i-preserved-in-C3L c).After-as_index-k) c.in-Busy.is c.in-C3L.is refl _ _ refl ((c.step_c3l.ensures _).0 _ _ _)
 
 pub step_c3r-requires : goal.step_c3r-requires
 unfolding idle is_q
 step_c3r-requires c =
     let busy = c.in-Busy.is in
-    (few_steps (goal.at.step_c3r-requires c).In-Busy, λ _ _ _ _ _ e. ((step_ready (found (goal.at.step_c3r-requires c).In-Busy) busy e refl).1, step_fits (found (goal.at.step_c3r-requires c).In-Busy) busy e refl))
-
-pub offset_bounds-procs-k-in-C3R-2 : goal.offset_bounds-procs-k-in-C3R-2
-offset_bounds-procs-k-in-C3R-2 c = record { fits = omega (arith, slot (goal.at.offset_bounds-procs-k-in-C3R-2 c).In-Busy) }
-
-pub bounds-procs-k-in-C3R-2 : goal.bounds-procs-k-in-C3R-2
-bounds-procs-k-in-C3R-2 c = slot (goal.at.bounds-procs-k-in-C3R-2 c).In-Busy
-
-pub overflow_step-i-in-C3R : goal.overflow_step-i-in-C3R
-overflow_step-i-in-C3R c = record { fits = few (goal.at.overflow_step-i-in-C3R c).In-loop-i }
+    (few_steps (goal.at.step_c3r-requires c).After-as_index-k, λ _ _ _ _ _ e. ((step_ready (step_at (goal.at.step_c3r-requires c).After-as_index-k) busy e refl).1, step_fits (step_at (goal.at.step_c3r-requires c).After-as_index-k) busy e refl))
 
 pub loop-i-preserved-in-C3R : goal.loop-i-preserved-in-C3R
 unfolding idle is_q
 loop-i-preserved-in-C3R c =
-    table_moves (found (goal.at.loop-i-preserved-in-C3R c).In-Busy) c.in-Busy.is c.in-C3R.is refl _ _ refl ((c.step_c3r.ensures _).0 _ _ _ _ _)
-
-pub offset_bounds-procs-k-in-C3N : goal.offset_bounds-procs-k-in-C3N
-offset_bounds-procs-k-in-C3N c = record { fits = omega (arith, slot (goal.at.offset_bounds-procs-k-in-C3N c).In-Busy) }
-
-pub bounds-procs-k-in-C3N : goal.bounds-procs-k-in-C3N
-bounds-procs-k-in-C3N c = slot (goal.at.bounds-procs-k-in-C3N c).In-Busy
+    table_moves (step_at (goal.at.loop-i-preserved-in-C3R c).After-as_index-k) c.in-Busy.is c.in-C3R.is refl _ _ refl ((c.step_c3r.ensures _).0 _ _ _ _ _)
 
 pub adds_nothing-requires : goal.adds_nothing-requires
 unfolding idle is_q
-adds_nothing-requires c = λ _ _ _ _ _ e. (step_ready (found (goal.at.adds_nothing-requires c).In-Busy) c.in-Busy.is e refl).1
+adds_nothing-requires c = λ _ _ _ _ _ e. (step_ready (step_at (goal.at.adds_nothing-requires c).After-as_index-k) c.in-Busy.is e refl).1
 
 pub step_c3n_up-requires : goal.step_c3n_up-requires
 unfolding idle
-step_c3n_up-requires c = few_steps (goal.at.step_c3n_up-requires c).In-Busy
-
-pub offset_bounds-procs-k-then-adds_nothing : goal.offset_bounds-procs-k-then-adds_nothing
-offset_bounds-procs-k-then-adds_nothing c = record { fits = omega (arith, slot (goal.at.offset_bounds-procs-k-then-adds_nothing c).In-Busy) }
-
-pub bounds-procs-k-then-adds_nothing : goal.bounds-procs-k-then-adds_nothing
-bounds-procs-k-then-adds_nothing c = slot (goal.at.bounds-procs-k-then-adds_nothing c).In-Busy
-
-pub overflow_step-i-then-adds_nothing : goal.overflow_step-i-then-adds_nothing
-overflow_step-i-then-adds_nothing c = record { fits = few (goal.at.overflow_step-i-then-adds_nothing c).In-loop-i }
+step_c3n_up-requires c = few_steps (goal.at.step_c3n_up-requires c).After-as_index-k
 
 pub loop-i-preserved-then-adds_nothing : goal.loop-i-preserved-then-adds_nothing
 unfolding idle is_q
 loop-i-preserved-then-adds_nothing c =
     let decided = rw c.if-adds_nothing.true at c.adds_nothing.ensures in
-    table_moves (found (goal.at.loop-i-preserved-then-adds_nothing c).In-Busy) c.in-Busy.is c.in-C3N.is refl _ _ refl
-    (λ is. decided_next _ _ _ (q (found (goal.at.loop-i-preserved-then-adds_nothing c).In-Busy)) _ _ _ _ _ _ is true (decided.0 _ _ _ _ _ is) (c.step_c3n_up.ensures.0 _ _ _ _ _ is))
+    table_moves (step_at (goal.at.loop-i-preserved-then-adds_nothing c).After-as_index-k) c.in-Busy.is c.in-C3N.is refl _ _ refl
+    (λ is. decided_next _ _ _ (q (step_at (goal.at.loop-i-preserved-then-adds_nothing c).After-as_index-k)) _ _ _ _ _ _ is true (decided.0 _ _ _ _ _ is) (c.step_c3n_up.ensures.0 _ _ _ _ _ is))
 
 pub step_c3n_on-requires : goal.step_c3n_on-requires
 unfolding idle is_q
 step_c3n_on-requires c =
     let busy = c.in-Busy.is in
-    (few_steps (goal.at.step_c3n_on-requires c).In-Busy, λ _ _ _ _ _ e. (step_ready (found (goal.at.step_c3n_on-requires c).In-Busy) busy e refl).1)
-
-pub offset_bounds-procs-k-in-C3N-2 : goal.offset_bounds-procs-k-in-C3N-2
-offset_bounds-procs-k-in-C3N-2 c = record { fits = omega (arith, slot (goal.at.offset_bounds-procs-k-in-C3N-2 c).In-Busy) }
-
-pub bounds-procs-k-in-C3N-2 : goal.bounds-procs-k-in-C3N-2
-bounds-procs-k-in-C3N-2 c = slot (goal.at.bounds-procs-k-in-C3N-2 c).In-Busy
-
-pub overflow_step-i-in-C3N : goal.overflow_step-i-in-C3N
-overflow_step-i-in-C3N c = record { fits = few (goal.at.overflow_step-i-in-C3N c).In-loop-i }
+    (few_steps (goal.at.step_c3n_on-requires c).After-as_index-k, λ _ _ _ _ _ e. (step_ready (step_at (goal.at.step_c3n_on-requires c).After-as_index-k) busy e refl).1)
 
 pub loop-i-preserved-in-C3N : goal.loop-i-preserved-in-C3N
 unfolding idle is_q
 loop-i-preserved-in-C3N c =
     let decided = rw c.if-adds_nothing.false at c.adds_nothing.ensures in
-    table_moves (found (goal.at.loop-i-preserved-in-C3N c).In-Busy) c.in-Busy.is c.in-C3N.is refl _ _ refl
-    (λ is. decided_next _ _ _ (q (found (goal.at.loop-i-preserved-in-C3N c).In-Busy)) _ _ _ _ _ _ is false (decided.0 _ _ _ _ _ is) (c.step_c3n_on.ensures.0 _ _ _ _ _ is))
-
-pub offset_bounds-procs-k-in-C4 : goal.offset_bounds-procs-k-in-C4
-offset_bounds-procs-k-in-C4 c = record { fits = omega (arith, slot (goal.at.offset_bounds-procs-k-in-C4 c).In-Busy) }
-
-pub bounds-procs-k-in-C4 : goal.bounds-procs-k-in-C4
-bounds-procs-k-in-C4 c = slot (goal.at.bounds-procs-k-in-C4 c).In-Busy
+    table_moves (step_at (goal.at.loop-i-preserved-in-C3N c).After-as_index-k) c.in-Busy.is c.in-C3N.is refl _ _ refl
+    (λ is. decided_next _ _ _ (q (step_at (goal.at.loop-i-preserved-in-C3N c).After-as_index-k)) _ _ _ _ _ _ is false (decided.0 _ _ _ _ _ is) (c.step_c3n_on.ensures.0 _ _ _ _ _ is))
 
 pub number_after-requires-in-C4 : goal.number_after-requires-in-C4
-number_after-requires-in-C4 c = loop_number (found (goal.at.number_after-requires-in-C4 c).In-Busy).inv
+number_after-requires-in-C4 c = loop_number (step_at (goal.at.number_after-requires-in-C4 c).After-as_index-k).inv
 
 pub step_c4-requires : goal.step_c4-requires
 unfolding idle is_q
 step_c4-requires c =
     let busy = c.in-Busy.is in
-    (few_steps (goal.at.step_c4-requires c).In-Busy, λ _ _ e. ((step_ready (found (goal.at.step_c4-requires c).In-Busy) busy e refl).1, step_fits (found (goal.at.step_c4-requires c).In-Busy) busy e refl))
-
-pub offset_bounds-procs-k-in-C4-2 : goal.offset_bounds-procs-k-in-C4-2
-offset_bounds-procs-k-in-C4-2 c = record { fits = omega (arith, slot (goal.at.offset_bounds-procs-k-in-C4-2 c).In-Busy) }
-
-pub bounds-procs-k-in-C4-2 : goal.bounds-procs-k-in-C4-2
-bounds-procs-k-in-C4-2 c = slot (goal.at.bounds-procs-k-in-C4-2 c).In-Busy
-
-pub overflow_step-i-in-C4 : goal.overflow_step-i-in-C4
-overflow_step-i-in-C4 c = record { fits = few (goal.at.overflow_step-i-in-C4 c).In-loop-i }
+    (few_steps (goal.at.step_c4-requires c).After-as_index-k, λ _ _ e. ((step_ready (step_at (goal.at.step_c4-requires c).After-as_index-k) busy e refl).1, step_fits (step_at (goal.at.step_c4-requires c).After-as_index-k) busy e refl))
 
 pub loop-i-preserved-in-C4 : goal.loop-i-preserved-in-C4
 unfolding idle is_q
 loop-i-preserved-in-C4 c =
-    table_moves (found (goal.at.loop-i-preserved-in-C4 c).In-Busy) c.in-Busy.is c.in-C4.is refl _ _ c.step_c4.auto.table
+    table_moves (step_at (goal.at.loop-i-preserved-in-C4 c).After-as_index-k) c.in-Busy.is c.in-C4.is refl _ _ c.step_c4.auto.table
     (λ is. rw c.number_after-in-C4.ensures at (c.step_c4.ensures.0 _ _ is))
 
 pub returns-then-free-lt16 : goal.returns-then-free-lt16
 unfolding idle
 returns-then-free-lt16 c =
-    let f = found (goal.at.returns-then-free-lt16 c).In-Busy in
+    let f = step_at (goal.at.returns-then-free-lt16 c).After-as_index-k in
     let busy = c.in-Busy.is in
     rw c.ended-then-free-lt16.ensures (finish_full f (step_busy f busy refl (step_named f busy c.in-Q.is)) c.if-free-lt16.true)
 
-pub offset_bounds-procs-k-in-Q : goal.offset_bounds-procs-k-in-Q
-offset_bounds-procs-k-in-Q c = record { fits = omega (arith, slot (goal.at.offset_bounds-procs-k-in-Q c).In-Busy) }
-
-pub bounds-procs-k-in-Q : goal.bounds-procs-k-in-Q
-bounds-procs-k-in-Q c = slot (goal.at.bounds-procs-k-in-Q c).In-Busy
-
 pub nonzero_rem-first : goal.nonzero_rem-first
-nonzero_rem-first c = omega (arith, (found (goal.at.nonzero_rem-first c).In-Busy).low)
+nonzero_rem-first c = omega (arith, (step_at (goal.at.nonzero_rem-first c).After-as_index-k).low)
 
 pub operation_in-requires : goal.operation_in-requires
 unfolding idle is_idle
@@ -579,7 +306,7 @@ operation_in-requires c = ap is_idle c.in-Busy.is
 pub answer_of-a-requires : goal.answer_of-a-requires
 unfolding idle
 answer_of-a-requires c =
-    let f = found (goal.at.answer_of-a-requires c).In-Busy in
+    let f = step_at (goal.at.answer_of-a-requires c).After-as_index-k in
     let busy = c.in-Busy.is in
     (rw (step_same f) (step_playing f), step_busy f busy c.operation_in.ensures (step_named f busy c.in-Q.is))
 
@@ -593,40 +320,22 @@ pub overflow_add-answers : goal.overflow_add-answers
 overflow_add-answers c = record { fits = omega (arith, few_answers (goal.at.overflow_add-answers c).Else-free-lt16) }
 
 pub rested-requires : goal.rested-requires
-rested-requires c = few_steps (goal.at.rested-requires c).In-Busy
-
-pub offset_bounds-procs-k-in-Q-2 : goal.offset_bounds-procs-k-in-Q-2
-offset_bounds-procs-k-in-Q-2 c = record { fits = omega (arith, slot (goal.at.offset_bounds-procs-k-in-Q-2 c).In-Busy) }
-
-pub bounds-procs-k-in-Q-2 : goal.bounds-procs-k-in-Q-2
-bounds-procs-k-in-Q-2 c = slot (goal.at.bounds-procs-k-in-Q-2 c).In-Busy
-
-pub overflow_step-i-in-Q : goal.overflow_step-i-in-Q
-overflow_step-i-in-Q c = record { fits = few (goal.at.overflow_step-i-in-Q c).In-loop-i }
-
-pub loop-i-smaller-in-Q : goal.loop-i-smaller-in-Q
-loop-i-smaller-in-Q c = omega (arith, c.loop-i-test.true)
+rested-requires c = few_steps (goal.at.rested-requires c).After-as_index-k
 
 pub loop-i-preserved-in-Q : goal.loop-i-preserved-in-Q
 unfolding idle
 loop-i-preserved-in-Q c =
-    let f = found (goal.at.loop-i-preserved-in-Q c).In-Busy in
+    let f = step_at (goal.at.loop-i-preserved-in-Q c).After-as_index-k in
     let busy = c.in-Busy.is in
     rw c.rested.ensures
     (finish_moves f (step_busy f busy c.operation_in.ensures (step_named f busy c.in-Q.is)) c.if-free-lt16.false _ _ _ c.write_answer.auto.out
     (rw (step_same f) at c.answer_of-a.ensures.record) c.equal_after-equal.ensures c.write_answer.ensures)
-
-pub word_at-requires-in-loop-i : goal.word_at-requires-in-loop-i
-word_at-requires-in-loop-i c = omega (arith, c.loop-i-test.true)
 
 pub begin_of-begin-requires : goal.begin_of-begin-requires
 begin_of-begin-requires c = (c.if-first-p.false, omega (arith, loop_narrow c.loop-i.invariant))
 
 pub returns-in_default : goal.returns-in_default
 returns-in_default c = rw c.ended-in_default.ensures (other_ill (other_at (goal.at.returns-in_default c).After-begin_of-begin) c.in_default.is)
-
-pub bounds-procs-k-in-loop-i : goal.bounds-procs-k-in-loop-i
-bounds-procs-k-in-loop-i c = begin_low (other_at (goal.at.bounds-procs-k-in-loop-i c).After-begin_of-begin) c.in-Opens.is c.as_index-k-in-loop-i.ensures
 
 pub returns-then-not-accepted : goal.returns-then-not-accepted
 unfolding idle
@@ -639,15 +348,6 @@ pub entered-requires : goal.entered-requires
 unfolding idle
 entered-requires c =
     omega (arith, begin_few (other_at (goal.at.entered-requires c).After-begin_of-begin) c.in-Opens.is c.as_index-k-in-loop-i.ensures)
-
-pub offset_bounds-procs-k-in-loop-i-2 : goal.offset_bounds-procs-k-in-loop-i-2
-offset_bounds-procs-k-in-loop-i-2 c = record { fits = omega (arith, begin_low (other_at (goal.at.offset_bounds-procs-k-in-loop-i-2 c).After-begin_of-begin) c.in-Opens.is c.as_index-k-in-loop-i.ensures) }
-
-pub bounds-procs-k-in-loop-i-2 : goal.bounds-procs-k-in-loop-i-2
-bounds-procs-k-in-loop-i-2 c = begin_low (other_at (goal.at.bounds-procs-k-in-loop-i-2 c).After-begin_of-begin) c.in-Opens.is c.as_index-k-in-loop-i.ensures
-
-pub overflow_step-i-in-loop-i : goal.overflow_step-i-in-loop-i
-overflow_step-i-in-loop-i c = record { fits = few (goal.at.overflow_step-i-in-loop-i c).In-loop-i }
 
 pub loop-i-preserved : goal.loop-i-preserved
 unfolding idle
