@@ -1,12 +1,8 @@
 -- Which step a process is at, by the number of its name.
-use Prim.Native.Nat.{ℕ, ◌+◌}
+use Prim.Native.Nat.{ℕ}
 use mathlib.Core.Path.{◌≡◌, refl, sym, subst}
 use mathlib.Core.Bool.{false, not}
-use mathlib.Core.List.{List, [], ◌∷◌, ◌++◌}
 use lib.Dec.{T, eqb}
-use lib.ListN.{take, drop}
-use mir.Val.{has_key}
-use types.Run.{OneOf, miss}
 use denote.Enum.Declared as declared
 use Rattle.steps.specs.declared.Visit.{Visit}
 use Rattle.steps.specs.declared.After.{After}
@@ -21,17 +17,6 @@ use Rattle.steps.specs.contracts.Step as steps
 -- the number of a step's name, in the order of the declaration
 abbrev pub tag : Step → ℕ
 tag = declared.tag_of steps.the_type
-
-abbrev tags : List ℕ
-tags = 0 ∷ 1 ∷ 2 ∷ 3 ∷ 4 ∷ 5 ∷ 6 ∷ 7 ∷ 8 ∷ 9 ∷ 10 ∷ 11 ∷ 12 ∷ 13 ∷ 14 ∷ 15 ∷ []
-
--- the numbers of the other names
-abbrev pub others : Step → List ℕ
-others y = take (tag y) tags ++ drop (tag y + 1) tags
-
--- a step of the name of y is not in the arm of the other names
-pub other : {n y : Step} → OneOf (others y) (tag n) → n ≡ y → T (not (has_key (others y) (tag y))) → ⊥
-other {n} {y} k e d = miss (others y) (tag y) d (subst (λ z. OneOf (others y) (tag z)) e k)
 
 -- two steps C3N that are equal have equal registers
 pub same_registers : {w w' : Visit} {l l' r r' puts puts' takes takes' : ℕ} → C3N w l r puts takes ≡ C3N w' l' r' puts' takes'
