@@ -2,14 +2,12 @@
 ghost use Rattle.std.specs.Prelude.{◌≡◌, [], ◌<◌, length, get_or};
 ghost use Rattle.tree.specs.Memory.{raise as raise_of, head_is, memory_of};
 
-use base::as_index;
-
 // The head of v.
 pub fn head_of(heads: &[u32], v: u32) -> u32
     requires { v < length heads.now }
     ensures { result ≡ get_or heads.now v 1 }
 {
-    heads[as_index(v)]
+    heads[v as usize]
 }
 
 // The head of v raised from h to h + 1, and whether it moved. If it is no longer h, another process has raised it
@@ -20,7 +18,7 @@ pub fn raise(heads: &mut [u32], v: u32, h: u32) -> bool
     ensures told { result ≡ head_is (memory_of [] heads.old) v h }
 {
     if head_of(heads, v) == h {
-        heads[as_index(v)] = h + 1;
+        heads[v as usize] = h + 1;
         return true;
     }
     false

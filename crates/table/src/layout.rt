@@ -1,112 +1,159 @@
-// Where the nodes' parts stand in the work table, for a tree of height h ≤ 3 (at most 8 processes) with at most l ≤ 500
-// operations of one process; and the table cleared.
-ghost use Rattle.std.specs.Prelude.{◌≡◌, ◌++◌, ℕ, ◌+◌, ◌*◌, ◌^◌, ◌≤◌, ◌<◌, length, drop, replicate, get_or};
-ghost use Rattle.tree.specs.Shape.{Shape, height_for, processes, height_in, last_place};
-ghost use Rattle.tree.specs.Layout.{block_words, part_words, part_start, words_needed};
+// The tree of a call, and where its nodes' parts stand in the work table: a tree of height 1 to 3 (2 to 8 processes) with
+// at most 500 operations of one process. In a clause a `Tree` and a `Layout` are the shape that the definitions speak of.
+ghost use Rattle.std.specs.Prelude.{◌≡◌, ◌++◌, ◌+◌, ◌*◌, ◌^◌, ◌≤◌, ◌<◌, length, drop, replicate};
+ghost use Rattle.tree.specs.Shape.{Shape, height_for, shape_for, processes, height_in, last_place};
+ghost use Rattle.tree.specs.Layout.{block_words, part_words, part_start, part_of, words_needed};
+ghost use Rattle.tree.specs.Clauses.Access.{HasPart};
 
+use std::marker::Model;
 use tree::BLOCK_WORDS;
 
-// The height of the tree for p processes.
-pub fn height_for(p: u32) -> usize
+// The height for p processes.
+fn height_for(p: u32) -> usize
     ensures { (result ≡ height_for p) × (1 ≤ result) × (result ≤ 3) }
 {
     if p == 2 {
-        return 1;
+        1
+    } else if p == 4 {
+        2
+    } else {
+        3
     }
-    if p == 4 {
-        return 2;
-    }
-    3
 }
 
-// 2 to the power k: with k = h, the number of processes.
-pub fn power(k: usize) -> usize
-    requires { k ≤ 3 }
-    ensures { (result ≡ 2 ^ k) × (1 ≤ result) × (result ≤ 8) }
-{
-    if k == 0 {
-        return 1;
-    }
-    if k == 1 {
-        return 2;
-    }
-    if k == 2 {
-        return 4;
-    }
-    8
-}
-
-// The height of node v. The nodes above the leaves are those of a tree one lower.
-pub fn height(h: usize, v: usize) -> usize
+// The height of node v in a tree of height h. The nodes above the leaves are those of a tree one lower.
+fn height_in(h: usize, v: usize) -> usize
     requires { h ≤ 3 }
     ensures { (result ≡ height_in h v) × (result ≤ h) }
 {
     if h == 0 {
-        return 0;
+        0
+    } else if v < 1 << h {
+        height_in(h - 1, v) + 1
+    } else {
+        0
     }
-    if v < power(h) {
-        return height(h - 1, v) + 1;
+}
+
+// The height of the tree and the most operations of one process.
+#[derive(Clone, Copy)]
+pub struct Tree {
+    height: usize,
+    most: usize,
+}
+
+impl Model for Tree {
+    ghost use Rattle.std.specs.Prelude.{◌≤◌};
+    ghost use Rattle.tree.specs.Shape.{Shape};
+
+    ghost Value = { Shape };
+
+    ghost view = { λ t. record { height = t.height; most = t.most } };
+
+    ghost invariant = { λ t. (1 ≤ t.height) × (t.height ≤ 3) × (t.most ≤ 500) };
+
+    ghost inverse = { λ s. record { height = s.height; most = s.most } };
+}
+
+impl Tree {
+    // The tree of a call with p processes of at most l operations.
+    pub fn new(p: u32, l: u32) -> Self
+        requires { l ≤ 500 }
+        ensures { result ≡ shape_for p l }
+    {
+        Tree {
+            height: height_for(p),
+            most: l as usize,
+        }
     }
-    0
-}
 
-// The last place of node v.
-pub fn last_place(h: usize, l: usize, v: usize) -> usize
-    requires { (h ≤ 3) × (l ≤ 500) }
-    ensures { (result ≡ last_place (record { height = h; most = l }) v) × (result ≤ 4000) }
-{
-    l * power(height(h, v))
-}
-
-// The words of node v's part. There is no node 0, so it has none.
-pub fn part_words(h: usize, l: usize, v: usize) -> usize
-    requires { (h ≤ 3) × (l ≤ 500) }
-    ensures { (result ≡ part_words (record { height = h; most = l }) v) × (result ≤ block_words * 4001) }
-{
-    if v == 0 {
-        return 0;
+    pub fn height(self) -> usize
+        ensures { (result ≡ self.height) × (1 ≤ result) × (result ≤ 3) }
+    {
+        self.height
     }
-    BLOCK_WORDS * (last_place(h, l, v) + 1)
-}
 
-// The words that the table must have.
-pub fn words_needed(h: usize, l: usize) -> usize
-    requires { (h ≤ 3) × (l ≤ 500) }
-    ensures { (result ≡ words_needed (record { height = h; most = l })) × (result ≤ block_words * 16015) }
-{
-    let p = power(h);
-    BLOCK_WORDS * ((h + 1) * p * l + (2 * p - 1))
-}
-
-// The first word of each node's part: node v's part is from starts[v] to starts[v + 1]. Past the last node each entry
-// is the words needed, so that nothing is left for a node that the tree does not have.
-pub fn starts(h: usize, l: usize) -> [usize; 17]
-    requires { (h ≤ 3) × (l ≤ 500) }
-    ensures nodes { let s : Shape = record { height = h; most = l } in
-        ((v : ℕ) → v ≤ 2 * processes s → get_or result v 0 ≡ part_start s v) }
-    ensures rest { let s : Shape = record { height = h; most = l } in
-        ((v : ℕ) → 2 * processes s < v → v < 17 → get_or result v 0 ≡ words_needed s) }
-{
-    let end = 2 * power(h);
-    let needed = words_needed(h, l);
-    let mut s = [needed; 17];
-    s[0] = 0;
-    let mut v: usize = 0;
-    while v < end {
-        s[v + 1] = s[v] + part_words(h, l, v);
-        v = v + 1;
+    // p, the number of processes.
+    pub fn processes(self) -> usize
+        ensures { (result ≡ processes self) × (2 ≤ result) × (result ≤ 8) }
+    {
+        1 << self.height
     }
-    s
+
+    // The last place of node v.
+    fn last_place(self, v: usize) -> usize
+        ensures { (result ≡ last_place self v) × (result ≤ 4000) }
+    {
+        self.most << height_in(self.height, v)
+    }
+
+    // The words of node v's part. There is no node 0, so it has none.
+    fn part_words(self, v: usize) -> usize
+        ensures { (result ≡ part_words self v) × (result ≤ block_words * 4001) }
+    {
+        if v == 0 {
+            return 0;
+        }
+        BLOCK_WORDS * (self.last_place(v) + 1)
+    }
+
+    // The words that the table must have.
+    pub fn words_needed(self) -> usize
+        ensures { (result ≡ words_needed self) × (result ≤ block_words * 16015) }
+    {
+        let p = self.processes();
+        BLOCK_WORDS * ((self.height + 1) * p * self.most + (2 * p - 1))
+    }
 }
 
-// The first n words of the table set to 0; those after them stay.
-pub fn clear(table: &mut [u32], n: usize)
-    requires { n ≤ length table.old }
-    ensures { table.new ≡ replicate n 0 ++ drop n table.old }
-{
-    let mut i = 0;
-    while i < n {
-        table[i] = 0;
-        i = i + 1;
+// A tree, and the first word of each node's part: node v's part is from starts[v] to starts[v + 1].
+pub struct Layout {
+    tree: Tree,
+    starts: [usize; 17],
+}
+
+impl Model for Layout {
+    ghost use Rattle.std.specs.Prelude.{◌≡◌, ℕ, ◌*◌, ◌≤◌, get_or};
+    ghost use Rattle.tree.specs.Shape.{Shape, processes};
+    ghost use Rattle.tree.specs.Layout.{part_start};
+
+    ghost Value = { Shape };
+
+    ghost view = { λ a. a.tree };
+
+    ghost invariant = { λ a. (v : ℕ) → v ≤ 2 * processes a.tree → get_or a.starts v 0 ≡ part_start a.tree v };
+}
+
+impl Layout {
+    // A node's part begins where that of the node before it ends.
+    pub fn new(tree: Tree) -> Self
+        ensures { result ≡ tree }
+    {
+        let nodes = 2 * tree.processes();
+        let mut starts = [0; 17];
+        for v in 0..nodes {
+            starts[v + 1] = starts[v] + tree.part_words(v);
+        }
+        Layout { tree, starts }
+    }
+
+    // The first word of node v's part, and the word after its last.
+    pub fn span(&self, v: u32) -> (usize, usize)
+        requires { (v < 16) × (v < 2 * processes self.now) }
+        ensures start { result.0 ≡ part_start self.now v }
+        ensures end { result.1 ≡ part_start self.now v + part_words self.now v }
+    {
+        let v = v as usize;
+        (self.starts[v], self.starts[v + 1])
+    }
+
+    // Node v's part.
+    pub fn part<'a>(&self, table: &'a [u32], v: u32) -> &'a [u32]
+        requires { HasPart self.now table.now v }
+        ensures part { result.now ≡ part_of self.now table.now v }
+        ensures words { length result.now ≡ part_words self.now v }
+    {
+        let (from, to) = self.span(v);
+        &table[from..to]
     }
 }

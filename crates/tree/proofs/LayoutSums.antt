@@ -3,10 +3,10 @@ use Prim.Native.Nat.{ℕ, zero, suc, ◌+◌, ◌*◌, ◌-◌, ◌^◌, ◌≤�
 use native.Mathlib.Omega.{arith}
 use native.Mathlib.Nat.{mul-le-mul_left, mul-le-mul_right, le_trans, eq-or-lt_of_le, not-suc-le-zero}
 use native.Mathlib.Numerals.{add-one}
-use mathlib.Core.Path.{◌≡◌, refl, ◌∙◌}
+use mathlib.Core.Path.{◌≡◌, refl}
 use mathlib.Core.Logic.{⊎_elim}
 use mathlib.Core.List.{List, ◌∷◌}
-use lib.ListN.{length, get_or, set, replicate, get_or-replicate}
+use lib.ListN.{length, get_or, set}
 use lib.Seq.{get_or-set_same, get_or-set_other}
 use borrow.Author.Tests.{lt-ltb}
 use Rattle.tree.specs.Shape.{Shape, height_in}
@@ -51,16 +51,8 @@ start_more s l v w fits e all u k =
     (λ q. rw (get_or-set_other l (v + 1) u (get_or l v 0 + w) 0 (omega arith)) (all u (omega arith)))
     (eq-or-lt_of_le k)
 
--- the starts before any is computed, and those that stay as they were
-pub starts_blank : (n u : ℕ) → 0 < u → u < 17 → get_or (0 ∷ replicate 16 n) u 0 ≡ n
-starts_blank n zero h k = absurd (not-suc-le-zero h)
-starts_blank n (suc u) h k = get_or-replicate 16 u n 0 (omega arith)
-
-pub start_rest :
-    (l : List ℕ) (n v x : ℕ)
-    → ((u : ℕ) → v < u → u < 17 → get_or l u 0 ≡ n)
-    → (u : ℕ)
-    → v + 1 < u
-    → u < 17
-    → get_or (set l (v + 1) x) u 0 ≡ n
-start_rest l n v x all u a b = get_or-set_other l (v + 1) u x 0 (omega arith) ∙ all u (omega arith) b
+-- before any is computed, there is that of node 0
+pub first_start : (s : Shape) (l : List ℕ) (u : ℕ) → u ≤ 0 → get_or (0 ∷ l) u 0 ≡ part_start s u
+unfolding part_start
+first_start s l zero h = refl
+first_start s l (suc u) h = absurd (not-suc-le-zero h)

@@ -30,5 +30,4 @@ pub mod Rank
 pub mod Find
 pub mod LayoutSums
 pub mod NodeParts
-pub mod NodeReads
 pub mod Places

@@ -8,7 +8,7 @@ pub returns-then-head_of-h : goal.returns-then-head_of-h
 unfolding head_of head_is raise
 returns-then-head_of-h c =
     let is = eq-eqb _ _ c.if-head_of-h.true in
-    record { head = rw (← c.head_of.ensures, is, c.as_index.ensures); told = rw (← c.head_of.ensures, is) }
+    record { head = rw (← c.head_of.ensures, is); told = rw (← c.head_of.ensures, is) }
 
 pub returns : goal.returns
 unfolding head_of head_is raise

@@ -12,6 +12,6 @@ pub returns-then-p-eq4 : goal.returns-then-p-eq4
 unfolding height_for
 returns-then-p-eq4 c = (rw (ne_eqb _ _ c.if-p-eq2.false, eq-eqb _ _ c.if-p-eq4.true), omega arith, omega arith)
 
-pub returns : goal.returns
+pub returns-else-p-eq4 : goal.returns-else-p-eq4
 unfolding height_for
-returns c = (rw (ne_eqb _ _ c.if-p-eq2.false, ne_eqb _ _ c.if-p-eq4.false), omega arith, omega arith)
+returns-else-p-eq4 c = (rw (ne_eqb _ _ c.if-p-eq2.false, ne_eqb _ _ c.if-p-eq4.false), omega arith, omega arith)

@@ -1,0 +1,13 @@
+-- `access::Layout::write_at` meets its contract.
+use Rattle.tree.specs.Blocks.{block_at}
+use Rattle.tree.proofs.NodeParts.{part_between, block_put_back}
+use Rattle.table.proofs.layout.Layout.write_at.Goals as goal
+
+pub returns : goal.returns
+unfolding block_at
+returns c =
+    let s = c.args.self.now in
+    let t = c.args.table.now in
+    let e = c.span-from.ensures in
+    let part = part_between s t c.args.v _ _ e.start e.end in
+    rw (c.write_block.ensures, part) (block_put_back s t c.args.v _ _ e.start e.end c.args.i _)
