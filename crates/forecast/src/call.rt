@@ -1,6 +1,5 @@
 // The forecast: what a list with some begins will need.
 ghost use Rattle.std.specs.Prelude.{◌≡◌, ◌≤◌};
-ghost use Rattle.tree.specs.Shape.{Shape};
 ghost use Rattle.calls.specs.Forecast.{record_limit, forecast_refusal, forecast as forecast_of, Forecasts};
 ghost use Rattle.forecast.specs.Returned.{returned};
 
@@ -8,7 +7,7 @@ use crate::Forecast;
 use crate::begins::begins_refusal;
 use calls::Refusal;
 use refusals::before::{of_bytes, settings};
-use table::layout::{height_for, words_needed};
+use table::layout::Tree;
 
 // Why the call is refused: 1, 2, 4, then the tests of the records.
 #[tactic(auto, unfolding(calls::specs::Forecast::forecast_refusal, calls::specs::Refusals::first_refusal, calls::specs::Refusals::accepted))]
@@ -20,12 +19,11 @@ fn refusal_of(p: u32, l: u32, begins: &[u8]) -> Result<(), Refusal>
     begins_refusal(p, l, begins)
 }
 
-// The most records of an operation in a tree of this height: its begin and its own steps.
-fn record_limit(height: usize) -> usize
-    requires { height ≤ 3 }
-    ensures { (s : Shape) → s.height ≡ height → result ≡ record_limit s }
+// The most records of an operation: its begin and its own steps.
+fn record_limit(tree: Tree) -> usize
+    ensures { result ≡ record_limit tree }
 {
-    40 * height + 2
+    40 * tree.height() + 2
 }
 
 // What p, l and begin records alone tell of every run of them. It returns what the rules say; and of a forecast without
@@ -35,11 +33,11 @@ pub fn forecast(p: u32, l: u32, begins: &[u8]) -> Result<Forecast, Refusal>
     ensures runs { Forecasts p l begins.now (returned result) }
 {
     refusal_of(p, l, begins)?;
-    let height = height_for(p);
+    let tree = Tree::new(p, l);
     let n = begins.len() / 8;
     Ok(Forecast {
-        words: words_needed(height, l as usize),
+        words: tree.words_needed(),
         answer_bytes: 16 * n,
-        records: n * record_limit(height),
+        records: n * record_limit(tree),
     })
 }

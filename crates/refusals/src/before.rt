@@ -6,7 +6,7 @@ ghost use Rattle.calls.specs.CheckLog.{check_refusal};
 
 use calls::Refusal;
 use steps::Process;
-use table::layout::{height_for, words_needed};
+use table::layout::Tree;
 
 // The settings of a call, p and l: 1, 2.
 #[tactic(auto, unfolding(calls::specs::Refusals::settings_refusal))]
@@ -38,7 +38,7 @@ fn buffers(p: u32, l: u32, words: usize, bytes: usize) -> Result<(), Refusal>
     requires { accepted (settings_refusal p l) ≡ true }
     ensures { result ≡ buffer_refusal (shape_for p l) words bytes }
 {
-    if words < words_needed(height_for(p), l as usize) {
+    if words < Tree::new(p, l).words_needed() {
         return Err(Refusal::TableShort);
     }
     of_bytes(bytes)
