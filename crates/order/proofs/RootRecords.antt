@@ -1,6 +1,6 @@
 -- Root blocks as order records: the list of the root order is theirs one after the other, a root block's are its puts'
 -- and then its takes', and how many bytes they have.
-use Prim.Native.Nat.{ℕ, suc, ◌+◌, ◌*◌, ◌^◌}
+use Prim.Native.Nat.{ℕ, suc, ◌+◌, ◌*◌}
 use native.Mathlib.Omega.{arith}
 use mathlib.Core.Path.{◌≡◌, refl, ap₂, ◌∙◌}
 use mathlib.Core.List.{List, [], ◌∷◌, ◌++◌, map, flat_map}
@@ -11,7 +11,7 @@ use Rattle.record.specs.OrderRecords.{order_bytes}
 use Rattle.record.proofs.Lengths.{order_record_length}
 use Rattle.tree.specs.declared.Kind.{Kind}
 use Rattle.tree.specs.declared.Kind.TheVariants.{Puts, Takes}
-use Rattle.tree.specs.Shape.{Shape, processes, root}
+use Rattle.tree.specs.Shape.{Shape, root}
 use Rattle.tree.specs.Memory.{Memory, block}
 use Rattle.tree.specs.Order.{Placed, placed, total, in_root, last_root, block_order, root_order}
 use Rattle.tree.specs.Clauses.Invariant.{count, Present, Sound}
@@ -21,43 +21,37 @@ use Rattle.order.specs.OrderList.{order_record, order_list}
 use Rattle.order.specs.declared.Listing.{Listing}
 use Rattle.order.specs.declared.Subtree.{Subtree}
 use Rattle.order.specs.Clauses.Opens.{BlockOf, RootOf}
-use Rattle.order.specs.Clauses.Listed.{block_records, root_records, gathered}
+use Rattle.order.specs.Clauses.Listed.{block_records, root_records}
 use Rattle.order.proofs.Storing.{Parts}
 
 -- the list, root block by root block
-pub list_blocks : (s : Shape) (t : List ℕ) → order_list s t ≡ gathered (root_records t) 0 (last_root s t) s
-unfolding order_list root_order root_records gathered
+pub list_blocks : (s : Shape) (t : List ℕ) → order_list s t ≡ flat_map (root_records s t) (between 0 (last_root s t))
+unfolding order_list root_order root_records
 list_blocks s t = flat_map-twice (λ x. order_bytes (order_record x)) (block_order s t) (between 0 (last_root s t))
 
 -- ---- a root block
-abbrev pub root_at : ℕ → Subtree
-root_at h = record { node = 1; height = h }
+abbrev pub root_of : Shape → Subtree
+root_of s = record { node = 1; height = s.height }
 
-abbrev pub listing : Kind → ℕ → ℕ → Listing
-listing κ p b = record { kind = κ; processes = p; block = b }
+abbrev pub listing : Kind → ℕ → Listing
+listing κ b = record { kind = κ; block = b }
 
-module _ {starts table : List ℕ} {h b : ℕ} (p : ℕ) (e : p ≡ 2 ^ h) where
-  root_block_lem : (κ : Kind) (s : Shape) (heads : List ℕ) → RootOf starts table h b s heads → BlockOf starts table (listing κ p b) (root_at h) b s heads
-  unfolding processes root
-  root_block_lem κ s heads g =
-      record {
-        within = record { tree = g.tree; number = rw (← g.height) e; level = rw g.height (level_root s) };
-        present = g.present;
-      }
+module _ (s : Shape) (table : List ℕ) (b : ℕ) where
+  root_block_lem : (heads : List ℕ) → RootOf s table b heads → BlockOf s table (root_of s) b heads
+  unfolding root
+  root_block_lem heads g = record { within = record { tree = g.tree; level = level_root s }; present = g.present }
 
-  root_kinds : (s : Shape) (heads : List ℕ) → RootOf starts table h b s heads
-      → root_records table b s ≡ block_records table (listing Puts p b) (root_at h) b s ++ block_records table (listing Takes p b) (root_at h) b s
+  root_kinds : root_records s table b ≡ block_records s table (listing Puts b) (root_of s) b ++ block_records s table (listing Takes b) (root_of s) b
   unfolding root_records block_records block_order in_root root
-  root_kinds s heads g =
-      rw g.height
-      (flat_map-append (λ x. order_bytes (order_record x)) (map (placed Puts b) (in_root s table Puts b)) (map (placed Takes b) (in_root s table Takes b))
+  root_kinds =
+      flat_map-append (λ x. order_bytes (order_record x)) (map (placed Puts b) (in_root s table Puts b)) (map (placed Takes b) (in_root s table Takes b))
       ∙ ap₂ ◌++◌ (flat_map-map (λ x. order_bytes (order_record x)) (placed Puts b) (in_root s table Puts b))
-      (flat_map-map (λ x. order_bytes (order_record x)) (placed Takes b) (in_root s table Takes b)))
+      (flat_map-map (λ x. order_bytes (order_record x)) (placed Takes b) (in_root s table Takes b))
 
-  pub root_parts : Parts (RootOf starts table h b) (root_records table b)
-      (BlockOf starts table (listing Puts p b) (root_at h) b) (block_records table (listing Puts p b) (root_at h) b)
-      (BlockOf starts table (listing Takes p b) (root_at h) b) (block_records table (listing Takes p b) (root_at h) b)
-  root_parts = record { first = root_block_lem Puts; second = root_block_lem Takes; joined = root_kinds }
+  pub root_parts : Parts (RootOf s table b) (root_records s table b)
+      (BlockOf s table (root_of s) b) (block_records s table (listing Puts b) (root_of s) b)
+      (BlockOf s table (root_of s) b) (block_records s table (listing Takes b) (root_of s) b)
+  root_parts = record { first = root_block_lem; second = root_block_lem; joined = λ heads g. root_kinds }
 
 -- ---- how many bytes
 pub eight_each : (xs : List Placed) → length (flat_map (λ x. order_bytes (order_record x)) xs) ≡ 8 * length xs

@@ -7,24 +7,26 @@ use mathlib.Core.Path.{◌≡◌, ap, ap₂, sym, ◌∙◌}
 use mathlib.Core.Logic.{inr}
 use mathlib.Core.List.{List, ◌++◌, flat_map}
 use lib.Pow.{pow_mono, pow_pos}
+use Rattle.base.specs.Between.{between}
 use Rattle.base.proofs.Gather.{flat_map-append, flat_map-twice}
 use Rattle.record.specs.OrderRecords.{order_bytes}
 use Rattle.tree.specs.declared.Block.{Block}
 use Rattle.tree.specs.Shape.{Shape, processes}
+use Rattle.tree.specs.Blocks.{block_at}
 use Rattle.tree.specs.Memory.{block, memory_of}
 use Rattle.tree.specs.Order.{OpId, placed, opened}
 use Rattle.tree.specs.Sides.{Side, onLeft, onRight, child_of, end_of}
 use Rattle.tree.specs.Clauses.Invariant.{Node, Inner, Present}
 use Rattle.tree.proofs.Levels.{Level, level_child, level_inner}
 use Rattle.tree.proofs.Opening.{opened_on, opened_inner, subblocks_rise, subblock_present}
-use Rattle.tree.specs.Clauses.Access.{HasPlace, node_block}
+use Rattle.tree.specs.Clauses.Access.{HasPlace}
 use Rattle.order.specs.OrderList.{order_record}
 use Rattle.order.specs.declared.Listing.{Listing}
 use Rattle.order.specs.declared.Subtree.{Subtree}
 use Rattle.order.specs.Clauses.Opens.{InTree, BlockOf, RangeOf}
-use Rattle.order.specs.Clauses.Listed.{block_records, gathered}
+use Rattle.order.specs.Clauses.Listed.{block_records}
 use Rattle.order.proofs.Storing.{Parts}
-use Rattle.tree.proofs.Places.{node_low, node_reads, written_small, places_upto}
+use Rattle.tree.proofs.Places.{node_low, written_small, places_upto}
 
 level_node : (s : Shape) (h v : ℕ) → Level s h v → Node s v
 unfolding processes
@@ -38,17 +40,14 @@ bytes_of x o = order_bytes (order_record (placed x.kind x.block o))
 abbrev pub child : Side → Subtree → Subtree
 child d y = record { node = child_of d y.node; height = y.height - 1 }
 
-module _ {starts table : List ℕ} {x : Listing} {y : Subtree} {s : Shape} {heads : List ℕ} (g : InTree starts table x y s heads) where
+module _ {s : Shape} {table heads : List ℕ} {y : Subtree} (g : InTree s table y heads) where
   subtree_node : Node s y.node
   subtree_node = level_node s y.height y.node g.level
 
   pub subtree_low : y.node < 16
   subtree_low = node_low g.tree y.node subtree_node
 
-  pub subtree_reads : (i : ℕ) → node_block starts table y.node i ≡ block s (memory_of table heads) y.node i
-  subtree_reads i = node_reads g.tree y.node i subtree_node
-
-module _ {starts table : List ℕ} {x : Listing} {y : Subtree} {b : ℕ} {s : Shape} {heads : List ℕ} (g : BlockOf starts table x y b s heads) where
+module _ {s : Shape} {table heads : List ℕ} {y : Subtree} {b : ℕ} (g : BlockOf s table y b heads) where
   node : Node s y.node
   node = subtree_node g.within
 
@@ -64,14 +63,14 @@ module _ {starts table : List ℕ} {x : Listing} {y : Subtree} {b : ℕ} {s : Sh
   block_small = written_small g.within.tree y.node b node (inr g.present)
 
   -- the node has the block's place and those before it
-  pub block_place : (i : ℕ) → i ≤ b → HasPlace starts table y.node i
+  pub block_place : (i : ℕ) → i ≤ b → HasPlace s table y.node i
   block_place = places_upto g.within.tree y.node b node (inr g.present)
 
   -- ---- above the leaves
   module _ (above : y.height ≡ 0 → ⊥) where
     -- an end of the block, and of the one before it
     abbrev end_at : Side → ℕ → ℕ
-    end_at d i = end_of d (node_block starts table y.node i)
+    end_at d i = end_of d (block_at s table y.node i)
 
     whole : suc (b - 1) ≡ b
     whole = omega (arith, block_first)
@@ -83,50 +82,49 @@ module _ {starts table : List ℕ} {x : Listing} {y : Subtree} {b : ℕ} {s : Sh
     later = rw whole g.present
 
     -- the subblocks on a side are present
-    subblocks : (d : Side) → RangeOf starts table x (child d y) (end_at d (b - 1)) (end_at d b) s heads
+    subblocks : (d : Side) → RangeOf s table (child d y) (end_at d (b - 1)) (end_at d b) heads
+    unfolding block
     subblocks d =
         let q = g.within.tree in
         let inner : Inner s y.node = level_inner s (y.height - 1) y.node higher in
-        rw (subtree_reads g.within (b - 1), subtree_reads g.within b)
         record {
-          within = record { tree = q; number = g.within.number; level = level_child s (y.height - 1) y.node higher d };
+          within = record { tree = q; level = level_child s (y.height - 1) y.node higher d };
           rises = rw whole at (subblocks_rise q.sound y.node inner (b - 1) later d);
           present = λ i l. subblock_present q.sound y.node inner (b - 1) later d i (rw whole l);
         }
 
-    -- what they open to
-    abbrev opened_at : Side → List OpId
-    opened_at = opened_on s (memory_of table heads) x.kind (y.height - 1) y.node (b - 1)
+    module _ (x : Listing) where
+      -- what they open to
+      abbrev opened_at : Side → List OpId
+      opened_at = opened_on s (memory_of table heads) x.kind (y.height - 1) y.node (b - 1)
 
-    side : (d : Side) → flat_map (bytes_of x) (opened_at d) ≡ gathered (block_records table x (child d y)) (end_at d (b - 1)) (end_at d b) s
-    unfolding block_records gathered
-    side d =
-        rw (whole, subtree_reads g.within (b - 1), subtree_reads g.within b)
-        (flat_map-twice (bytes_of x) (opened s table x.kind (y.height - 1) (child_of d y.node)) _)
+      side : (d : Side) → flat_map (bytes_of x) (opened_at d) ≡ flat_map (block_records s table x (child d y)) (between (end_at d (b - 1)) (end_at d b))
+      unfolding block_records block
+      side d = rw whole (flat_map-twice (bytes_of x) (opened s table x.kind (y.height - 1) (child_of d y.node)) _)
 
-    sides : block_records table x y b s
-        ≡ gathered (block_records table x (child onLeft y)) (end_at onLeft (b - 1)) (end_at onLeft b) s
-        ++ gathered (block_records table x (child onRight y)) (end_at onRight (b - 1)) (end_at onRight b) s
-    unfolding block_records
-    sides =
-        let e : y.height ≡ suc (y.height - 1) = omega arith in
-        ap₂ (λ (h i : ℕ). flat_map (bytes_of x) (opened s table x.kind h y.node i)) e (sym whole)
-        ∙ ap (flat_map (bytes_of x)) (opened_inner s (memory_of table heads) x.kind (y.height - 1) y.node (b - 1))
-        ∙ flat_map-append (bytes_of x) (opened_at onLeft) (opened_at onRight)
-        ∙ ap₂ ◌++◌ (side onLeft) (side onRight)
+      sides : block_records s table x y b
+          ≡ flat_map (block_records s table x (child onLeft y)) (between (end_at onLeft (b - 1)) (end_at onLeft b))
+          ++ flat_map (block_records s table x (child onRight y)) (between (end_at onRight (b - 1)) (end_at onRight b))
+      unfolding block_records
+      sides =
+          let e : y.height ≡ suc (y.height - 1) = omega arith in
+          ap₂ (λ (h i : ℕ). flat_map (bytes_of x) (opened s table x.kind h y.node i)) e (sym whole)
+          ∙ ap (flat_map (bytes_of x)) (opened_inner s (memory_of table heads) x.kind (y.height - 1) y.node (b - 1))
+          ∙ flat_map-append (bytes_of x) (opened_at onLeft) (opened_at onRight)
+          ∙ ap₂ ◌++◌ (side onLeft) (side onRight)
 
 -- a block of a range
-pub range_block : {starts table : List ℕ} {x : Listing} {y : Subtree} {from to : ℕ} (b : ℕ) → b < to
-    → (s : Shape) (heads : List ℕ) → RangeOf starts table x y from to s heads → BlockOf starts table x y (b + 1) s heads
-range_block b l s heads g = record { within = g.within; present = rw (add-one b) (g.present b l) }
+pub range_block : {s : Shape} {table : List ℕ} {y : Subtree} {from to : ℕ} (b : ℕ) → b < to
+    → (heads : List ℕ) → RangeOf s table y from to heads → BlockOf s table y (b + 1) heads
+range_block b l heads g = record { within = g.within; present = rw (add-one b) (g.present b l) }
 
 -- a block above the leaves is its left subblocks, then its right ones
-module _ {starts table : List ℕ} {x : Listing} {y : Subtree} {b : ℕ} (above : y.height ≡ 0 → ⊥) where
+module _ {s : Shape} {table : List ℕ} (x : Listing) {y : Subtree} {b : ℕ} (above : y.height ≡ 0 → ⊥) where
   pub block_parts : {old new : Block} {left right : Subtree}
-      → old ≡ node_block starts table y.node (b - 1) → new ≡ node_block starts table y.node b → left ≡ child onLeft y → right ≡ child onRight y
-      → Parts (BlockOf starts table x y b) (block_records table x y b)
-      (RangeOf starts table x left old.left new.left) (gathered (block_records table x left) old.left new.left)
-      (RangeOf starts table x right old.right new.right) (gathered (block_records table x right) old.right new.right)
+      → old ≡ block_at s table y.node (b - 1) → new ≡ block_at s table y.node b → left ≡ child onLeft y → right ≡ child onRight y
+      → Parts (BlockOf s table y b) (block_records s table x y b)
+      (RangeOf s table left old.left new.left) (flat_map (block_records s table x left) (between old.left new.left))
+      (RangeOf s table right old.right new.right) (flat_map (block_records s table x right) (between old.right new.right))
   block_parts p q l r =
       rw (p, q, l, r)
-      record { first = λ s heads g. subblocks g above onLeft; second = λ s heads g. subblocks g above onRight; joined = λ s heads g. sides g above }
+      record { first = λ heads g. subblocks g above onLeft; second = λ heads g. subblocks g above onRight; joined = λ heads g. sides g above x }

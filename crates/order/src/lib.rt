@@ -6,11 +6,9 @@ pub mod list;
 pub mod roots;
 
 // What the order records of one list have in common: the kind of the operations and the root block that they stand in.
-// The process of leaf v is v less the number of processes.
 #[derive(Clone, Copy)]
 pub struct Listing {
     pub kind: tree::Kind,
-    pub processes: u32,
     pub block: u32,
 }
 

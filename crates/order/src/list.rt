@@ -1,15 +1,17 @@
 // The root order, written as order records: root block by root block, each opened down to the leaves.
-ghost use Rattle.std.specs.Prelude.{◌≡◌, List, ◌++◌, ℕ, ◌-◌, ◌≤◌, length, drop};
-ghost use Rattle.tree.specs.Shape.{Shape};
+ghost use Rattle.std.specs.Prelude.{◌≡◌, ◌++◌, ◌-◌, ◌≤◌, length, drop};
+ghost use mathlib.Core.List.{flat_map};
+ghost use Rattle.base.specs.Between.{between};
+ghost use Rattle.base.specs.Clauses.Stored.{Stored};
 ghost use Rattle.tree.specs.Clauses.Access.{HasPlace};
 ghost use Rattle.order.specs.OrderList.{kind_number, order_list};
-ghost use Rattle.order.specs.Clauses.Opens.{leaf_at, adds_to, BlockOf, RangeOf, RootOf, TreeOf};
-ghost use Rattle.order.specs.Clauses.Listed.{Room, Lists, block_records, root_records, gathered};
+ghost use Rattle.order.specs.Clauses.Opens.{leaf_at, adds_to, BlockOf, RangeOf, RootOf, LastRootIs};
+ghost use Rattle.order.specs.Clauses.Listed.{Room, block_records, root_records};
 
 use crate::{Listing, Subtree};
 use node_parts::blocks;
 use record::OrderRecord;
-use table::{access, layout};
+use table::layout::Layout;
 use tree::Kind;
 
 // The number of a kind in an order record.
@@ -24,36 +26,34 @@ fn kind_number(kind: Kind) -> u32
 
 // Whether block b of a leaf adds an operation of the kind. Only the totals tell: a put of 0 leaves the same end left as
 // a take.
-fn adds(table: &[u32], starts: &[usize; 17], kind: Kind, leaf: u32, b: u32) -> bool
-    requires { (1 ≤ b) × HasPlace starts.now table.now leaf (b - 1) × HasPlace starts.now table.now leaf b }
-    ensures { result ≡ adds_to starts.now table.now kind leaf b }
+fn adds(table: &[u32], layout: &Layout, kind: Kind, leaf: u32, b: u32) -> bool
+    requires { (1 ≤ b) × HasPlace layout.now table.now leaf (b - 1) × HasPlace layout.now table.now leaf b }
+    ensures { result ≡ adds_to layout.now table.now kind leaf b }
 {
-    let before = blocks::total(kind, access::block_at(table, starts, leaf, b - 1));
-    let here = blocks::total(kind, access::block_at(table, starts, leaf, b));
+    let before = blocks::total(kind, layout.block_at(table, leaf, b - 1));
+    let here = blocks::total(kind, layout.block_at(table, leaf, b));
     before < here
 }
 
-// The operation that a leaf's block adds, if it is of the kind. Returned here and below is the index after what was
-// stored.
+// The operation that a leaf's block adds, if it is of the kind. The process of leaf v is v less the number of
+// processes. Returned here and below is the index after what was stored.
 fn list_leaf(
     table: &[u32],
-    starts: &[usize; 17],
+    layout: &Layout,
     list: Listing,
     leaf: u32,
     b: u32,
     out: &mut [u8],
     at: usize,
 ) -> usize
-    requires { Room (BlockOf starts.now table.now list (leaf_at leaf) b)
-        (block_records table.now list (leaf_at leaf) b) at (length out.old) }
-    ensures { Lists (BlockOf starts.now table.now list (leaf_at leaf) b)
-        (block_records table.now list (leaf_at leaf) b) out.old at out.new result }
+    requires { Room (BlockOf layout.now table.now (leaf_at leaf) b)
+        (block_records layout.now table.now list (leaf_at leaf) b) at (length out.old) }
+    ensures { Stored out.old at (block_records layout.now table.now list (leaf_at leaf) b) out.new result }
 {
-    let kind = list.kind;
-    if adds(table, starts, kind, leaf, b) {
+    if adds(table, layout, list.kind, leaf, b) {
         let record = OrderRecord {
-            process: leaf - list.processes,
-            kind: kind_number(kind),
+            process: leaf - layout.processes() as u32,
+            kind: kind_number(list.kind),
             serial: b,
             block: list.block,
         };
@@ -79,27 +79,26 @@ fn child(top: Subtree, node: u32) -> Subtree
 #[cycle(list_block_list_range)]
 fn list_block(
     table: &[u32],
-    starts: &[usize; 17],
+    layout: &Layout,
     list: Listing,
     top: Subtree,
     b: u32,
     out: &mut [u8],
     at: usize,
 ) -> usize
-    requires { Room (BlockOf starts.now table.now list top b)
-        (block_records table.now list top b) at (length out.old) }
-    ensures { Lists (BlockOf starts.now table.now list top b)
-        (block_records table.now list top b) out.old at out.new result }
+    requires { Room (BlockOf layout.now table.now top b)
+        (block_records layout.now table.now list top b) at (length out.old) }
+    ensures { Stored out.old at (block_records layout.now table.now list top b) out.new result }
 {
     if top.height == 0 {
-        return list_leaf(table, starts, list, top.node, b, out, at);
+        return list_leaf(table, layout, list, top.node, b, out, at);
     }
-    let old = access::block_at(table, starts, top.node, b - 1);
-    let new = access::block_at(table, starts, top.node, b);
+    let old = layout.block_at(table, top.node, b - 1);
+    let new = layout.block_at(table, top.node, b);
     let left = child(top, 2 * top.node);
     let right = child(top, 2 * top.node + 1);
-    let next = list_range(table, starts, list, left, old.left, new.left, out, at);
-    list_range(table, starts, list, right, old.right, new.right, out, next)
+    let next = list_range(table, layout, list, left, old.left, new.left, out, at);
+    list_range(table, layout, list, right, old.right, new.right, out, next)
 }
 
 // The operations of a node's blocks after `from`, up to and with `to`, in place order. These are a block's subblocks on
@@ -107,7 +106,7 @@ fn list_block(
 #[cycle(list_block_list_range)]
 fn list_range(
     table: &[u32],
-    starts: &[usize; 17],
+    layout: &Layout,
     list: Listing,
     top: Subtree,
     from: u32,
@@ -115,63 +114,45 @@ fn list_range(
     out: &mut [u8],
     at: usize,
 ) -> usize
-    requires { Room (RangeOf starts.now table.now list top from to)
-        (gathered (block_records table.now list top) from to) at (length out.old) }
-    ensures { Lists (RangeOf starts.now table.now list top from to)
-        (gathered (block_records table.now list top) from to) out.old at out.new result }
+    requires { Room (RangeOf layout.now table.now top from to)
+        (flat_map (block_records layout.now table.now list top) (between from to)) at (length out.old) }
+    ensures { Stored out.old at (flat_map (block_records layout.now table.now list top) (between from to)) out.new result }
 {
-    let mut b = from;
     let mut end = at;
-    while b < to {
-        b = b + 1;
-        end = list_block(table, starts, list, top, b, out, end);
+    for b in from..to {
+        end = list_block(table, layout, list, top, b + 1, out, end);
     }
     end
 }
 
 // The operations of root block b: its puts, then its takes.
-fn list_root(
-    table: &[u32],
-    starts: &[usize; 17],
-    height: usize,
-    b: u32,
-    out: &mut [u8],
-    at: usize,
-) -> usize
-    requires { Room (RootOf starts.now table.now height b)
-        (root_records table.now b) at (length out.old) }
-    ensures { Lists (RootOf starts.now table.now height b)
-        (root_records table.now b) out.old at out.new result }
+fn list_root(table: &[u32], layout: &Layout, b: u32, out: &mut [u8], at: usize) -> usize
+    requires { Room (RootOf layout.now table.now b) (root_records layout.now table.now b) at (length out.old) }
+    ensures { Stored out.old at (root_records layout.now table.now b) out.new result }
 {
-    let processes = layout::power(height) as u32;
     let root = Subtree {
         node: 1,
-        height: height,
+        height: layout.height(),
     };
     let puts = Listing {
         kind: Kind::Puts,
-        processes: processes,
         block: b,
     };
     let takes = Listing {
         kind: Kind::Takes,
-        processes: processes,
         block: b,
     };
-    let next = list_block(table, starts, puts, root, b, out, at);
-    list_block(table, starts, takes, root, b, out, next)
+    let next = list_block(table, layout, puts, root, b, out, at);
+    list_block(table, layout, takes, root, b, out, next)
 }
 
 // All root blocks in order. What stands in the output past the list stays.
-pub fn write_order(table: &[u32], starts: &[usize; 17], height: usize, last: u32, out: &mut [u8])
-    requires { Room (TreeOf starts.now table.now height last) (λ s. order_list s table.now) 0 (length out.old) }
-    ensures { (s : Shape) (heads : List ℕ) → TreeOf starts.now table.now height last s heads →
-        out.new ≡ order_list s table.now ++ drop (length (order_list s table.now)) out.old }
+pub fn write_order(table: &[u32], layout: &Layout, last: u32, out: &mut [u8])
+    requires { Room (LastRootIs layout.now table.now last) (order_list layout.now table.now) 0 (length out.old) }
+    ensures { out.new ≡ order_list layout.now table.now ++ drop (length (order_list layout.now table.now)) out.old }
 {
-    let mut b = 0;
     let mut end = 0;
-    while b < last {
-        b = b + 1;
-        end = list_root(table, starts, height, b, out, end);
+    for b in 0..last {
+        end = list_root(table, layout, b + 1, out, end);
     }
 }

@@ -2,7 +2,7 @@
 -- found.
 use Prim.Native.Nat.{ℕ, zero, suc, ◌+◌, ◌-◌, ◌%◌, ◌≤◌, ◌<◌}
 use native.Mathlib.Omega.{arith}
-use mathlib.Core.Path.{◌≡◌}
+use mathlib.Core.Path.{◌≡◌, refl}
 use mathlib.Core.Logic.{inr}
 use mathlib.Core.List.{List}
 use borrow.Author.Tests.{eq-eqb, ne_eqb}
@@ -18,30 +18,31 @@ use Rattle.tree.proofs.Ancestors.{ancestor, side_at, child_at, ancestor_node, an
 use Rattle.tree.proofs.OpenedBetween.{ancestor_level}
 use Rattle.tree.proofs.Climb.{end_towards, climb_step}
 use Rattle.tree.proofs.Rank.{times_step}
-use Rattle.tree.specs.Clauses.Access.{HasPlace, node_part}
+use Rattle.tree.specs.Clauses.Access.{HasPlace}
+use Rattle.tree.specs.Layout.{part_of}
 use Rattle.tree.specs.Clauses.SoundTree.{SoundTree}
 use Rattle.search.specs.Clauses.Searched.{Reaches, First}
 use Rattle.search.specs.Clauses.Climbing.{Ascends, FirstAbove, Beside, beside_of}
 use Rattle.search.proofs.Holding.{CountsAs, HoldsAs}
 use Rattle.search.proofs.Words.{word_of, side_cases, side_word, part_fits, end_word}
 use Rattle.tree.proofs.Places.{node_part_lem, node_headed, written_place}
-use Rattle.search.proofs.ChildReads.{end_place, end_total_lem}
+use Rattle.search.proofs.ChildReads.{end_place}
 use Rattle.search.proofs.HeldBelow.{end_reaches}
 use Rattle.search.proofs.NumbersUp.{beside_total, number_low, number_high, number_rank}
 use Rattle.tree.specs.Layout.{block_words}
 
 -- Block b of the parent of v, the node of height j, holds the operation that v's block `place` holds. Its number there
 -- is larger by what is beside it.
-pub record Above (s : Shape) (k i j : ℕ) (starts heads table : List ℕ) (v place b : ℕ) : Type 0 where
-  pub beside : Beside starts table v b
-  pub holds : HoldsAs s k i (suc j) starts heads table b
-  pub counts : {κ : Kind} {number : ℕ} → CountsAs s k i j table κ place number → CountsAs s k i (suc j) table κ b (number + beside_of starts table κ v b)
+pub record Above (s : Shape) (k i j : ℕ) (heads table : List ℕ) (v place b : ℕ) : Type 0 where
+  pub beside : Beside s table v b
+  pub holds : HoldsAs s k i (suc j) heads table b
+  pub counts : {κ : Kind} {number : ℕ} → CountsAs s k i j table κ place number → CountsAs s k i (suc j) table κ b (number + beside_of s table κ v b)
 
-module _ (s : Shape) (k i j : ℕ) (starts heads table : List ℕ) (place : ℕ) (h : HoldsAs s k i j starts heads table place) (low : suc j ≤ s.height) where
+module _ (s : Shape) (k i j : ℕ) (heads table : List ℕ) (place : ℕ) (h : HoldsAs s k i j heads table place) (low : suc j ≤ s.height) where
   abbrev m : Memory
   m = memory_of table heads
 
-  abbrev tree : SoundTree s starts heads table
+  abbrev tree : SoundTree s heads table
   tree = h.stands.tree
 
   abbrev sound : Sound s m
@@ -69,18 +70,18 @@ module _ (s : Shape) (k i j : ℕ) (starts heads table : List ℕ) (place : ℕ)
   up_node = inner_node s up inner
 
   -- the ends towards the leaf, up to the parent's head
-  ends : Reaches (node_part starts table up) (word_of side) (head_of m up - 1) place
+  ends : Reaches (part_of s table up) (word_of side) (head_of m up - 1) place
   ends =
       let n = sound.node up up_node in
       let last : Written s m up (head_of m up - 1) = below_head n _ (omega (arith, n.head)) in
       record {
         known = small side;
-        fits = part_fits starts table up (head_of m up - 1) (written_place tree up _ up_node last);
-        start = rw (end_word tree side up 0 up_node, first_zeros n, zero_end side) h.some;
+        fits = part_fits s table up (head_of m up - 1) (written_place tree up _ up_node last);
+        start = rw (end_word s m up 0 side, first_zeros n, zero_end side) h.some;
         rises = λ a b l u.
-            rw (end_word tree side up a up_node, end_word tree side up b up_node)
+            rw (end_word s m up a side, end_word s m up b side)
             (ends_rise sound side up inner a b l (below_head n b (omega (arith, n.head))));
-        reached = rw (end_word tree side up (head_of m up - 1) up_node)
+        reached = rw (end_word s m up (head_of m up - 1) side)
             (end_reaches s m sound k kp i h.stands.rooted j low place h.some h.below h.past);
       }
     where
@@ -88,7 +89,7 @@ module _ (s : Shape) (k i j : ℕ) (starts heads table : List ℕ) (place : ℕ)
       small onLeft = omega arith
       small onRight = omega arith
 
-  pub ascends : {v : ℕ} → v ≡ ancestor s k j → Ascends starts heads table v place
+  pub ascends : {v : ℕ} → v ≡ ancestor s k j → Ascends s heads table v place
   unfolding parent_of head_of
   ascends e =
       rw e
@@ -102,14 +103,14 @@ module _ (s : Shape) (k i j : ℕ) (starts heads table : List ℕ) (place : ℕ)
 
   -- ---- the block that is found
   module _ (b : ℕ)
-      (found : First (node_part starts table (ancestor s k (suc j))) (word_of (side_at s k j)) (head_of (memory_of table heads) (ancestor s k (suc j)) - 1) place
+      (found : First (part_of s table (ancestor s k (suc j))) (word_of (side_at s k j)) (head_of (memory_of table heads) (ancestor s k (suc j)) - 1) place
       (suc b))
     where
       past : end_towards s m k j b < place
-      past = let e : suc b - 1 ≡ b = omega arith in rw (e, end_word tree side up b up_node) at found.past
+      past = let e : suc b - 1 ≡ b = omega arith in rw (e, end_word s m up b side) at found.past
 
       upto : place ≤ end_towards s m k j (suc b)
-      upto = rw (end_word tree side up (suc b) up_node) at found.upto
+      upto = rw (end_word s m up (suc b) side) at found.upto
 
       below : suc b < head_of m up
       below = omega (arith, found.most)
@@ -120,21 +121,21 @@ module _ (s : Shape) (k i j : ℕ) (starts heads table : List ℕ) (place : ℕ)
       up_written : (a : ℕ) → a ≤ suc b → Written s m up a
       up_written a l = below_head (sound.node up up_node) a (omega (arith, below))
 
-      up_place : (a : ℕ) → a ≤ suc b → HasPlace starts table up a
+      up_place : (a : ℕ) → a ≤ suc b → HasPlace s table up a
       up_place a l = written_place tree up a up_node (up_written a l)
 
-      besides : Beside starts table here (suc b)
+      besides : Beside s table here (suc b)
       unfolding parent_of left_of right_of
       besides =
           record {
             some = omega arith;
             before = up_place (suc b - 1) (omega arith);
             here = up_place (suc b) (omega arith);
-            right = λ e. let f : here + 1 ≡ right_of up = omega arith in rw f (end_place s starts heads table tree up inner onRight (suc b - 1) (up_written (suc b - 1) (omega arith)));
-            left = λ e. let f : here - 1 ≡ left_of up = omega arith in rw f (end_place s starts heads table tree up inner onLeft (suc b) (up_written (suc b) (omega arith)));
+            right = λ e. let f : here + 1 ≡ right_of up = omega arith in rw f (end_place s heads table tree up inner onRight (suc b - 1) (up_written (suc b - 1) (omega arith)));
+            left = λ e. let f : here - 1 ≡ left_of up = omega arith in rw f (end_place s heads table tree up inner onLeft (suc b) (up_written (suc b) (omega arith)));
           }
 
-      up_holds : HoldsAs s k i (suc j) starts heads table (suc b)
+      up_holds : HoldsAs s k i (suc j) heads table (suc b)
       up_holds =
           let reaches = climb_step s m sound k kp j low b place has past upto i h.past h.upto in
           let e : suc b - 1 ≡ b = omega arith in
@@ -148,18 +149,18 @@ module _ (s : Shape) (k i j : ℕ) (starts heads table : List ℕ) (place : ℕ)
           }
 
       module _ {κ : Kind} {number : ℕ} (counts : CountsAs s k i j table κ place number) where
-        beside_is : beside_of starts table κ here (suc b) ≡ beside_total s m κ up b side
-        unfolding beside_of parent_of left_of right_of
+        beside_is : beside_of s table κ here (suc b) ≡ beside_total s m κ up b side
+        unfolding beside_of parent_of left_of right_of block
         beside_is =
-            side_cases (λ d. beside_of starts table κ here (suc b) ≡ beside_total s m κ up b d) here
+            side_cases (λ d. beside_of s table κ here (suc b) ≡ beside_total s m κ up b d) here
             (λ e.
             let f : here + 1 ≡ right_of up = omega arith in
             let g : suc b - 1 ≡ b = omega arith in
-            rw (eq-eqb (here % 2) 0 e, f, g) (end_total_lem s starts heads table tree up inner onRight b κ))
-            (λ e. let f : here - 1 ≡ left_of up = omega arith in rw (ne_eqb (here % 2) 0 e, f) (end_total_lem s starts heads table tree up inner onLeft (suc b) κ))
+            rw (eq-eqb (here % 2) 0 e, f, g) refl)
+            (λ e. let f : here - 1 ≡ left_of up = omega arith in rw (ne_eqb (here % 2) 0 e, f) refl)
 
         -- the operation's number in it is larger by what is beside it
-        up_counts : CountsAs s k i (suc j) table κ (suc b) (number + beside_of starts table κ here (suc b))
+        up_counts : CountsAs s k i (suc j) table κ (suc b) (number + beside_of s table κ here (suc b))
         unfolding block
         up_counts =
             let level = ancestor_level s k kp (suc j) low in
@@ -181,7 +182,7 @@ module _ (s : Shape) (k i j : ℕ) (starts heads table : List ℕ) (place : ℕ)
             }
 
   -- all of it, of the block that was found
-  pub above : {v : ℕ} → v ≡ ancestor s k j → (b : ℕ) → FirstAbove starts heads table v place b → Above s k i j starts heads table v place b
+  pub above : {v : ℕ} → v ≡ ancestor s k j → (b : ℕ) → FirstAbove s heads table v place b → Above s k i j heads table v place b
   unfolding parent_of head_of
   above e zero f = absurd (omega (arith, f.some))
   above e (suc b) f =

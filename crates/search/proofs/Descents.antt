@@ -23,16 +23,17 @@ use Rattle.tree.proofs.Levels.{Level, level_child, level_inner}
 use Rattle.tree.proofs.Opening.{opened_on}
 use Rattle.tree.proofs.SideTotals.{child_total, end_total}
 use Rattle.tree.proofs.Find.{find_left, find_right, find_on}
-use Rattle.tree.specs.Clauses.Access.{HasPart, node_part, node_block}
+use Rattle.tree.specs.Clauses.Access.{HasPart}
+use Rattle.tree.specs.Layout.{part_of}
 use Rattle.tree.specs.Clauses.SoundTree.{SoundTree}
 use Rattle.search.specs.declared.find.Descent.{Descent}
 use Rattle.search.specs.Clauses.Searched.{Reaches, First}
 use Rattle.search.specs.Clauses.Descending.{Finds, FoundIn, Descends, descent_of}
-use Rattle.tree.proofs.Places.{processes_most, node_reads, node_small, written_place}
-use Rattle.search.proofs.ChildReads.{end_written, end_place, end_total_lem}
+use Rattle.tree.proofs.Places.{processes_most, node_small, written_place}
+use Rattle.search.proofs.ChildReads.{end_written, end_place}
 use Rattle.search.proofs.NumbersUp.{beside_total, child_rises, ends_total, sum_before, sum_here}
 use Rattle.search.proofs.PutSearch.{search_ready, search_finds}
-use Rattle.tree.specs.Blocks.{puts_word}
+use Rattle.tree.specs.Blocks.{puts_word, block_at}
 
 -- put number n of v's block suc a is on a side d of it: its number in the child there, and the list that it is in
 pub record OnSide (s : Shape) (m : Memory) (h v a n : ℕ) (d : Side) (number : ℕ) : Type 0 where
@@ -56,11 +57,11 @@ right_index n t l l' r e le lt =
     shifted : (n l r d : ℕ) → l + d + r < n → n - 1 - (l + r) - d ≡ n - (l + d) - 1 - r
     shifted n l r d lt = omega arith
 
-module _ (s : Shape) (heads starts table : List ℕ) (h v a n : ℕ) (f : Finds starts table (suc h) v (suc a) n s heads) where
+module _ (s : Shape) (heads table : List ℕ) (h v a n : ℕ) (f : Finds s table (suc h) v (suc a) n heads) where
   abbrev m : Memory
   m = memory_of table heads
 
-  abbrev tree : SoundTree s starts heads table
+  abbrev tree : SoundTree s heads table
   tree = f.tree
 
   abbrev sound : Sound s m
@@ -110,14 +111,11 @@ module _ (s : Shape) (heads starts table : List ℕ) (h v a n : ℕ) (f : Finds 
             ∙ ap (λ (i : ℕ). get_or (opened_on s m Puts h v a onRight) i z) (right_index _ _ _ _ _ totals (ends_total s m sound Puts h v f.level a has onLeft) l);
       }
 
-  abbrev read_total : (d : Side) (x : ℕ) → total Puts (node_block starts table (child_of d v) (end_of d (node_block starts table v x))) ≡ end_total s m Puts v x d
-  read_total d x = end_total_lem s starts heads table tree v inner d x Puts
-
-  small_puts : (u i : ℕ) → Node s u → (node_block starts table u i).puts ≤ 4000
+  small_puts : (u i : ℕ) → Node s u → (block_at s table u i).puts ≤ 4000
   small_puts u i nu = omega (arith, node_small tree u i nu)
 
-  pub descends : Descends starts table v (suc a) n
-  unfolding left_of right_of total
+  pub descends : Descends s table v (suc a) n
+  unfolding left_of right_of total block
   descends =
       let e : suc a - 1 ≡ a = omega arith in
       record {
@@ -125,27 +123,27 @@ module _ (s : Shape) (heads starts table : List ℕ) (h v a n : ℕ) (f : Finds 
         low = omega (arith, node.last, processes_most s tree.tall);
         here = written_place tree v (suc a) node (inr has);
         before = rw e (written_place tree v a node before);
-        left = end_place s starts heads table tree v inner onLeft (suc a) (inr has);
-        right = rw e (end_place s starts heads table tree v inner onRight a before);
+        left = end_place s heads table tree v inner onLeft (suc a) (inr has);
+        right = rw e (end_place s heads table tree v inner onRight a before);
         small = omega (
           arith,
-          small_puts (child_of onLeft v) (node_block starts table v (suc a)).left (child_node s onLeft v inner),
-          small_puts (child_of onRight v) (node_block starts table v (suc a - 1)).right (child_node s onRight v inner),
+          small_puts (child_of onLeft v) (block_at s table v (suc a)).left (child_node s onLeft v inner),
+          small_puts (child_of onRight v) (block_at s table v (suc a - 1)).right (child_node s onRight v inner),
         );
-        past = rw (e, read_total onRight a) (omega (arith, past, totals));
+        past = rw e (omega (arith, past, totals));
       }
 
   abbrev descent_on : Side → Descent
   descent_on d = record { node = child_of d v; last = end_of d (block s m v (suc a)); number = n - beside_total s m Puts v a d }
 
   -- the descent, by the memory's blocks
-  descent_is : descent_of starts table v (suc a) n ≡ (if leb n (beside_total s m Puts v a onRight + beside_total s m Puts v a onLeft) then descent_on onLeft else descent_on onRight)
-  unfolding descent_of left_of right_of total
+  descent_is : descent_of s table v (suc a) n ≡ (if leb n (beside_total s m Puts v a onRight + beside_total s m Puts v a onLeft) then descent_on onLeft else descent_on onRight)
+  unfolding descent_of left_of right_of total block
   descent_is =
       let e : suc a - 1 ≡ a = omega arith in
-      rw (e, read_total onLeft (suc a), read_total onRight a, node_reads tree v (suc a) node)
+      rw e refl
 
-  pub lower : Lower s m h v a n (descent_of starts table v (suc a) n).node (descent_of starts table v (suc a) n).last (descent_of starts table v (suc a) n).number
+  pub lower : Lower s m h v a n (descent_of s table v (suc a) n).node (descent_of s table v (suc a) n).last (descent_of s table v (suc a) n).number
   lower =
       rw descent_is
       (cases (λ (r : Descent). Lower s m h v a n r.node r.last r.number) (leb n (beside_total s m Puts v a onRight + beside_total s m Puts v a onLeft))
@@ -159,18 +157,18 @@ module _ (s : Shape) (heads starts table : List ℕ) (h v a n : ℕ) (f : Finds 
     level : Level s h u
     level = rw l.child (level_child s h v f.level d)
 
-    pub lower_ready : HasPart starts table u × Reaches (node_part starts table u) puts_word last number
+    pub lower_ready : HasPart s table u × Reaches (part_of s table u) puts_word last number
     lower_ready =
-        search_ready s heads starts table tree h u level last number
-        (rw (l.child, l.end) (end_written s starts heads table tree v inner d (suc a) (inr has)))
+        search_ready s heads table tree h u level last number
+        (rw (l.child, l.end) (end_written s heads table tree v inner d (suc a) (inr has)))
         (omega (arith, l.on.past))
         (rw (l.child, l.end) l.on.upto)
 
-    pub lower_finds : (c : ℕ) → First (node_part starts table u) puts_word last number c → Finds starts table h u c number s heads
-    lower_finds c = search_finds s heads starts table tree h u level last number c
+    pub lower_finds : (c : ℕ) → First (part_of s table u) puts_word last number c → Finds s table h u c number heads
+    lower_finds c = search_finds s heads table tree h u level last number c
 
     -- the subblock found has the put
-    module _ (c : ℕ) (g : First (node_part starts table u) puts_word last number (suc c)) where
+    module _ (c : ℕ) (g : First (part_of s table u) puts_word last number (suc c)) where
       past_before : child_total s m Puts v d c < number
       unfolding total block
       past_before = let e : suc c - 1 ≡ c = omega arith in rw (l.child, e) at (lower_finds (suc c) g).past
@@ -213,6 +211,6 @@ module _ (s : Shape) (heads starts table : List ℕ) (h v a n : ℕ) (f : Finds 
           let g : suc c - 1 ≡ c = omega arith in
           rw (e, same_put z) (rw (g, l.child) at (found z))
 
-    pub lower_found : (c : ℕ) → First (node_part starts table u) puts_word last number c → (r : ℕ) → FoundIn s table h u c number r → FoundIn s table (suc h) v (suc a) n r
+    pub lower_found : (c : ℕ) → First (part_of s table u) puts_word last number c → (r : ℕ) → FoundIn s table h u c number r → FoundIn s table (suc h) v (suc a) n r
     lower_found zero g = absurd (omega (arith, g.some))
     lower_found (suc c) g = suc_found c g

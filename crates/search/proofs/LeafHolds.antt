@@ -7,6 +7,7 @@ use mathlib.Core.Logic.{inr}
 use mathlib.Core.List.{List}
 use Rattle.tree.specs.declared.Kind.{Kind}
 use Rattle.tree.specs.Shape.{Shape, processes, root, leaf_of}
+use Rattle.tree.specs.Blocks.{block_at}
 use Rattle.tree.specs.Memory.{Memory, head_of, block, memory_of}
 use Rattle.tree.specs.Order.{total}
 use Rattle.tree.specs.Clauses.Invariant.{Node, Present, Follows, AddsOne}
@@ -17,17 +18,17 @@ use Rattle.tree.proofs.LastRoot.{root_sound}
 use Rattle.tree.proofs.Reached.{reached_low}
 use Rattle.tree.proofs.Climb.{climb_leaf}
 use Rattle.tree.proofs.Rank.{rank_leaf, times_leaf}
-use Rattle.tree.specs.Clauses.Access.{HasPlace, node_block}
+use Rattle.tree.specs.Clauses.Access.{HasPlace}
 use Rattle.tree.specs.Clauses.SoundTree.{SoundTree}
 use Rattle.search.specs.Clauses.Stands.{Stands}
 use Rattle.search.proofs.Holding.{CountsAs, Reached, Counted}
-use Rattle.tree.proofs.Places.{node_reads, written_place}
+use Rattle.tree.proofs.Places.{written_place}
 
-module _ (s : Shape) (k : ℕ) (starts heads table : List ℕ) (leaf i : ℕ) (h : Stands starts heads table leaf i s k) where
+module _ (s : Shape) (k : ℕ) (heads table : List ℕ) (i : ℕ) (h : Stands s heads table k i) where
   abbrev m : Memory
   m = memory_of table heads
 
-  abbrev tree : SoundTree s starts heads table
+  abbrev tree : SoundTree s heads table
   tree = h.tree
 
   abbrev kp : k < processes s
@@ -44,8 +45,8 @@ module _ (s : Shape) (k : ℕ) (starts heads table : List ℕ) (leaf i : ℕ) (h
   present : Present s m (leaf_of s k) i
   present = (tree.sound.node (leaf_of s k) node).filled i h.first below
 
-  pub leaf_place : HasPlace starts table leaf i
-  leaf_place = rw h.own (written_place tree (leaf_of s k) i node (inr present))
+  pub leaf_place : HasPlace s table (leaf_of s k) i
+  leaf_place = written_place tree (leaf_of s k) i node (inr present)
 
   follows : Follows (block s m (leaf_of s k) (i - 1)) (block s m (leaf_of s k) i)
   follows =
@@ -58,14 +59,14 @@ module _ (s : Shape) (k : ℕ) (starts heads table : List ℕ) (leaf i : ℕ) (h
       rw e at (tree.sound.adds k kp (i - 1) (rw e present))
 
   -- its block there holds it
-  pub leaf_reached : Reached s k i starts heads table leaf i
+  pub leaf_reached : Reached s k i heads table (leaf_of s k) i
   leaf_reached =
       let c = climb_leaf s m tree.sound k kp i h.first in
       record {
         level = 0;
-        node = h.own;
+        node = refl;
         holds = record {
-          stands = record { tree = tree; process = kp; own = refl; first = h.first; rooted = h.rooted };
+          stands = h;
           tall = omega arith;
           some = h.first;
           below = below;
@@ -85,8 +86,6 @@ module _ (s : Shape) (k : ℕ) (starts heads table : List ℕ) (leaf i : ℕ) (h
         exact = λ o. omega (arith, rank_leaf s m κ k i o, at_most_one κ _ _ follows adds, o);
       }
 
-  pub leaf_counted : (κ : Kind) → Counted s k i starts heads table κ leaf i (total κ (node_block starts table leaf i))
-  unfolding leaf_reached
-  leaf_counted κ =
-      let e : node_block starts table leaf i ≡ block s m (leaf_of s k) i = rw h.own (node_reads tree (leaf_of s k) i node) in
-      record { at = leaf_reached; counts = rw e (leaf_counts κ) }
+  pub leaf_counted : (κ : Kind) → Counted s k i heads table κ (leaf_of s k) i (total κ (block_at s table (leaf_of s k) i))
+  unfolding leaf_reached block
+  leaf_counted κ = record { at = leaf_reached; counts = leaf_counts κ }

@@ -12,7 +12,8 @@ use Rattle.tree.specs.Clauses.Invariant.{Node, Written}
 use Rattle.tree.proofs.Nodes.{inner_node, leaf_node}
 use Rattle.tree.proofs.Sound.{written_low, below_head, first_zeros, zero_total, totals_rise}
 use Rattle.tree.proofs.Levels.{Level, level_inner, level_leaf}
-use Rattle.tree.specs.Clauses.Access.{HasPart, node_part}
+use Rattle.tree.specs.Clauses.Access.{HasPart}
+use Rattle.tree.specs.Layout.{part_of}
 use Rattle.tree.specs.Clauses.SoundTree.{SoundTree}
 use Rattle.search.specs.Clauses.Searched.{Reaches, First}
 use Rattle.search.specs.Clauses.Descending.{Finds}
@@ -24,7 +25,7 @@ pub level_node : (s : Shape) (h v : ℕ) → Level s h v → Node s v
 level_node s zero v l = let k = level_leaf s v l in rw k.2 (leaf_node s k.0 k.1)
 level_node s (suc h) v l = inner_node s v (level_inner s h v l)
 
-module _ (s : Shape) (heads starts table : List ℕ) (tree : SoundTree s starts heads table) (h v : ℕ) (level : Level s h v) where
+module _ (s : Shape) (heads table : List ℕ) (tree : SoundTree s heads table) (h v : ℕ) (level : Level s h v) where
   abbrev m : Memory
   m = memory_of table heads
 
@@ -41,27 +42,27 @@ module _ (s : Shape) (heads starts table : List ℕ) (tree : SoundTree s starts 
 
   -- a put that is in the blocks up to a written one is found there
   pub search_ready : (last n : ℕ) → Written s (memory_of table heads) v last → 1 ≤ n
-      → n ≤ total Puts (block s (memory_of table heads) v last) → HasPart starts table v × Reaches (node_part starts table v) puts_word last n
+      → n ≤ total Puts (block s (memory_of table heads) v last) → HasPart s table v × Reaches (part_of s table v) puts_word last n
   search_ready last n w some upto = (
     node_part_lem tree v node,
     record {
       known = omega arith;
-      fits = part_fits starts table v last (written_place tree v last node w);
-      start = omega (arith, puts_word_lem tree v 0 node, ap (total Puts) (first_zeros (tree.sound.node v node)) ∙ zero_total Puts);
+      fits = part_fits s table v last (written_place tree v last node w);
+      start = omega (arith, puts_word_lem s m v 0, ap (total Puts) (first_zeros (tree.sound.node v node)) ∙ zero_total Puts);
       rises = λ a b l u.
-          rw (puts_word_lem tree v a node, puts_word_lem tree v b node)
+          rw (puts_word_lem s m v a, puts_word_lem s m v b)
           (totals_rise (tree.sound.node v node) Puts a b l (earlier b last u w));
-      reached = rw (puts_word_lem tree v last node) upto;
+      reached = rw (puts_word_lem s m v last) upto;
     },
   )
 
   -- and the place found has it
-  pub search_finds : (last n b : ℕ) → First (node_part starts table v) puts_word last n b → Finds starts table h v b n s heads
+  pub search_finds : (last n b : ℕ) → First (part_of s table v) puts_word last n b → Finds s table h v b n heads
   unfolding total block
   search_finds last n b f =
       record {
         tree = tree;
         level = level;
-        past = rw (puts_word_lem tree v (b - 1) node) at f.past;
-        upto = rw (puts_word_lem tree v b node) at f.upto;
+        past = rw (puts_word_lem s m v (b - 1)) at f.past;
+        upto = rw (puts_word_lem s m v b) at f.upto;
       }

@@ -1,12 +1,12 @@
 -- Where the climb ends: the root block of an operation, and its number there.
 use Prim.Native.Nat.{ℕ, suc, ◌-◌, ◌≤◌}
 use native.Mathlib.Omega.{arith}
-use mathlib.Core.Path.{◌≡◌, sym, ap}
+use mathlib.Core.Path.{◌≡◌, sym}
 use mathlib.Core.List.{List}
 use Rattle.tree.specs.declared.Kind.{Kind}
 use Rattle.tree.specs.Shape.{Shape, root}
 use Rattle.tree.specs.Blocks.{block_at}
-use Rattle.tree.specs.Memory.{Memory, block, memory_of}
+use Rattle.tree.specs.Memory.{Memory, memory_of}
 use Rattle.tree.specs.Order.{OpId, total, in_root, last_root}
 use Rattle.tree.proofs.Names.{rank_some}
 use Rattle.tree.specs.Clauses.Invariant.{Present}
@@ -15,17 +15,17 @@ use Rattle.tree.proofs.Ancestors.{ancestor}
 use Rattle.tree.proofs.LastRoot.{node_root, root_sound, last_most}
 use Rattle.tree.proofs.Reached.{ancestor_top}
 use Rattle.tree.proofs.Climb.{climb_root}
-use Rattle.tree.specs.Clauses.Access.{HasPlace, node_block}
+use Rattle.tree.specs.Clauses.Access.{HasPlace}
 use Rattle.tree.specs.Clauses.SoundTree.{SoundTree}
 use Rattle.search.specs.Clauses.Stands.{OfKind, RootBlockIs, StandsAt}
 use Rattle.search.proofs.Holding.{CountsAs, HoldsAs}
-use Rattle.tree.proofs.Places.{node_reads, written_place}
+use Rattle.tree.proofs.Places.{written_place}
 
-module _ (s : Shape) (k i : ℕ) (starts heads table : List ℕ) (place : ℕ) (h : HoldsAs s k i s.height starts heads table place) where
+module _ (s : Shape) (k i : ℕ) (heads table : List ℕ) (place : ℕ) (h : HoldsAs s k i s.height heads table place) where
   abbrev m : Memory
   m = memory_of table heads
 
-  abbrev tree : SoundTree s starts heads table
+  abbrev tree : SoundTree s heads table
   tree = h.stands.tree
 
   top : ancestor s k s.height ≡ root
@@ -37,7 +37,7 @@ module _ (s : Shape) (k i : ℕ) (starts heads table : List ℕ) (place : ℕ) (
   last : place ≤ last_root s table
   last = last_most s m tree.sound place present
 
-  pub root_place : HasPlace starts table root (place - 1)
+  pub root_place : HasPlace s table root (place - 1)
   root_place =
       written_place tree root (place - 1) (node_root s)
       (below_head (root_sound s m tree.sound) (place - 1) (omega (arith, rw top at h.below)))
@@ -53,23 +53,18 @@ module _ (s : Shape) (k i : ℕ) (starts heads table : List ℕ) (place : ℕ) (
 
   -- with the number there
   module _ (κ : Kind) (number : ℕ) (counts : CountsAs s k i s.height table κ place number) where
-    root_reads : total κ (node_block starts table root (place - 1)) ≡ total κ (block_at s table root (place - 1))
-    unfolding block
-    root_reads = ap (total κ) (node_reads tree root (place - 1) (node_root s))
+    pub root_low : total κ (block_at s table root (place - 1)) ≤ number
+    root_low = rw top at counts.low
 
-    pub root_low : total κ (node_block starts table root (place - 1)) ≤ number
-    root_low = omega (arith, root_reads, rw top at counts.low)
-
-    pub root_stands : OfKind s table κ k i → StandsAt s table κ k i (record { block = place; rank = number - total κ (node_block starts table root (place - 1)) })
+    pub root_stands : OfKind s table κ k i → StandsAt s table κ k i (record { block = place; rank = number - total κ (block_at s table root (place - 1)) })
     unfolding in_root
     root_stands o =
         let low = rw top at counts.low in
         let high = rw top at counts.high in
         let x : OpId = record { process = k; serial = i } in
-        rw root_reads
-        (record {
+        record {
           block = root_block_lem;
           rank = omega (arith, rw top at (counts.exact o));
           some = omega (arith, rw top at (counts.exact o), rw top at (rank_some x _ (counts.inside o)));
           most = omega arith;
-        })
+        }

@@ -1,12 +1,11 @@
 // Search of a node's places for the first whose word reaches a number.
 ghost use Rattle.std.specs.Prelude.{◌≡◌, true, ◌+◌, ◌*◌, ◌≤◌, ◌<◌, length};
-ghost use Rattle.tree.specs.Layout.{block_words};
-ghost use Rattle.tree.specs.Clauses.Access.{HasPart, node_part};
+ghost use Rattle.tree.specs.Layout.{block_words, part_of};
+ghost use Rattle.tree.specs.Clauses.Access.{HasPart};
 ghost use Rattle.search.specs.Clauses.Searched.{Reaches, First};
 
-use base::as_index;
 use node_parts::bisect;
-use table::access::start_of;
+use table::layout::Layout;
 use tree::BLOCK_WORDS;
 
 // Whether place i is the first that reaches x: the one before it does not. Only these two places are looked at.
@@ -33,7 +32,7 @@ fn first_in(part: &[u32], word: usize, last: usize, x: u32, guess: u32) -> usize
     requires { Reaches part.now word last x }
     ensures { First part.now word last x result }
 {
-    let i = as_index(guess);
+    let i = guess as usize;
     if is_first(part, word, last, x, i) {
         return i;
     }
@@ -46,17 +45,15 @@ fn first_in(part: &[u32], word: usize, last: usize, x: u32, guess: u32) -> usize
 // The first place of node v.
 pub fn first_place(
     table: &[u32],
-    starts: &[usize; 17],
+    layout: &Layout,
     v: u32,
     word: usize,
     last: u32,
     x: u32,
     guess: u32,
 ) -> u32
-    requires { HasPart starts.now table.now v × Reaches (node_part starts.now table.now v) word last x }
-    ensures { First (node_part starts.now table.now v) word last x result }
+    requires { HasPart layout.now table.now v × Reaches (part_of layout.now table.now v) word last x }
+    ensures { First (part_of layout.now table.now v) word last x result }
 {
-    let from = start_of(starts, v);
-    let to = start_of(starts, v + 1);
-    first_in(&table[from..to], word, as_index(last), x, guess) as u32
+    first_in(layout.part(table, v), word, last as usize, x, guess) as u32
 }

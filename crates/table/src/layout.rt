@@ -1,7 +1,7 @@
 // The tree of a call, and where its nodes' parts stand in the work table: a tree of height 1 to 3 (2 to 8 processes) with
 // at most 500 operations of one process. In a clause a `Tree` and a `Layout` are the shape that the definitions speak of.
 ghost use Rattle.std.specs.Prelude.{◌≡◌, ◌++◌, ◌+◌, ◌*◌, ◌^◌, ◌≤◌, ◌<◌, length, drop, replicate};
-ghost use Rattle.tree.specs.Shape.{Shape, height_for, shape_for, processes, height_in, last_place};
+ghost use Rattle.tree.specs.Shape.{Shape, height_for, shape_for, processes, leaf_of, height_in, last_place};
 ghost use Rattle.tree.specs.Layout.{block_words, part_words, part_start, part_of, words_needed};
 ghost use Rattle.tree.specs.Clauses.Access.{HasPart};
 
@@ -135,6 +135,26 @@ impl Layout {
             starts[v + 1] = starts[v] + tree.part_words(v);
         }
         Layout { tree, starts }
+    }
+
+    pub fn height(&self) -> usize
+        ensures { (result ≡ self.now.height) × (1 ≤ result) × (result ≤ 3) }
+    {
+        self.tree.height()
+    }
+
+    pub fn processes(&self) -> usize
+        ensures { (result ≡ processes self.now) × (2 ≤ result) × (result ≤ 8) }
+    {
+        self.tree.processes()
+    }
+
+    // The leaf of process k.
+    pub fn leaf_of(&self, k: u32) -> u32
+        requires { k < processes self.now }
+        ensures { (result ≡ leaf_of self.now k) × (result < 16) }
+    {
+        self.processes() as u32 + k
     }
 
     // The first word of node v's part, and the word after its last.

@@ -5,11 +5,9 @@ use Rattle.tree.specs.Blocks.{block_at}
 use Rattle.tree.specs.Order.{OpId, last_root, root_puts}
 use Rattle.tree.specs.Clauses.SoundTree.{SoundTree}
 
--- in a tree of shape s and the height given, put number n, from 1 in root order, is in the root blocks up to `last`,
--- which is present
-pub record Numbered (starts table : List ℕ) (height last n : ℕ) (s : Shape) (heads : List ℕ) : Type 0 where
-  pub tree : SoundTree s starts heads table
-  pub tall : height ≡ s.height
+-- in a tree of shape s put number n, from 1 in root order, is in the root blocks up to `last`, which is present
+pub record Numbered (s : Shape) (table : List ℕ) (last n : ℕ) (heads : List ℕ) : Type 0 where
+  pub tree : SoundTree s heads table
   pub some : 1 ≤ last
   pub most : last ≤ last_root s table
   pub first : 1 ≤ n

@@ -10,12 +10,10 @@ use Rattle.tree.proofs.Reach.{reach}
 use Rattle.tree.specs.Clauses.SoundTree.{SoundTree}
 use Rattle.search.specs.declared.Standing.{Standing}
 
--- in a tree of shape s, the root blocks below the root's head hold operation `serial` of process k, whose leaf is
--- `leaf`
-pub record Stands (starts heads table : List ℕ) (leaf serial : ℕ) (s : Shape) (k : ℕ) : Type 0 where
-  pub tree : SoundTree s starts heads table
+-- in a tree of shape s, the root blocks below the root's head hold operation `serial` of process k
+pub record Stands (s : Shape) (heads table : List ℕ) (k serial : ℕ) : Type 0 where
+  pub tree : SoundTree s heads table
   pub process : k < processes s
-  pub own : leaf ≡ leaf_of s k
   pub first : 1 ≤ serial
   pub rooted : let m = memory_of table heads in serial ≤ reach s m k s.height (head_of m root - 1)
 
@@ -24,8 +22,8 @@ abbrev pub OfKind : Shape → List ℕ → Kind → ℕ → ℕ → Type 0
 OfKind s t κ k i = total κ (block_at s t (leaf_of s k) (i - 1)) < total κ (block_at s t (leaf_of s k) i)
 
 -- the same of an operation of kind κ
-abbrev pub StandsOf : Kind → List ℕ → List ℕ → List ℕ → ℕ → ℕ → Shape → ℕ → Type 0
-StandsOf κ starts heads table leaf serial s k = Stands starts heads table leaf serial s k × OfKind s table κ k serial
+abbrev pub StandsOf : Kind → Shape → List ℕ → List ℕ → ℕ → ℕ → Type 0
+StandsOf κ s heads table k serial = Stands s heads table k serial × OfKind s table κ k serial
 
 -- b is the root block of operation i of process k, and is present
 pub record RootBlockIs (s : Shape) (t : List ℕ) (k i b : ℕ) : Type 0 where

@@ -1,16 +1,14 @@
--- `list::list_block` and `list::list_range` meet their contracts. Both measures are the node's height, which list_block
--- lowers by one; a range counts for more than a block of its node. The invariant of the loop: the blocks after `from`,
--- up to b, are stored.
+-- `list::list_block` and `list::list_range` meet their contracts.
 use Prim.Native.Nat.{ℕ}
 use native.Mathlib.Omega.{arith}
 use mathlib.Core.Path.{◌≡◌, refl, ap}
-use borrow.Author.Rules.{rules}
 use Rattle.tree.specs.Shape.{left_of, right_of}
 use Rattle.order.specs.declared.Subtree.{Subtree}
+use Rattle.base.proofs.Gather.{gather_none}
 use Rattle.base.proofs.Stored.{stored_none}
-use Rattle.order.proofs.Storing.{room_first, room_second, lists_both, gathered_none, gathered_room, gathered_more}
+use Rattle.order.proofs.Storing.{room_first, room_second, stored_both, gathered_room, gathered_more}
 use Rattle.order.proofs.Subblocks.{subtree_low, block_first, block_place, range_block, block_parts}
-use Rattle.order.proofs.LeafRecords.{leaf_room, leaf_lists}
+use Rattle.order.proofs.LeafRecords.{leaf_at_lem}
 use Rattle.order.proofs.list.+list_block_list_range.Goals as goal
 
 abbrev height : Subtree → ℕ
@@ -18,10 +16,10 @@ height y = y.height
 
 -- ---- list_block: a leaf
 pub list_block-list_leaf-requires : goal.list_block-list_leaf-requires
-list_block-list_leaf-requires t c = leaf_room c.if-top-eq0.true c.requires
+list_block-list_leaf-requires t c = rw (← leaf_at_lem c.args.top c.if-top-eq0.true) c.requires
 
 pub list_block-returns-then-top-eq0 : goal.list_block-returns-then-top-eq0
-list_block-returns-then-top-eq0 t c = leaf_lists c.if-top-eq0.true c.list_leaf.ensures
+list_block-returns-then-top-eq0 t c = rw (← leaf_at_lem c.args.top c.if-top-eq0.true) at c.list_leaf.ensures
 
 -- ---- list_block: a node above the leaves
 pub list_block-overflow_sub-b : goal.list_block-overflow_sub-b
@@ -53,7 +51,7 @@ unfolding left_of right_of
 list_block-list_range-next-requires t c =
     let p = c.requires in (
       omega (arith, ap height c.child-left.ensures, ap height c.child-right.ensures),
-      room_first (block_parts c.if-top-eq0.false c.block_at-old.ensures c.block_at-new.ensures c.child-left.ensures c.child-right.ensures) _ _ p,
+      room_first (block_parts c.args.list c.if-top-eq0.false c.block_at-old.ensures c.block_at-new.ensures c.child-left.ensures c.child-right.ensures) p,
     )
 
 pub list_block-list_range-requires : goal.list_block-list_range-requires
@@ -61,41 +59,31 @@ unfolding left_of right_of
 list_block-list_range-requires t c =
     let p = c.requires in (
       omega (arith, ap height c.child-left.ensures, ap height c.child-right.ensures),
-      room_second (block_parts c.if-top-eq0.false c.block_at-old.ensures c.block_at-new.ensures c.child-left.ensures c.child-right.ensures)
-          c.list_range-next.ensures p,
+      room_second (block_parts c.args.list c.if-top-eq0.false c.block_at-old.ensures c.block_at-new.ensures c.child-left.ensures c.child-right.ensures)
+          p refl c.list_range-next.ensures,
     )
 
 pub list_block-returns : goal.list_block-returns
 unfolding left_of right_of
 list_block-returns t c =
-    lists_both (block_parts c.if-top-eq0.false c.block_at-old.ensures c.block_at-new.ensures c.child-left.ensures c.child-right.ensures)
-    c.list_range-next.ensures c.list_range.ensures
+    stored_both (block_parts c.args.list c.if-top-eq0.false c.block_at-old.ensures c.block_at-new.ensures c.child-left.ensures c.child-right.ensures)
+    c.requires refl c.list_range-next.ensures c.list_range.ensures
 
+-- ---- list_range
 pub list_range-loop-b-init : goal.list_range-loop-b-init
-list_range-loop-b-init t c =
-    (omega arith, c.requires.holds.rises, refl, λ s heads g. rw gathered_none (stored_none _ _))
-
-pub list_range-overflow_add-b : goal.list_range-overflow_add-b
-list_range-overflow_add-b t c = omega (arith, c.ranges.to)
+list_range-loop-b-init t c = rw gather_none (stored_none _ _)
 
 pub list_range-list_block-end-requires : goal.list_range-list_block-end-requires
 list_range-list_block-end-requires t c =
-    let p = c.requires in
-    let i = c.loop-b.invariant in
     let l = c.loop-b-test.true in
-    (omega arith, gathered_room _ i.0 (range_block _ l) i.3 _ l p)
+    (omega arith, gathered_room _ (omega arith) l (range_block _ l) c.requires c.loop-b.invariant)
 
 pub list_range-loop-b-preserved : goal.list_range-loop-b-preserved
 list_range-loop-b-preserved t c =
-    let i = c.loop-b.invariant in
     let l = c.loop-b-test.true in
-    (omega arith, omega arith, search rules, gathered_more _ i.0 (range_block _ l) i.3 c.list_block-end.ensures)
-
-pub list_range-shape_of-out : goal.list_range-shape_of-out
-list_range-shape_of-out t c = c.loop-b.invariant.2
+    gathered_more _ (omega arith) l (range_block _ l) c.requires c.loop-b.invariant c.list_block-end.ensures
 
 pub list_range-returns : goal.list_range-returns
 list_range-returns t c =
-    let i = c.loop-b.invariant in
-    let e : c.loop-b.b ≡ c.args.to = omega arith in
-    λ s heads g. rw e at (i.3 s heads g)
+    let e : c.loop-b.b ≡ c.args.to = omega (arith, c.requires.holds.rises) in
+    rw e at c.loop-b.invariant

@@ -10,12 +10,13 @@ pub adds-requires : goal.adds-requires
 adds-requires c = let g = c.requires.holds in (block_first g, block_place g _ (omega arith), block_place g _ (omega arith))
 
 pub overflow_sub-record : goal.overflow_sub-record
-overflow_sub-record c = leaf_process c.requires.holds
+overflow_sub-record c = rw c.processes.ensures.0 (leaf_process c.requires.holds)
 
 pub put_order-requires : goal.put_order-requires
 put_order-requires c =
     let q = c.requires in
-    let one = leaf_one q.holds (rw (← c.adds.ensures) c.if-adds.true) in (
+    let a = c.args in
+    let one = leaf_one a.layout.now a.table.now a.list a.leaf a.b (rw (← c.adds.ensures) c.if-adds.true) in (
       omega (arith, rw (one, order_record_length) at q.fits),
       omega (arith, leaf_small q.holds),
       rw c.kind_number.ensures (kind_small _),
@@ -23,9 +24,12 @@ put_order-requires c =
     )
 
 pub returns-then-adds : goal.returns-then-adds
-returns-then-adds c = λ s heads g.
-    rw (leaf_one g (rw (← c.adds.ensures) c.if-adds.true), c.put_order.ensures, c.kind_number.ensures)
-    (stored_all _ _ 8 _ (order_record_length _))
+returns-then-adds c =
+    let a = c.args in
+    let one = leaf_one a.layout.now a.table.now a.list a.leaf a.b (rw (← c.adds.ensures) c.if-adds.true) in
+    rw (one, c.put_order.ensures, c.kind_number.ensures, c.processes.ensures.0) (stored_all _ _ 8 _ (order_record_length _))
 
 pub returns : goal.returns
-returns c = λ s heads g. rw (leaf_none g (rw (← c.adds.ensures) c.if-adds.false)) (stored_none _ _)
+returns c =
+    let a = c.args in
+    rw (leaf_none a.layout.now a.table.now a.list a.leaf a.b (rw (← c.adds.ensures) c.if-adds.false)) (stored_none _ _)

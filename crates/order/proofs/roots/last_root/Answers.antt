@@ -3,20 +3,20 @@ use Rattle.order.proofs.LastBlock.{root_head, root_part, head_first, last_at_hea
 use Rattle.order.proofs.roots.last_root.Goals as goal
 
 pub head_of-head-requires : goal.head_of-head-requires
-head_of-head-requires c = root_head c.requires.holds
+head_of-head-requires c = root_head c.requires
 
 pub absent_at-requires : goal.absent_at-requires
-absent_at-requires c = root_part c.requires.holds
+absent_at-requires c = root_part c.requires
 
 pub overflow_sub-result : goal.overflow_sub-result
-overflow_sub-result c = rw c.head_of-head.ensures (head_first c.requires.holds)
+overflow_sub-result c = rw c.head_of-head.ensures (head_first c.requires)
 
 pub returns-then-absent_at : goal.returns-then-absent_at
-returns-then-absent_at c = λ s q.
+returns-then-absent_at c =
     let e = c.head_of-head.ensures in
-    rw e (last_before_head q (rw (← e, ← c.absent_at.ensures) c.if-absent_at.true))
+    rw e (last_before_head c.requires (rw (← e, ← c.absent_at.ensures) c.if-absent_at.true))
 
 pub returns : goal.returns
-returns c = λ s q.
+returns c =
     let e = c.head_of-head.ensures in
-    rw e (last_at_head q (rw (← e, ← c.absent_at.ensures) c.if-absent_at.false))
+    rw e (last_at_head c.requires (rw (← e, ← c.absent_at.ensures) c.if-absent_at.false))

@@ -4,13 +4,10 @@ use Rattle.order.proofs.LastBlock.{root_small, last_place_lem, last_counts}
 use Rattle.order.proofs.roots.list_length.Goals as goal
 
 pub block_at-block-requires : goal.block_at-block-requires
-block_at-block-requires c = let g = c.requires.holds.holds in rw g.last (last_place_lem g.tree)
+block_at-block-requires c = let g = c.requires.holds in rw g.last (last_place_lem g.tree)
 
 pub returns : goal.returns
 returns c =
     let e = c.block_at-block.ensures in
-    let a = c.args in
-    let g = c.requires.holds.holds in (
-      rw (c.as_index-2.ensures, c.as_index.ensures, e) (omega (arith, root_small g.tree a.last)),
-      λ s heads q. rw (c.as_index-2.ensures, c.as_index.ensures, e, q.last, last_counts q.tree),
-    )
+    let g = c.requires.holds in
+    (rw e (omega (arith, root_small g.tree c.args.last)), rw (e, g.last, last_counts g.tree))

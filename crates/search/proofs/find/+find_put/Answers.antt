@@ -1,29 +1,26 @@
 -- `find::find_put` meets its contract. The measure is the height, which each call lowers by one.
 use native.Mathlib.Omega.{arith}
-use Rattle.base.proofs.Somes.{some_two}
 use Rattle.search.proofs.FindLaws.{down_ready, down_to, find_place, leaf_found}
 use Rattle.search.proofs.find.+find_put.Goals as goal
 
 pub block_at-requires : goal.block_at-requires
-block_at-requires t c = find_place c.requires.holds.holds
+block_at-requires t c = find_place c.requires.holds
 
 pub returns-then-height-eq0 : goal.returns-then-height-eq0
-returns-then-height-eq0 t c = λ s heads f. rw c.block_at.ensures (leaf_found s heads _ _ _ _ _ _ f c.if-height-eq0.true)
+returns-then-height-eq0 t c = rw c.block_at.ensures (leaf_found _ _ _ _ _ _ _ c.requires.holds c.if-height-eq0.true)
 
 pub descend-d-requires : goal.descend-d-requires
-descend-d-requires t c = down_ready c.requires.holds.holds c.if-height-eq0.false
+descend-d-requires t c = down_ready c.requires.holds c.if-height-eq0.false
 
 pub first_place-c-requires : goal.first_place-c-requires
-first_place-c-requires t c = (down_to c.requires.holds.holds c.if-height-eq0.false _ c.descend-d.ensures).ready
+first_place-c-requires t c = (down_to c.requires.holds c.if-height-eq0.false _ c.descend-d.ensures).ready
 
 pub find_put-requires : goal.find_put-requires
-find_put-requires t c = let p = c.requires in (
-  omega arith,
-  some_two _ _ ((down_to p.holds.holds c.if-height-eq0.false _ c.descend-d.ensures).finds _ c.first_place-c.ensures),
-)
+find_put-requires t c =
+    let d = down_to c.requires.holds c.if-height-eq0.false _ c.descend-d.ensures in
+    (omega arith, record { one = c.requires.one; holds = d.finds _ c.first_place-c.ensures })
 
 pub returns : goal.returns
-returns t c = λ s heads f.
-    let d = down_to f c.if-height-eq0.false _ c.descend-d.ensures in
-    let g = c.first_place-c.ensures in
-    d.found _ g _ (c.find_put.ensures s heads (d.finds _ g))
+returns t c =
+    let d = down_to c.requires.holds c.if-height-eq0.false _ c.descend-d.ensures in
+    d.found _ c.first_place-c.ensures _ c.find_put.ensures
