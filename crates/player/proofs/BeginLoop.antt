@@ -102,7 +102,7 @@ module _ {c : Call} {t : State} {i first value : ℕ} {b : Option Begin} (w : Ot
     plays = subst (λ (x : ℕ). PlaysAs c t r.process (get_or t.procs x idle)) (sym place) (loop_plays w.inv r.process low)
 
     pub begin_few : q.begun ≤ 500
-    begin_few = begun_small (shape_of c) (processes_of c t) c.starts t.heads t.table r.process q plays
+    begin_few = begun_small (shape_of c) (processes_of c t) t.heads t.table r.process q plays
 
     well_formed : ill_formed (processes (shape_of c)) r ≡ false
     well_formed = ap (λ (x : ℕ). ill_formed x r) w.inv.width ∙ is_begin_lem.0
@@ -115,9 +115,9 @@ module _ {c : Call} {t : State} {i first value : ℕ} {b : Option Begin} (w : Ot
         on true e = absurd (omega (arith, w.no_step, w.word, (step_words c.records (8 * i) fits c.p is_begin_lem.0 e).0))
 
     -- x is what it is refused for
-    module _ {x : Acceptance} (is : x ≡ begin_refusal c.l q) where
-      tests : begin_refusal c.l (process_of (machine_at c t) r.process) ≡ x
-      tests = ap (begin_refusal c.l) plays.here ∙ sym is
+    module _ {x : Acceptance} (is : x ≡ begin_refusal (shape_of c).most q) where
+      tests : begin_refusal (shape_of c).most (process_of (machine_at c t) r.process) ≡ x
+      tests = ap (begin_refusal (shape_of c).most) plays.here ∙ sym is
 
       pub begin_refused : (n : Refusal) → x ≡ Err n → EndsWith c t (Err n) i
       unfolding shape_for

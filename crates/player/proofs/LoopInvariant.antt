@@ -17,7 +17,6 @@ use Rattle.steps.specs.declared.Operation.{Operation}
 use Rattle.steps.specs.declared.Process.{Process}
 use Rattle.steps.specs.Process.{idle}
 use Rattle.steps.specs.Machine.{start}
-use Rattle.tree.specs.Clauses.Access.{Laid}
 use Rattle.steps.specs.Clauses.Operations.{rested}
 use Rattle.tree.proofs.Places.{processes_most}
 use Rattle.calls.specs.declared.Refusal.{Refusal}
@@ -78,12 +77,9 @@ module _ {c : Call} {t : State} {i : ℕ} (k : LoopInvariant c t i) where
   loop_spare enough (inl e) = inl e
   loop_spare enough (inr e) = inr (omega (arith, k.so_far.spare))
 
-  pub loop_laid : Laid (shape_of c) c.starts t.heads
-  loop_laid = record { parts = k.begun.laid.parts; nodes = k.nodes ∙ k.begun.laid.nodes }
-
   -- the processes
   pub loop_plays : (j : ℕ) → j < c.p → PlaysAs c t j (get_or t.procs j idle)
-  loop_plays j h = so_far_plays k.so_far k.begun loop_laid j (omega (arith, k.width))
+  loop_plays j h = so_far_plays k.so_far k.begun j (omega (arith, k.width))
 
   module _ (more : i < count_of c) where
     pub loop_fits : 8 * i + 8 ≤ length c.records

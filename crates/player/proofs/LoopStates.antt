@@ -4,7 +4,7 @@ use mathlib.Core.List.{List}
 use lib.ListN.{length, take, set, replicate}
 use Rattle.record.specs.declared.StepRecord.{StepRecord}
 use Rattle.record.specs.StepRecords.{step_records}
-use Rattle.tree.specs.Shape.{Shape, processes, shape_for}
+use Rattle.tree.specs.Shape.{Shape, processes}
 use Rattle.tree.specs.Memory.{Memory, memory_of}
 use Rattle.steps.specs.declared.Process.{Process}
 use Rattle.steps.specs.Process.{idle}
@@ -15,11 +15,11 @@ use Rattle.answer.specs.Clauses.Playing.{machine_of, Plays}
 use Rattle.player.specs.Clauses.PlayCalls.{AtStart, PlayResult}
 use Rattle.player.proofs.RecordResults.{RecordResult, ResultOf}
 
--- what a call is given, and what it finds in the memory and the answer bytes that it is lent
+-- what a call is given, with its number of processes, and what it finds in the memory and the answer bytes that it is
+-- lent
 pub record Call : Type 0 where
+  pub tree : Shape
   pub p : ℕ
-  pub l : ℕ
-  pub starts : List ℕ
   pub records : List ℕ
   pub heads : List ℕ
   pub table : List ℕ
@@ -41,7 +41,7 @@ pub record State : Type 0 where
 -- ---- of a call: its tree, its records, how many they are, and the run of the first i
 
 abbrev pub shape_of : Call → Shape
-shape_of c = shape_for c.p c.l
+shape_of c = c.tree
 
 abbrev pub list_of : Call → List StepRecord
 list_of c = step_records c.records
@@ -54,7 +54,7 @@ played_to c i = play (shape_of c) c.room (take i (list_of c))
 
 -- the memory that it finds is that of the start
 abbrev pub CallAtStart : Call → Type 0
-CallAtStart c = AtStart (shape_of c) c.starts c.heads c.table c.room (length c.out)
+CallAtStart c = AtStart (shape_of c) c.heads c.table c.room (length c.out)
 
 -- ---- of a state: its memory, its processes and its machine
 
@@ -112,7 +112,7 @@ after_answer t k q out equal =
 
 -- process k is q, on a machine that keeps the invariant
 abbrev pub PlaysAs : Call → State → ℕ → Process → Type 0
-PlaysAs c t k q = Plays (shape_of c) (processes_of c t) c.starts t.heads t.table k q
+PlaysAs c t k q = Plays (shape_of c) (processes_of c t) t.heads t.table k q
 
 -- record r, which follows i others, has this result and leaves memory n
 abbrev pub Gives : Call → State → ℕ → StepRecord → Memory → RecordResult → Type 0

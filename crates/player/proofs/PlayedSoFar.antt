@@ -18,7 +18,6 @@ use Rattle.steps.specs.declared.Step.{Step}
 use Rattle.steps.specs.declared.Status.TheVariants.{Busy}
 use Rattle.steps.specs.declared.Process.{Process}
 use Rattle.steps.specs.Process.{idle}
-use Rattle.tree.specs.Clauses.Access.{Laid}
 use Rattle.steps.specs.Clauses.Operations.{rested}
 use Rattle.steps.specs.Machine.{Machine, process_of, with_process}
 use Rattle.calls.specs.Answer.{answer_of}
@@ -58,10 +57,10 @@ own_block s m h leaves n low o (suc i) some what has =
 
 -- a process of a machine that a run left
 plays_of : (s : Shape) (took : List Numbered) (m : Machine) → PlayedAs s took m → 1 ≤ s.height → s.height ≤ 3 → s.most ≤ 500
-    → (starts : List ℕ) → Laid s starts m.memory.heads → (n : ℕ) → n < processes s → (q : Process) → process_of m n ≡ q
-    → Plays s m.processes starts m.memory.heads m.memory.table n q
+    → (n : ℕ) → n < processes s → (q : Process) → process_of m n ≡ q
+    → Plays s m.processes m.memory.heads m.memory.table n q
 unfolding operation
-plays_of s took m agrees inner tall few starts laid n low q here =
+plays_of s took m agrees inner tall few n low q here =
     let count : q.begun ≡ begun_by n (history s took) = ap (λ (x : Process). x.begun) (sym here) ∙ agrees.counts n low in
     let does-it : (o : Operation) (z : Step) → q.status ≡ Busy o z → Doing (history s took) (operation n (begun_by n (history s took))) o =
     λ o z busy. agrees.doing n low o z (ap (λ (x : Process). x.status) here ∙ busy)
@@ -70,7 +69,6 @@ plays_of s took m agrees inner tall few starts laid n low q here =
       inner = inner;
       tall = tall;
       few = few;
-      laid = laid;
       low = low;
       here = here;
       keeps = agrees.invariant;
@@ -89,12 +87,12 @@ module _ {c : Call} {t : State} {i : ℕ} (k : PlayedSoFar c t i) where
   g = played_to c i
 
   -- each process is one of a machine that keeps the invariant
-  pub so_far_plays : CallAtStart c → Laid s c.starts t.heads → (n : ℕ) → n < processes s → PlaysAs c t n (get_or t.procs n idle)
+  pub so_far_plays : CallAtStart c → (n : ℕ) → n < processes s → PlaysAs c t n (get_or t.procs n idle)
   unfolding process_of
-  so_far_plays begun laid n low =
+  so_far_plays begun n low =
       let took = numbered (take g.taken (take i (list_of c))) in
       let agrees = subst (PlayedAs s took) k.machine (played_agrees s begun.inner c.room (take i (list_of c))) in
-      plays_of s took (machine_at c t) agrees begun.inner begun.tall begun.few c.starts laid n low
+      plays_of s took (machine_at c t) agrees begun.inner begun.tall begun.few n low
       (get_or t.procs n idle) (get_or-take (processes s) t.procs n idle low)
 
   -- where the whole run is the run so far, ended by x

@@ -20,11 +20,9 @@ use Rattle.steps.specs.declared.Status.TheVariants.{Idle, Busy}
 use Rattle.steps.specs.declared.Process.{Process}
 use Rattle.steps.specs.Process.{idle}
 use Rattle.steps.specs.Rules.{Stepped, step, go_telling, go}
-use Rattle.tree.specs.Clauses.Access.{Begins}
 use Rattle.steps.specs.Clauses.Ready.{Ready}
-use Rattle.stepping.specs.Clauses.Next.{PartsBegin, Fits, FitsLeaf, operation_in, step_in, Moves, NextByHeads, NextByTable}
+use Rattle.stepping.specs.Clauses.Next.{operation_in, step_in, Moves, NextByHeads, NextByTable}
 use Rattle.steps.specs.Clauses.Operations.{rested}
-use Rattle.tree.proofs.NodeReads.{begins}
 use Rattle.steps.specs.Machine.{is_idle, is_q, stepped}
 use Rattle.calls.specs.declared.Refusal.TheVariants.{StepWhileIdle, AnswersFull}
 use Rattle.calls.specs.Answer.{answer_of}
@@ -37,7 +35,7 @@ use Rattle.decode.proofs.StepWords.{step_of, step_formed, words_step}
 use Rattle.player.proofs.LoopStates.{Call, State, shape_of, list_of, count_of, played_to, memory_at, processes_of, after_move, after_answer, PlaysAs, Gives, EndsWith}
 use Rattle.player.proofs.RecordResults.{Moved}
 use Rattle.player.proofs.StepResults.{gives_idle, gives_full, gives_answer, gives_step}
-use Rattle.player.proofs.LoopInvariant.{LoopInvariant, loop_narrow, loop_laid, loop_spare, loop_plays, loop_fits, loop_record, loop_refused, loop_moves, loop_finishes}
+use Rattle.player.proofs.LoopInvariant.{LoopInvariant, loop_narrow, loop_spare, loop_plays, loop_fits, loop_record, loop_refused, loop_moves, loop_finishes}
 
 -- record i, which is before the last one, is a step of process `first`: its words are `first` and 0
 pub record StepAt (c : Call) (t : State) (i first : ℕ) : Type 0 where
@@ -58,16 +56,9 @@ module _ {c : Call} {t : State} {i first : ℕ} (w : StepAt c t i first) where
   pub step_low : first < 8
   step_low = omega (arith, w.low, loop_narrow w.inv)
 
-  pub step_begins : (v : ℕ) → v < length t.heads → Begins s c.starts v
-  step_begins v h = begins s c.starts t.heads v (loop_laid w.inv) h
-
   pub step_leaf : c.p + first ≡ leaf_of s first
   unfolding leaf_of
   step_leaf = ap (λ (x : ℕ). x + first) (sym w.inv.width)
-
-  pub step_fits_leaf : c.p + first < length t.heads → FitsLeaf c.starts (c.p + first)
-  step_fits_leaf h =
-      record { shape = s; process = first; low = omega (arith, w.low, w.inv.width); own = step_leaf; begins = step_begins (c.p + first) h }
 
   step_is : step_of first ≡ get_or (list_of c) i (step_record [])
   step_is =
@@ -77,8 +68,8 @@ module _ {c : Call} {t : State} {i first : ℕ} (w : StepAt c t i first) where
   pub step_plays : PlaysAs c t first q
   step_plays = loop_plays w.inv first w.low
 
-  pub step_playing : Playing c.p c.starts t.heads t.table first q
-  step_playing = record { shape = s; others = processes_of c t; width = w.inv.width; plays = step_plays }
+  pub step_playing : Playing s t.heads t.table first q
+  step_playing = record { others = processes_of c t; plays = step_plays }
 
   -- modulo p, which it is below, the process is itself
   pub step_same : first % c.p ≡ first
@@ -91,25 +82,6 @@ module _ {c : Call} {t : State} {i first : ℕ} (w : StepAt c t i first) where
   unfolding is_step is_idle
   step_idle e = loop_refused w.inv w.more (step_of first) step_is StepWhileIdle (gives_idle c t i (step_of first) q step_plays well refl (ap is_idle e))
 
-  -- a step that is ready looks at nodes of the tree
-  placed : (y : Step) → Ready c.starts t.heads t.table (c.p + first) y → PartsBegin s c.starts y
-  placed A r = tt
-  placed (V1 a w v h) r = tt
-  placed (V2 a w v h x) r = step_begins v r.0
-  placed (V3 a w v h) r = tt
-  placed (R1 x v) r = tt
-  placed (R2 w) r = tt
-  placed (R3 w c) r = step_begins _ (omega (arith, r.0.both))
-  placed (R4 w) r = tt
-  placed (R5 w c) r = step_begins _ r.0.both
-  placed (C1 w) r = tt
-  placed (C2 w l) r = tt
-  placed (C3L w l e) r = step_begins _ (omega (arith, r.0.both))
-  placed (C3R w l e puts takes) r = step_begins _ r.0.both
-  placed (C3N w l e puts takes) r = step_begins _ (omega (arith, r.0.both))
-  placed (C4 w n) r = step_begins _ r.0
-  placed Q r = tt
-
   -- where the process is busy: its operation, and its step by any name that it was told
   module _ {o : Operation} {x : Step} (busy : q.status ≡ Busy o x) where
     pub step_named : {y : Step} → x ≡ y → y ≡ step_in q.status
@@ -120,14 +92,11 @@ module _ {c : Call} {t : State} {i first : ℕ} (w : StepAt c t i first) where
         busy ∙ ap (λ (k : Operation). Busy k x) (sym (named ∙ ap operation_in busy)) ∙ ap (Busy o') (sym (at ∙ ap step_in busy))
 
     -- any step but Q
-    pub step_ready : {y : Step} → step_in q.status ≡ y → is_q y ≡ false → Ready c.starts t.heads t.table (c.p + first) y
+    pub step_ready : {y : Step} → step_in q.status ≡ y → is_q y ≡ false → Ready s t.heads t.table (c.p + first) y
     unfolding leaf_of
     step_ready {y} is goes =
-        subst (λ (v : ℕ). Ready c.starts t.heads t.table v y) (ap (λ (x : ℕ). x + first) w.inv.width)
-        (plays_ready s (processes_of c t) c.starts t.heads t.table first q step_plays (operation_in q.status) y (step_busy refl (sym is)) goes)
-
-    pub step_fits : {y : Step} → step_in q.status ≡ y → is_q y ≡ false → Fits c.starts y
-    step_fits {y} is goes = record { shape = s; begins = placed y (step_ready is goes) }
+        subst (λ (v : ℕ). Ready s t.heads t.table v y) (ap (λ (x : ℕ). x + first) w.inv.width)
+        (plays_ready s (processes_of c t) t.heads t.table first q step_plays (operation_in q.status) y (step_busy refl (sym is)) goes)
 
     -- what the step does by the rules
     abbrev by_rules : Stepped
@@ -135,7 +104,7 @@ module _ {c : Call} {t : State} {i first : ℕ} (w : StepAt c t i first) where
 
     -- what is known where the process is at step y
     abbrev At : Step → Type 0 → Type 0
-    At y P = step_in q.status ≡ y → Ready c.starts t.heads t.table (c.p + first) y → PartsBegin s c.starts (step_in q.status) → P
+    At y P = step_in q.status ≡ y → Ready s t.heads t.table (c.p + first) y → P
 
     -- the process has become r by the rules, and this memory is left
     pub telling_moves : {y : Step} → x ≡ y → is_q y ≡ false → (table heads : List ℕ) (r : Process) → length heads ≡ length t.heads → length table ≡ length t.table
@@ -144,7 +113,7 @@ module _ {c : Call} {t : State} {i first : ℕ} (w : StepAt c t i first) where
     telling_moves {y} is goes table heads r eh et left =
         let told : step_in q.status ≡ y = ap step_in busy ∙ is in
         let ready = step_ready told goes in
-        let e = left told ready (subst (PartsBegin s c.starts) (sym told) (placed y ready)) in
+        let e = left told ready in
         let q' : Process = stepped q by_rules in
         let given =
         gives_step c t i (step_of first) q step_plays well refl (operation_in q.status) (step_in q.status) (step_busy refl refl) (ap is_q told ∙ goes)
@@ -160,16 +129,16 @@ module _ {c : Call} {t : State} {i first : ℕ} (w : StepAt c t i first) where
     unfolding go_telling go
     step_moves is goes table heads r eh et left =
         telling_moves is goes table heads r eh et
-        (λ told ready begins. let e = left told ready begins in (e.0 ∙ ap (stepped q) (sym e.1), ap (λ (z : Stepped). z.memory) e.1))
+        (λ told ready. let e = left told ready in (e.0 ∙ ap (stepped q) (sym e.1), ap (λ (z : Stepped). z.memory) e.1))
 
     -- of a step that looks at heads alone, and of one that looks at the table alone
     pub heads_move : {y : Step} → x ≡ y → is_q y ≡ false → (heads : List ℕ) (r : Process) → length heads ≡ length t.heads
         → (step_in q.status ≡ y → NextByHeads t.heads heads q r) → LoopInvariant c (after_move t first r (memory_of t.table heads)) (i + 1)
-    heads_move is goes heads r eh next = step_moves is goes t.table heads r eh refl (λ told _ _. let e = next told in (e.0, e.1 _ _ _ _ _))
+    heads_move is goes heads r eh next = step_moves is goes t.table heads r eh refl (λ told _. let e = next told in (e.0, e.1 _ _ _ _ _))
 
     pub table_moves : {y : Step} → x ≡ y → is_q y ≡ false → (table : List ℕ) (r : Process) → length table ≡ length t.table
-        → (step_in q.status ≡ y → NextByTable (i + 1) c.starts t.table table q r) → LoopInvariant c (after_move t first r (memory_of table t.heads)) (i + 1)
-    table_moves is goes table r et next = step_moves is goes table t.heads r refl et (λ told _ begins. let e = next told in (e.0, e.1 _ _ _ _ begins))
+        → (step_in q.status ≡ y → NextByTable s (i + 1) t.table table q r) → LoopInvariant c (after_move t first r (memory_of table t.heads)) (i + 1)
+    table_moves is goes table r et next = step_moves is goes table t.heads r refl et (λ told _. let e = next told in (e.0, e.1 _ _ _))
 
   -- Q
   module _ {o : Operation} (finish-busy : q.status ≡ Busy o Q) where
@@ -179,8 +148,7 @@ module _ {c : Call} {t : State} {i first : ℕ} (w : StepAt c t i first) where
         loop_refused w.inv w.more (step_of first) step_is AnswersFull (gives_full c t i (step_of first) q step_plays well refl o Q finish-busy refl h)
 
     pub finish_moves : (enough : 16 ≤ t.left) (a : AnswerRecord) (out : List ℕ) (equal : ℕ) → length out ≡ length t.out
-        → ((s' : Shape) (ps : List Process) → processes s' ≡ c.p → Plays s' ps c.starts t.heads t.table first q
-        → a ≡ answer_of s' (machine_of t.table t.heads ps) first o)
+        → ((ps : List Process) → Plays s ps t.heads t.table first q → a ≡ answer_of s (machine_of t.table t.heads ps) first o)
         → equal ≡ count_after c.log t.answers t.equal a → out ≡ with_answer t.out t.answers a
         → LoopInvariant c (after_answer t first (rested q) out equal) (i + 1)
     unfolding is_step is_q answer_size
@@ -190,6 +158,6 @@ module _ {c : Call} {t : State} {i first : ℕ} (w : StepAt c t i first) where
         let room = rw so_far.answered at (loop_spare w.inv enough w.inv.begun.bounded) in
         loop_finishes w.inv w.more (step_of first) step_is o a out equal w.low eo
         (gives_answer c t i (step_of first) q step_plays well refl o Q finish-busy refl enough)
-        (told-a s (processes_of c t) w.inv.width step_plays) enough
+        (told-a (processes_of c t) step_plays) enough
         (told-e ∙ rw (so_far.answered, so_far.same) (count_after_lem xs a c.log))
         (told-w ∙ rw (so_far.answered, so_far.bytes) (written_after c.out xs a room))

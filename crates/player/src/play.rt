@@ -2,7 +2,6 @@
 // its answers.
 ghost use Rattle.std.specs.Prelude.{◌≡◌, length};
 ghost use Rattle.record.specs.StepRecords.{step_records};
-ghost use Rattle.tree.specs.Shape.{processes, shape_for};
 ghost use Rattle.calls.specs.Run.{play as played};
 ghost use Rattle.player.specs.Clauses.PlayCalls.{AtStart, PlayResult};
 
@@ -23,6 +22,7 @@ use head_steps::{
 use refusals::begin::begin_refusal;
 use stepping::turn::operation_in;
 use steps::{Process, Status, Step};
+use table::layout::Layout;
 
 // What the loop comes to.
 fn ended(ended: Result<(), Refusal>, taken: usize, answers: usize, equal: usize) -> Outcome
@@ -42,9 +42,7 @@ fn ended(ended: Result<(), Refusal>, taken: usize, answers: usize, equal: usize)
 // named step has its own arm, which reads the process again and stores it, so that a step loads and stores only the
 // registers that it uses.
 pub fn play(
-    p: u32,
-    l: u32,
-    starts: &[usize; 17],
+    layout: &Layout,
     records: &[u8],
     heads: &mut [u32],
     table: &mut [u32],
@@ -52,9 +50,11 @@ pub fn play(
     out: &mut [u8],
     log: &[u8],
 ) -> Outcome
-    requires { AtStart (shape_for p l) starts.now heads.old table.old room (length out.old) × (processes (shape_for p l) ≡ p) }
-    ensures { PlayResult (played (shape_for p l) room (step_records records.now)) log.now out.old result table.new heads.new out.new }
+    requires { AtStart layout.now heads.old table.old room (length out.old) }
+    ensures { PlayResult (played layout.now room (step_records records.now)) log.now out.old result table.new heads.new out.new }
 {
+    let p = layout.processes() as u32;
+    let l = layout.most() as u32;
     let idle = Process::start();
     let mut procs = [idle; 8];
     let n = records.len() / 8;
@@ -78,7 +78,7 @@ pub fn play(
                 Status::Busy(_, step) => match step {
                     Step::A => {
                         let q = procs[k];
-                        procs[k] = step_a(heads, table, starts, p + first, number_after(i), q);
+                        procs[k] = step_a(heads, table, layout, p + first, number_after(i), q);
                         continue;
                     }
                     Step::V1 { .. } => {
@@ -88,7 +88,7 @@ pub fn play(
                     }
                     Step::V2 { .. } => {
                         let q = procs[k];
-                        procs[k] = step_v2(table, starts, q);
+                        procs[k] = step_v2(table, layout, q);
                         continue;
                     }
                     Step::V3 { .. } => {
@@ -112,7 +112,7 @@ pub fn play(
                     }
                     Step::R3 { .. } => {
                         let q = procs[k];
-                        procs[k] = step_r3(table, starts, q);
+                        procs[k] = step_r3(table, layout, q);
                         continue;
                     }
                     Step::R4 { .. } => {
@@ -122,7 +122,7 @@ pub fn play(
                     }
                     Step::R5 { .. } => {
                         let q = procs[k];
-                        procs[k] = step_r5(table, starts, q);
+                        procs[k] = step_r5(table, layout, q);
                         continue;
                     }
                     Step::C1 { .. } => {
@@ -137,26 +137,26 @@ pub fn play(
                     }
                     Step::C3L { .. } => {
                         let q = procs[k];
-                        procs[k] = step_c3l(table, starts, q);
+                        procs[k] = step_c3l(table, layout, q);
                         continue;
                     }
                     Step::C3R { .. } => {
                         let q = procs[k];
-                        procs[k] = step_c3r(table, starts, q);
+                        procs[k] = step_c3r(table, layout, q);
                         continue;
                     }
                     Step::C3N { .. } => {
                         let q = procs[k];
-                        if adds_nothing(table, starts, q) {
+                        if adds_nothing(table, layout, q) {
                             procs[k] = step_c3n_up(q);
                             continue;
                         }
-                        procs[k] = step_c3n_on(table, starts, q);
+                        procs[k] = step_c3n_on(table, layout, q);
                         continue;
                     }
                     Step::C4 { .. } => {
                         let q = procs[k];
-                        procs[k] = step_c4(table, starts, number_after(i), q);
+                        procs[k] = step_c4(table, layout, number_after(i), q);
                         continue;
                     }
                     Step::Q => {
@@ -164,7 +164,7 @@ pub fn play(
                             return ended(Err(Refusal::AnswersFull), i, answers, equal);
                         }
                         let q = procs[k];
-                        let a = answer_of(heads, table, starts, p, first % p, q, operation_in(q));
+                        let a = answer_of(heads, table, layout, first % p, q, operation_in(q));
                         equal = equal_after(log, answers, equal, a);
                         write_answer(out, answers, a);
                         answers = answers + 1;

@@ -73,6 +73,13 @@ impl Tree {
         self.height
     }
 
+    // L, the most operations of one process.
+    pub fn most(self) -> usize
+        ensures { (result ≡ self.most) × (result ≤ 500) }
+    {
+        self.most
+    }
+
     // p, the number of processes.
     pub fn processes(self) -> usize
         ensures { (result ≡ processes self) × (2 ≤ result) × (result ≤ 8) }
@@ -141,6 +148,12 @@ impl Layout {
         ensures { (result ≡ self.now.height) × (1 ≤ result) × (result ≤ 3) }
     {
         self.tree.height()
+    }
+
+    pub fn most(&self) -> usize
+        ensures { (result ≡ self.now.most) × (result ≤ 500) }
+    {
+        self.tree.most()
     }
 
     pub fn processes(&self) -> usize

@@ -11,7 +11,7 @@ use Rattle.steps.specs.Machine.{is_idle, is_q}
 use Rattle.build_steps.proofs.Decision.{decided_next}
 use Rattle.answer.proofs.PlaysLaws.{steps_small, helps_small}
 use Rattle.player.proofs.LoopInvariant.{loop_start, loop_number, loop_narrow, loop_ends}
-use Rattle.player.proofs.StepLoop.{StepAt, step_low, step_idle, step_plays, q, step_named, step_busy, step_leaf, step_begins, step_playing, step_same, step_ready, step_fits, step_fits_leaf}
+use Rattle.player.proofs.StepLoop.{StepAt, step_low, step_idle, step_plays, q, step_named, step_busy, step_leaf, step_playing, step_same, step_ready}
 use Rattle.player.proofs.StepLoop.{telling_moves, step_moves, heads_move, table_moves, finish_full, finish_moves}
 use Rattle.player.proofs.BeginLoop.{OtherAt, begin_low, valued_ill, other_ill, begin_few, begin_refused, begin_moves}
 use Rattle.player.proofs.play.play.Goals.{Else-word_at-ne0, After-begin_of-begin, Else-free-lt16}
@@ -22,7 +22,7 @@ use Rattle.player.proofs.play.play.Goals as goal
 -- after its process was found
 step_at : (c : Else-word_at-ne0) →
     StepAt
-    (record { p = c.args.p; l = c.args.l; starts = c.args.starts.now; records = c.args.records.now; heads = c.args.heads.now; table = c.args.table.now; room = c.args.room; out = c.args.out.now; log = c.args.log.now })
+    (record { tree = c.args.layout.now; p = c.processes-p.result; records = c.args.records.now; heads = c.args.heads.now; table = c.args.table.now; room = c.args.room; out = c.args.out.now; log = c.args.log.now })
     (record { heads = c.loop-i.heads; table = c.loop-i.table; out = c.loop-i.out; procs = c.loop-i.procs; answers = c.loop-i.answers; equal = c.loop-i.equal; left = c.loop-i.free })
     c.loop-i.i c.word_at-first.result
 step_at c =
@@ -37,11 +37,11 @@ step_at c =
 -- its counts are small
 few_steps : (c : Else-word_at-ne0) → (get_or c.loop-i.procs c.word_at-first.result (record { status = Idle; begun = 0; steps = 0; helps = 0 })).steps < 65536
 unfolding idle
-few_steps c = omega (arith, steps_small _ _ _ _ _ _ _ (step_plays (step_at c)))
+few_steps c = omega (arith, steps_small _ _ _ _ _ _ (step_plays (step_at c)))
 
 few_helps : (c : Else-word_at-ne0) → (get_or c.loop-i.procs c.word_at-first.result (record { status = Idle; begun = 0; steps = 0; helps = 0 })).helps < 65536
 unfolding idle
-few_helps c = omega (arith, helps_small _ _ _ _ _ _ _ (step_plays (step_at c)))
+few_helps c = omega (arith, helps_small _ _ _ _ _ _ (step_plays (step_at c)))
 
 -- where there is room for an answer
 few_answers : (c : Else-free-lt16) → 16 * c.loop-i.answers + 16 < 18446744073709551616
@@ -52,7 +52,7 @@ few_answers c = omega (arith, c.if-free-lt16.false, c.loop-i.invariant.so_far.sp
 -- its two words say that it is a begin, or nothing
 other_at : (c : After-begin_of-begin) →
     OtherAt
-    (record { p = c.args.p; l = c.args.l; starts = c.args.starts.now; records = c.args.records.now; heads = c.args.heads.now; table = c.args.table.now; room = c.args.room; out = c.args.out.now; log = c.args.log.now })
+    (record { tree = c.args.layout.now; p = c.processes-p.result; records = c.args.records.now; heads = c.args.heads.now; table = c.args.table.now; room = c.args.room; out = c.args.out.now; log = c.args.log.now })
     (record { heads = c.loop-i.heads; table = c.loop-i.table; out = c.loop-i.out; procs = c.loop-i.procs; answers = c.loop-i.answers; equal = c.loop-i.equal; left = c.loop-i.free })
     c.loop-i.i c.word_at-first.result c.word_at-in-loop-i.result c.begin_of-begin.result
 other_at c =
@@ -77,7 +77,7 @@ prove-unreachable-requires-in-loop-i c =
 
 pub loop-i-init : goal.loop-i-init
 unfolding idle
-loop-i-init c = rw c.start-idle.ensures (loop_start _ c.requires.0 c.requires.1)
+loop-i-init c = rw c.start-idle.ensures (loop_start _ c.requires (sym c.processes-p.ensures.0))
 
 pub returns-then-word_at-ne0 : goal.returns-then-word_at-ne0
 returns-then-word_at-ne0 c =
@@ -99,16 +99,16 @@ unfolding idle is_q is_idle
 step_a-requires c = let busy = c.in-Busy.is in
     let at = sym (step_named (step_at (goal.at.step_a-requires c).Else-word_at-ne0) busy c.in-A.is) in
     let ready = step_ready (step_at (goal.at.step_a-requires c).Else-word_at-ne0) busy at refl in
-    record { steps_bound = (few_steps (goal.at.step_a-requires c).Else-word_at-ne0, rw busy refl, at); adds = (ready, step_fits_leaf (step_at (goal.at.step_a-requires c).Else-word_at-ne0) ready.node) }
+    record { steps_bound = (few_steps (goal.at.step_a-requires c).Else-word_at-ne0, rw busy refl, at); adds = ready }
 
 pub loop-i-preserved-in-A : goal.loop-i-preserved-in-A
 unfolding idle is_q
 loop-i-preserved-in-A c =
     let f = step_at (goal.at.loop-i-preserved-in-A c).Else-word_at-ne0 in
     step_moves f c.in-Busy.is c.in-A.is refl _ _ _ refl c.step_a.auto.table
-    (λ is ready _.
+    (λ is ready.
     let e = rw c.number_after.ensures at c.step_a.ensures in
-    (e.0, rw is (e.1 _ _ (step_leaf f) (step_begins f _ ready.node))))
+    (e.0, rw is (e.1 _ (step_leaf f))))
 
 pub step_v1-requires : goal.step_v1-requires
 unfolding idle is_q
@@ -123,7 +123,7 @@ pub step_v2-requires : goal.step_v2-requires
 unfolding idle is_q
 step_v2-requires c =
     let busy = c.in-Busy.is in
-    (few_steps (goal.at.step_v2-requires c).Else-word_at-ne0, λ _ _ _ _ _ e. ((step_ready (step_at (goal.at.step_v2-requires c).Else-word_at-ne0) busy e refl).1, step_fits (step_at (goal.at.step_v2-requires c).Else-word_at-ne0) busy e refl))
+    (few_steps (goal.at.step_v2-requires c).Else-word_at-ne0, λ _ _ _ _ _ e. (step_ready (step_at (goal.at.step_v2-requires c).Else-word_at-ne0) busy e refl).1)
 
 pub loop-i-preserved-in-V2 : goal.loop-i-preserved-in-V2
 unfolding idle is_q
@@ -142,7 +142,7 @@ unfolding idle is_q
 loop-i-preserved-then-advances_child c =
     let f = step_at (goal.at.loop-i-preserved-then-advances_child c).Else-word_at-ne0 in
     telling_moves f c.in-Busy.is c.in-V3.is refl _ _ _ c.step_v3_child.auto.heads refl
-    (λ is _ _. c.step_v3_child.ensures.0 _ _ _ _ is _ _ _ _)
+    (λ is _. c.step_v3_child.ensures.0 _ _ _ _ is _ _ _ _)
 
 pub step_v3_own-requires : goal.step_v3_own-requires
 unfolding idle is_q
@@ -178,7 +178,7 @@ pub step_r3-requires : goal.step_r3-requires
 unfolding idle is_q
 step_r3-requires c =
     let busy = c.in-Busy.is in
-    (few_steps (goal.at.step_r3-requires c).Else-word_at-ne0, λ _ _ e. ((step_ready (step_at (goal.at.step_r3-requires c).Else-word_at-ne0) busy e refl).1, step_fits (step_at (goal.at.step_r3-requires c).Else-word_at-ne0) busy e refl))
+    (few_steps (goal.at.step_r3-requires c).Else-word_at-ne0, λ _ _ e. (step_ready (step_at (goal.at.step_r3-requires c).Else-word_at-ne0) busy e refl).1)
 
 pub loop-i-preserved-in-R3 : goal.loop-i-preserved-in-R3
 unfolding idle is_q
@@ -198,7 +198,7 @@ pub step_r5-requires : goal.step_r5-requires
 unfolding idle is_q
 step_r5-requires c =
     let busy = c.in-Busy.is in
-    (few_steps (goal.at.step_r5-requires c).Else-word_at-ne0, λ _ _ e. ((step_ready (step_at (goal.at.step_r5-requires c).Else-word_at-ne0) busy e refl).1, step_fits (step_at (goal.at.step_r5-requires c).Else-word_at-ne0) busy e refl))
+    (few_steps (goal.at.step_r5-requires c).Else-word_at-ne0, λ _ _ e. (step_ready (step_at (goal.at.step_r5-requires c).Else-word_at-ne0) busy e refl).1)
 
 pub loop-i-preserved-in-R5 : goal.loop-i-preserved-in-R5
 unfolding idle is_q
@@ -227,7 +227,7 @@ pub step_c3l-requires : goal.step_c3l-requires
 unfolding idle is_q
 step_c3l-requires c =
     let busy = c.in-Busy.is in
-    (few_steps (goal.at.step_c3l-requires c).Else-word_at-ne0, λ _ _ _ e. ((step_ready (step_at (goal.at.step_c3l-requires c).Else-word_at-ne0) busy e refl).1, step_fits (step_at (goal.at.step_c3l-requires c).Else-word_at-ne0) busy e refl))
+    (few_steps (goal.at.step_c3l-requires c).Else-word_at-ne0, λ _ _ _ e. (step_ready (step_at (goal.at.step_c3l-requires c).Else-word_at-ne0) busy e refl).1)
 
 pub loop-i-preserved-in-C3L : goal.loop-i-preserved-in-C3L
 unfolding idle is_q
@@ -238,7 +238,7 @@ pub step_c3r-requires : goal.step_c3r-requires
 unfolding idle is_q
 step_c3r-requires c =
     let busy = c.in-Busy.is in
-    (few_steps (goal.at.step_c3r-requires c).Else-word_at-ne0, λ _ _ _ _ _ e. ((step_ready (step_at (goal.at.step_c3r-requires c).Else-word_at-ne0) busy e refl).1, step_fits (step_at (goal.at.step_c3r-requires c).Else-word_at-ne0) busy e refl))
+    (few_steps (goal.at.step_c3r-requires c).Else-word_at-ne0, λ _ _ _ _ _ e. (step_ready (step_at (goal.at.step_c3r-requires c).Else-word_at-ne0) busy e refl).1)
 
 pub loop-i-preserved-in-C3R : goal.loop-i-preserved-in-C3R
 unfolding idle is_q
@@ -280,7 +280,7 @@ pub step_c4-requires : goal.step_c4-requires
 unfolding idle is_q
 step_c4-requires c =
     let busy = c.in-Busy.is in
-    (few_steps (goal.at.step_c4-requires c).Else-word_at-ne0, λ _ _ e. ((step_ready (step_at (goal.at.step_c4-requires c).Else-word_at-ne0) busy e refl).1, step_fits (step_at (goal.at.step_c4-requires c).Else-word_at-ne0) busy e refl))
+    (few_steps (goal.at.step_c4-requires c).Else-word_at-ne0, λ _ _ e. (step_ready (step_at (goal.at.step_c4-requires c).Else-word_at-ne0) busy e refl).1)
 
 pub loop-i-preserved-in-C4 : goal.loop-i-preserved-in-C4
 unfolding idle is_q
@@ -340,7 +340,7 @@ pub returns-in-Err : goal.returns-in-Err
 unfolding idle
 returns-in-Err c =
     rw c.ended-in-Err.ensures
-    (begin_refused (other_at (goal.at.returns-in-Err c).After-begin_of-begin) c.in-Some.is c.begin_refusal.ensures _ c.in-Err.is)
+    (begin_refused (other_at (goal.at.returns-in-Err c).After-begin_of-begin) c.in-Some.is (rw c.most-l.ensures.0 at c.begin_refusal.ensures) _ c.in-Err.is)
 
 pub entered-requires : goal.entered-requires
 unfolding idle
@@ -351,7 +351,7 @@ pub loop-i-preserved : goal.loop-i-preserved
 unfolding idle
 loop-i-preserved c =
     rw c.entered.ensures
-    (begin_moves (other_at (goal.at.loop-i-preserved c).After-begin_of-begin) c.in-Some.is c.begin_refusal.ensures c.in-Ok.is)
+    (begin_moves (other_at (goal.at.loop-i-preserved c).After-begin_of-begin) c.in-Some.is (rw c.most-l.ensures.0 at c.begin_refusal.ensures) c.in-Ok.is)
 
 pub returns : goal.returns
 returns c = rw c.ended-2.ensures (loop_ends c.loop-i.invariant c.loop-i-test.false)
