@@ -1,7 +1,7 @@
 -- A call that is not turned down plays its records from the start.
 use Prim.Native.Nat.{ℕ, ◌*◌, ◌≤◌}
 use native.Mathlib.Omega.{arith}
-use mathlib.Core.Path.{◌≡◌, refl, ap, sym, ◌∙◌, subst}
+use mathlib.Core.Path.{◌≡◌, ap, sym, ◌∙◌, subst}
 use mathlib.Core.List.{List, ◌++◌}
 use lib.ListN.{length, take, drop, get_or, replicate, length-replicate}
 use lib.Seq.{take_at, drop_at}
@@ -19,7 +19,7 @@ pub laid_for : (p l h : ℕ) → h ≡ height_for p → (firsts heads : List ℕ
     → length heads ≡ 2 * processes (shape_for p l) → Laid (shape_for p l) firsts heads
 laid_for p l h eh firsts heads parts nodes =
     record {
-      parts = subst (λ (x : Shape). (v : ℕ) → v ≤ 2 * processes x → get_or firsts v 0 ≡ part_start x v) (shape_is p l h l eh refl) parts;
+      parts = subst (λ (x : Shape). (v : ℕ) → v ≤ 2 * processes x → get_or firsts v 0 ≡ part_start x v) (shape_is p l h eh) parts;
       nodes = nodes;
     }
 
@@ -34,7 +34,7 @@ module _ {p l : ℕ} {heads : List ℕ} {words room bytes h needed : ℕ} (k : M
   s = shape_for p l
 
   needed_is : needed ≡ words_needed s
-  needed_is = k.needs ∙ needed_for p l h l k.height refl
+  needed_is = k.needs ∙ needed_for p l h k.height
 
   pub call_fits : needed ≤ words
   call_fits = omega (arith, needed_is, k.callable.enough)

@@ -60,7 +60,7 @@ returns c =
     let many = sym (records_length start.begins.now) in
     let b = both_clauses start.p start.l start.begins.now _
     (returns_foreseen start.p start.l start.begins.now (none_at (goal.at.returns c).In_ok-refusal_of) _ _ _
-    (c.words_needed.ensures.0 ∙ needed_for start.p start.l _ _ high refl)
+    (c.words_needed.ensures.0 ∙ needed_for start.p start.l _ high)
     (ap (λ (n : ℕ). answer_size * n) many)
     (ap (λ (n : ℕ). n * c.record_limit.result) many ∙ ap (λ (n : ℕ). length (step_records start.begins.now) * n) (limit_at (goal.at.returns c).After-record_limit))) in
     record { rules = b.0; runs = b.1 }

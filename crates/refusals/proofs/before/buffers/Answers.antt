@@ -12,9 +12,9 @@ words_needed-requires c = (c.height_for.ensures.2, (allowed_most _ (settings_ope
 pub returns-then-words-words_needed : goal.returns-then-words-words_needed
 unfolding buffer_refusal
 returns-then-words-words_needed c =
-    rw (← (c.words_needed.ensures.0 ∙ needed_for _ _ _ _ c.height_for.ensures.0 refl), lt-ltb _ _ c.if-words-words_needed.true)
+    rw (← (c.words_needed.ensures.0 ∙ needed_for _ _ _ c.height_for.ensures.0), lt-ltb _ _ c.if-words-words_needed.true)
 
 pub returns : goal.returns
 unfolding buffer_refusal
 returns c =
-    rw (← (c.words_needed.ensures.0 ∙ needed_for _ _ _ _ c.height_for.ensures.0 refl), le-ltb _ _ c.if-words-words_needed.false) c.of_bytes.ensures
+    rw (← (c.words_needed.ensures.0 ∙ needed_for _ _ _ c.height_for.ensures.0), le-ltb _ _ c.if-words-words_needed.false) c.of_bytes.ensures
