@@ -14,33 +14,32 @@ use Rattle.player.specs.Clauses.PlayCalls.{AtStart}
 use Rattle.call_player.specs.Clauses.Callable.{Callable}
 
 -- the starts that are worked out are those of the tree for p processes of at most l operations
-pub laid_for : (p l h w : ℕ) → h ≡ height_for p → w ≡ l → (firsts heads : List ℕ)
-    → ((v : ℕ) → v ≤ 2 * processes (record { height = h; most = w }) → get_or firsts v 0 ≡ part_start (record { height = h; most = w }) v)
+pub laid_for : (p l h : ℕ) → h ≡ height_for p → (firsts heads : List ℕ)
+    → ((v : ℕ) → v ≤ 2 * processes (record { height = h; most = l }) → get_or firsts v 0 ≡ part_start (record { height = h; most = l }) v)
     → length heads ≡ 2 * processes (shape_for p l) → Laid (shape_for p l) firsts heads
-laid_for p l h w eh ew firsts heads parts nodes =
+laid_for p l h eh firsts heads parts nodes =
     record {
-      parts = subst (λ (x : Shape). (v : ℕ) → v ≤ 2 * processes x → get_or firsts v 0 ≡ part_start x v) (shape_is p l h w eh ew) parts;
+      parts = subst (λ (x : Shape). (v : ℕ) → v ≤ 2 * processes x → get_or firsts v 0 ≡ part_start x v) (shape_is p l h eh) parts;
       nodes = nodes;
     }
 
--- a call that may be played, when height h and width w of its tree and the words needed are worked out
-pub record Measured (p l : ℕ) (heads : List ℕ) (words room bytes h w needed : ℕ) : Type 0 where
+-- a call that may be played, when the height h of its tree and the words needed are worked out
+pub record Measured (p l : ℕ) (heads : List ℕ) (words room bytes h needed : ℕ) : Type 0 where
   pub callable : Callable p l heads words room bytes
   pub height : h ≡ height_for p
-  pub most : w ≡ l
-  pub needs : needed ≡ words_needed (record { height = h; most = w })
+  pub needs : needed ≡ words_needed (record { height = h; most = l })
 
-module _ {p l : ℕ} {heads : List ℕ} {words room bytes h w needed : ℕ} (k : Measured p l heads words room bytes h w needed) where
+module _ {p l : ℕ} {heads : List ℕ} {words room bytes h needed : ℕ} (k : Measured p l heads words room bytes h needed) where
   abbrev s : Shape
   s = shape_for p l
 
   needed_is : needed ≡ words_needed s
-  needed_is = k.needs ∙ needed_for p l h w k.height k.most
+  needed_is = k.needs ∙ needed_for p l h k.height
 
   pub call_fits : needed ≤ words
   call_fits = omega (arith, needed_is, k.callable.enough)
 
-  pub call_starts : (firsts rest : List ℕ) → ((v : ℕ) → v ≤ 2 * processes (record { height = h; most = w }) → get_or firsts v 0 ≡ part_start (record { height = h; most = w }) v)
+  pub call_starts : (firsts rest : List ℕ) → ((v : ℕ) → v ≤ 2 * processes (record { height = h; most = l }) → get_or firsts v 0 ≡ part_start (record { height = h; most = l }) v)
       → AtStart s firsts heads (take needed (replicate needed 0 ++ rest)) room bytes
   unfolding shape_for
   call_starts firsts rest parts =
@@ -49,7 +48,7 @@ module _ {p l : ℕ} {heads : List ℕ} {words room bytes h w needed : ℕ} (k :
         inner = tall_for p l;
         tall = short_for p l;
         few = (allowed_most l k.callable.most).1;
-        laid = laid_for p l h w k.height k.most firsts heads parts (ap length k.callable.ones ∙ length-replicate (2 * p) 1 ∙ ap (λ (x : ℕ). 2 * x) (sym width));
+        laid = laid_for p l h k.height firsts heads parts (ap length k.callable.ones ∙ length-replicate (2 * p) 1 ∙ ap (λ (x : ℕ). 2 * x) (sym width));
         words = take_at (replicate needed 0) rest needed (length-replicate needed 0) ∙ ap (λ (n : ℕ). replicate n 0) needed_is;
         ones = k.callable.ones ∙ ap (λ (x : ℕ). replicate (2 * x) 1) (sym width);
         bounded = k.callable.bounded;

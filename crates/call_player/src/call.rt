@@ -7,7 +7,6 @@ ghost use Rattle.calls.specs.Run.{play as played};
 ghost use Rattle.player.specs.Clauses.PlayCalls.{PlayResult};
 ghost use Rattle.call_player.specs.Clauses.Callable.{Callable};
 
-use base::as_index;
 use player::Outcome;
 use player::play::play;
 use table::layout::{clear, height_for, starts, words_needed};
@@ -30,7 +29,7 @@ pub fn play_call(
     ensures rest { drop (words_needed (shape_for p l)) table.new ≡ drop (words_needed (shape_for p l)) table.old }
 {
     let height = height_for(p);
-    let most = as_index(l);
+    let most = l as usize;
     let needed = words_needed(height, most);
     clear(table, needed);
     let firsts = starts(height, most);

@@ -14,23 +14,23 @@ use Rattle.steps.proofs.Limits.{allowed_narrow}
 use Rattle.call_player.specs.Clauses.Callable.{Callable}
 
 -- with 16 heads of which each is 1
-module _ (p l words bytes : ℕ) (ok : accepted (call_refusal p l words bytes) ≡ true) (heads : List ℕ) (ones : heads ≡ replicate 16 1) (j : ℕ) (is : j ≡ p) where
+module _ (p l words bytes : ℕ) (ok : accepted (call_refusal p l words bytes) ≡ true) (heads : List ℕ) (ones : heads ≡ replicate 16 1) where
   narrow : p ≤ 8
   narrow = allowed_narrow p l (accepted_processes p l words bytes ok)
 
   -- the first 2p are those of the nodes
-  pub accepted_heads : 2 * j ≤ length heads
+  pub accepted_heads : 2 * p ≤ length heads
   accepted_heads = omega (arith, narrow, ap length ones)
 
-  pub accepted_nodes : length (take (2 * j) heads) ≡ 2 * j
-  accepted_nodes = length-take-le (2 * j) heads accepted_heads
+  pub accepted_nodes : length (take (2 * p) heads) ≡ 2 * p
+  accepted_nodes = length-take-le (2 * p) heads accepted_heads
 
-  pub accepted_callable : {room size : ℕ} → (size ≡ 0) ⊎ (size ≡ room) → Callable p l (take (2 * j) heads) words room size
+  pub accepted_callable : {room size : ℕ} → (size ≡ 0) ⊎ (size ≡ room) → Callable p l (take (2 * p) heads) words room size
   accepted_callable b =
       record {
         processes = accepted_processes p l words bytes ok;
         most = accepted_operations p l words bytes ok;
-        ones = ap (take (2 * j)) ones ∙ take_replicate 1 (2 * j) 16 (omega (arith, narrow)) ∙ ap (λ (n : ℕ). replicate (2 * n) 1) is;
+        ones = ap (take (2 * p)) ones ∙ take_replicate 1 (2 * p) 16 (omega (arith, narrow));
         enough = accepted_enough p l words bytes ok;
         bounded = b;
       }

@@ -1,7 +1,8 @@
 -- What list the order leaves, by whether the call is turned down, a record refused, or the list longer than the output.
+use Rattle.std.specs.Prelude.{Result, Ok, Err}
 use Prim.Native.Nat.{ℕ, ◌*◌, ◌≤◌, ◌<◌}
 use mathlib.Core.Path.{◌≡◌, ap, sym, ◌∙◌, subst}
-use mathlib.Core.Bool.{true, false}
+use mathlib.Core.Bool.{true}
 use mathlib.Core.List.{List, ◌++◌}
 use lib.ListN.{length, take, drop, get_or}
 use borrow.Author.Tests.{lt-ltb, le-ltb}
@@ -14,8 +15,8 @@ use Rattle.tree.specs.Clauses.Invariant.{Sized, Sound}
 use Rattle.tree.specs.Clauses.SoundTree.{SoundTree}
 use Rattle.steps.proofs.Invariant.{Invariant}
 use Rattle.calls.specs.declared.Refusal.{Refusal}
-use Rattle.calls.specs.declared.Refusal.TheVariants.{None, OutputShort}
-use Rattle.calls.specs.Refusals.{refusal_number, accepted, call_refusal}
+use Rattle.calls.specs.declared.Refusal.TheVariants.{OutputShort}
+use Rattle.calls.specs.Refusals.{Acceptance, paper_number, refusal_number, accepted, call_refusal}
 use Rattle.calls.specs.Run.{Played}
 use Rattle.order.specs.OrderList.{order_list}
 use Rattle.calls.specs.ListOrder.{play_all, list_refusal, listed, list_played, list_order}
@@ -25,7 +26,6 @@ use Rattle.steps.proofs.Limits.{allowed_most, allowed_width, short_for}
 use Rattle.player.specs.declared.Outcome.{Outcome}
 use Rattle.player.proofs.PlayLaws.{played_agrees}
 use Rattle.call_player.proofs.PlayCallLaws.{laid_for}
-use Rattle.queue.specs.declared.Listed.{Listed}
 use Rattle.queue.specs.Left.{list_left}
 use Rattle.queue.specs.Clauses.PlayedAll.{PlayedAll}
 use Rattle.queue.specs.Clauses.ListingCall.{ListingCall, list_from}
@@ -34,16 +34,16 @@ use Rattle.queue.proofs.PlayAll.{all_left}
 -- ---- the list of a played table
 
 -- its parts begin at the starts that are worked out
-pub listing_tree : (p l : ℕ) (heads table : List ℕ) → ListingCall p l heads table → (h w : ℕ) → h ≡ height_for p → w ≡ l → (firsts : List ℕ)
-    → ((v : ℕ) → v ≤ 2 * processes (record { height = h; most = w }) → get_or firsts v 0 ≡ part_start (record { height = h; most = w }) v)
+pub listing_tree : (p l : ℕ) (heads table : List ℕ) → ListingCall p l heads table → (h : ℕ) → h ≡ height_for p → (firsts : List ℕ)
+    → ((v : ℕ) → v ≤ 2 * processes (record { height = h; most = l }) → get_or firsts v 0 ≡ part_start (record { height = h; most = l }) v)
     → SoundTree (shape_for p l) firsts heads table
 unfolding shape_for
-listing_tree p l heads table k h w eh ew firsts parts =
+listing_tree p l heads table k h eh firsts parts =
     record {
       inner = tall_for p l;
       tall = short_for p l;
       few = (allowed_most l k.operations).1;
-      laid = laid_for p l h w eh ew firsts heads parts k.sized.heads;
+      laid = laid_for p l h eh firsts heads parts k.sized.heads;
       sized = k.sized;
       sound = k.sound;
     }
@@ -53,8 +53,8 @@ unfolding shape_for
 listing_height p l h e = e
 
 -- the first heads and words of more are its memory
-pub listing_nodes : (p l : ℕ) (heads table : List ℕ) → ListingCall p l (take (2 * p) heads) table → (j : ℕ) → j ≡ p → 2 * j ≡ length (take (2 * j) heads)
-listing_nodes p l heads table k j e = rw e (sym (k.sized.heads ∙ ap (λ (x : ℕ). 2 * x) (allowed_width p l k.processes)))
+pub listing_nodes : (p l : ℕ) (heads table : List ℕ) → ListingCall p l (take (2 * p) heads) table → 2 * p ≡ length (take (2 * p) heads)
+listing_nodes p l heads table k = sym (k.sized.heads ∙ ap (λ (x : ℕ). 2 * x) (allowed_width p l k.processes))
 
 pub listing_words : (p l : ℕ) (heads table : List ℕ) → ListingCall p l heads (take (words_needed (shape_for p l)) table) → (n : ℕ) → n ≡ words_needed (shape_for p l)
     → n ≡ length (take n table)
@@ -62,24 +62,24 @@ listing_words p l heads table k n e = rw e (sym k.sized.words)
 
 -- longer than the output, or written
 pub list_short : (s : Shape) (t table output : List ℕ) → length output < length (order_list s t)
-    → list_left (record { refusal = OutputShort; length = 0 }) table output ≡ list_from s t table output
-unfolding list_left list_from list_refusal listed accepted refusal_number
+    → list_left (Err OutputShort) table output ≡ list_from s t table output
+unfolding list_left list_from list_refusal listed accepted paper_number refusal_number
 list_short s t table output h = rw (lt-ltb _ _ h)
 
 pub list_written_lem : (s : Shape) (t table output output' : List ℕ) (n : ℕ) → n ≡ length (order_list s t) → length (order_list s t) ≤ length output
     → output' ≡ order_list s t ++ drop (length (order_list s t)) output
-    → list_left (record { refusal = None; length = n }) table output' ≡ list_from s t table output
-unfolding list_left list_from list_refusal listed accepted refusal_number
+    → list_left (Ok n) table output' ≡ list_from s t table output
+unfolding list_left list_from list_refusal listed accepted paper_number refusal_number
 list_written_lem s t table output output' n e h f = rw (le-ltb _ _ h) (λ i. record { refusal = 0; length = e i; table = table; output = f i })
 
 -- ---- the call
 module _ (p l : ℕ) (records table output : List ℕ) where
-  abbrev n : Refusal
+  abbrev n : Acceptance
   n = call_refusal p l (length table) (length records)
 
-  pub list_down : (m : Refusal) → m ≡ n → accepted n ≡ false → list_left (record { refusal = m; length = 0 }) table output ≡ list_order p l records table output
-  unfolding list_left list_order listed
-  list_down m e down = rw (e, down)
+  pub list_down : (m : Refusal) → Err m ≡ n → list_left (Err m) table output ≡ list_order p l records table output
+  unfolding list_left list_order listed accepted refusal_number
+  list_down m e = rw (← e)
 
 -- played
 module _ {p l : ℕ} {records log table : List ℕ} {o : Outcome} {heads' table' : List ℕ}
@@ -95,13 +95,11 @@ module _ {p l : ℕ} {records log table : List ℕ} {o : Outcome} {heads' table'
     unfolding list_order
     is_listed output = rw ok
 
-    pub list_refused : (output : List ℕ) → accepted o.refusal ≡ false
-        → list_left (record { refusal = o.refusal; length = 0 }) table' output ≡ list_order p l records table output
-    unfolding list_left list_played list_refusal listed
-    list_refused output e =
-        let z : accepted g.refusal ≡ false = ap accepted (sym k.result.refusal) ∙ e in
-        (λ i. record { refusal = refusal_number (k.result.refusal i); length = 0; table = all_left k i; output = output })
-        ∙ (rw (z, z))
+    pub list_refused : (output : List ℕ) (m : Refusal) → o.ended ≡ Err m → list_left (Err m) table' output ≡ list_order p l records table output
+    unfolding list_left list_played list_refusal listed accepted refusal_number
+    list_refused output m e =
+        ap (λ (t : List ℕ). record { refusal = paper_number m; length = 0; table = t; output = output }) (all_left k)
+        ∙ (rw (sym k.result.ended ∙ e))
         ∙ is_listed output
 
     -- the table and the heads are a sound memory
@@ -119,12 +117,12 @@ module _ {p l : ℕ} {records log table : List ℕ} {o : Outcome} {heads' table'
           sound = subst (Sound s) same keeps.sound;
         }
 
-    pub list_left_lem : (r : Listed) (output output' : List ℕ) → accepted o.refusal ≡ true
+    pub list_left_lem : (r : Result ℕ Refusal) (output output' : List ℕ) → o.ended ≡ Ok tt
         → list_left r table' output' ≡ list_from s (take (words_needed s) table') table' output → list_left r table' output' ≡ list_order p l records table output
     unfolding list_played list_refusal list_from accepted refusal_number
     list_left_lem r output output' e f =
         f
         ∙ ap (λ (x : List ℕ). list_from s x table' output) k.result.words
         ∙ ap (λ (x : List ℕ). list_from s g.machine.memory.table x output) (all_left k)
-        ∙ (rw (ap accepted (sym k.result.refusal) ∙ e))
+        ∙ (rw (sym k.result.ended ∙ e))
         ∙ is_listed output

@@ -1,7 +1,8 @@
 -- What Run leaves, by whether the call is turned down.
+use Rattle.std.specs.Prelude.{Err}
 use Prim.Native.Nat.{ℕ, ◌*◌}
 use mathlib.Core.Path.{◌≡◌, sym, ◌∙◌, subst}
-use mathlib.Core.Bool.{true, false}
+use mathlib.Core.Bool.{true}
 use mathlib.Core.List.{List}
 use lib.ListN.{length, take, drop}
 use Rattle.record.specs.AnswerRecords.{answer_size}
@@ -9,7 +10,7 @@ use Rattle.record.specs.StepRecords.{step_records}
 use Rattle.tree.specs.Shape.{Shape, shape_for}
 use Rattle.tree.specs.Layout.{words_needed}
 use Rattle.calls.specs.declared.Refusal.{Refusal}
-use Rattle.calls.specs.Refusals.{refusal_number, accepted, call_refusal}
+use Rattle.calls.specs.Refusals.{Acceptance, refusal_number, accepted, call_refusal}
 use Rattle.calls.specs.Run.{Played, play, run_turned_down, run_played, run}
 use Rattle.calls.specs.Demand3.{Demand3, RunKeeps}
 use Rattle.calls.proofs.Played.{played_room}
@@ -32,7 +33,7 @@ module _ (p l : ℕ) (records table answers : List ℕ) where
   abbrev g : Played
   g = play s (length answers) (step_records records)
 
-  abbrev n : Refusal
+  abbrev n : Acceptance
   n = call_refusal p l (length table) (length records)
 
   -- what the equation then tells of what a call that is not turned down leaves: demand 3, where superblocks stand, and
@@ -55,22 +56,22 @@ module _ (p l : ℕ) (records table answers : List ℕ) where
   )
 
   -- turned down
-  pub run_down : (m : Refusal) → m ≡ n → accepted n ≡ false → run_left (record { refusal = m; taken = 0; answers = 0 }) table answers ≡ run p l records table answers
-  unfolding run_left run run_turned_down
-  run_down m e down = rw (e, down)
+  pub run_down : (m : Refusal) → Err m ≡ n → run_left (record { ended = Err m; taken = 0; answers = 0 }) table answers ≡ run p l records table answers
+  unfolding run_left run run_turned_down accepted
+  run_down m e = rw (← e)
 
   -- played
   module _ (ok : accepted n ≡ true) (o : Outcome) (log table' heads' answers' : List ℕ)
       (result : PlayResult g log answers o (take (words_needed s) table') heads' answers')
       (rest : drop (words_needed s) table' ≡ drop (words_needed s) table)
     where
-      pub run_left_lem : run_left (record { refusal = o.refusal; taken = o.taken; answers = o.answers }) table' answers' ≡ run p l records table answers
+      pub run_left_lem : run_left (record { ended = o.ended; taken = o.taken; answers = o.answers }) table' answers' ≡ run p l records table answers
       unfolding run_left run run_played
       run_left_lem =
           rw ok
           (λ i.
           record {
-            refusal = refusal_number (result.refusal i);
+            refusal = refusal_number (result.ended i);
             taken = result.taken i;
             answered = result.answered i;
             table = table_left g log answers o (words_needed s) table table' heads' answers' result rest i;

@@ -10,22 +10,15 @@ pub mod run;
 
 use calls::Refusal;
 
-// What Run returns: why it ended, the records taken and the answers written.
-#[derive(Clone, Copy)]
+// What Run returns: the refusal that ended it, if any did, the records taken and the answers written.
+#[derive(Clone, Copy, Debug, PartialEq, Eq)]
 pub struct Ran {
-    pub refusal: Refusal,
+    pub ended: Result<(), Refusal>,
     pub taken: usize,
     pub answers: usize,
 }
 
-// What list the order returns: a refusal, or none and the length of the list in bytes.
-#[derive(Clone, Copy)]
-pub struct Listed {
-    pub refusal: Refusal,
-    pub length: usize,
-}
-
-// The same for C: a refusal is its number.
+// The same for C: a refusal is its number, 0 for none.
 #[repr(C)]
 #[derive(Clone, Copy)]
 pub struct OtqRun {
@@ -34,6 +27,7 @@ pub struct OtqRun {
     pub answers: u64,
 }
 
+// What list the order returns, for C: a refusal's number, and the length of the list in bytes.
 #[repr(C)]
 #[derive(Clone, Copy)]
 pub struct OtqList {

@@ -1,9 +1,8 @@
 // The records of a call played without an answer buffer, as list the order and check a log play them.
 ghost use Rattle.std.specs.Prelude.{◌≡◌, true, ◌*◌, length, take, replicate};
-ghost use Rattle.calls.specs.Refusals.{accepted as is_accepted, call_refusal};
+ghost use Rattle.calls.specs.Refusals.{accepted, call_refusal};
 ghost use Rattle.queue.specs.Clauses.PlayedAll.{PlayedAll};
 
-use base::as_index;
 use call_player::call::play_unanswered;
 use player::Outcome;
 
@@ -17,10 +16,10 @@ pub fn play_all(
     table: &mut [u32],
     log: &[u8],
 ) -> Outcome
-    requires call { is_accepted (call_refusal p l (length table.old) (length records.now)) ≡ true }
+    requires call { accepted (call_refusal p l (length table.old) (length records.now)) ≡ true }
     requires ones { heads.old ≡ replicate 16 1 }
     ensures { PlayedAll p l records.now log.now table.old result (take (2 * p) heads.new) table.new }
 {
-    let nodes = 2 * as_index(p);
+    let nodes = 2 * p as usize;
     play_unanswered(p, l, records, &mut heads[..nodes], table, log)
 }

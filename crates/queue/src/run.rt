@@ -3,7 +3,7 @@ ghost use Rattle.std.specs.Prelude.{◌≡◌, true, ◌*◌, length, take};
 ghost use Rattle.record.specs.StepRecords.{step_records};
 ghost use Rattle.record.specs.AnswerRecords.{answer_size};
 ghost use Rattle.tree.specs.Layout.{words_needed};
-ghost use Rattle.calls.specs.Refusals.{accepted as is_accepted, call_refusal};
+ghost use Rattle.calls.specs.Refusals.{accepted, call_refusal};
 ghost use Rattle.tree.specs.Shape.{shape_for};
 ghost use Rattle.calls.specs.Run.{run as run_of};
 ghost use Rattle.calls.specs.Demand3.{Demand3};
@@ -12,18 +12,16 @@ ghost use Rattle.block_numbers.specs.BlockNumbers.{NumbersTell};
 ghost use Rattle.queue.specs.Left.{run_left};
 
 use crate::Ran;
-use base::as_index;
 use call_player::call::play_call;
 use refusals::before::of_call;
-use refusals::numbers::accepted;
 
 // Run, of a call that is not turned down.
 fn run_accepted(p: u32, l: u32, records: &[u8], table: &mut [u32], answers: &mut [u8]) -> Ran
-    requires { is_accepted (call_refusal p l (length table.old) (length records.now)) ≡ true }
+    requires { accepted (call_refusal p l (length table.old) (length records.now)) ≡ true }
     ensures { run_left result table.new answers.new ≡ run_of p l records.now table.old answers.old }
 {
     let mut heads = [1u32; 16];
-    let nodes = 2 * as_index(p);
+    let nodes = 2 * p as usize;
     let room = answers.len();
     let o = play_call(
         p,
@@ -35,9 +33,8 @@ fn run_accepted(p: u32, l: u32, records: &[u8], table: &mut [u32], answers: &mut
         answers,
         &records[..0],
     );
-    let why = o.refusal;
     Ran {
-        refusal: why,
+        ended: o.ended,
         taken: o.taken,
         answers: o.answers,
     }
@@ -48,22 +45,22 @@ fn run_accepted(p: u32, l: u32, records: &[u8], table: &mut [u32], answers: &mut
 // down, demand 3 holds of the records that it took, the bytes that it wrote and the needed words that it left. In these
 // words each superblock stands at its block's super or one place later, and each block's number tells the record that
 // wrote it, rises with place and is above those of its subblocks.
+#[tactic(auto, unfolding(calls::specs::Refusals::accepted))]
 pub fn run(p: u32, l: u32, records: &[u8], table: &mut [u32], answers: &mut [u8]) -> Ran
     ensures rules { run_left result table.new answers.new ≡ run_of p l records.now table.old answers.old }
-    ensures demand3 { is_accepted (call_refusal p l (length table.old) (length records.now)) ≡ true →
+    ensures demand3 { accepted (call_refusal p l (length table.old) (length records.now)) ≡ true →
         Demand3 p l (take result.taken (step_records records.now)) (take (answer_size * result.answers) answers.new) (take (words_needed (shape_for p l)) table.new) }
-    ensures supers { is_accepted (call_refusal p l (length table.old) (length records.now)) ≡ true →
+    ensures supers { accepted (call_refusal p l (length table.old) (length records.now)) ≡ true →
         SupersNear (shape_for p l) (take (words_needed (shape_for p l)) table.new) }
-    ensures numbers { is_accepted (call_refusal p l (length table.old) (length records.now)) ≡ true →
+    ensures numbers { accepted (call_refusal p l (length table.old) (length records.now)) ≡ true →
         NumbersTell (shape_for p l) (take result.taken (step_records records.now)) (take (words_needed (shape_for p l)) table.new) }
 {
-    let n = of_call(p, l, table.len(), records.len());
-    if !accepted(n) {
-        return Ran {
-            refusal: n,
+    match of_call(p, l, table.len(), records.len()) {
+        Ok(()) => run_accepted(p, l, records, table, answers),
+        Err(why) => Ran {
+            ended: Err(why),
             taken: 0,
             answers: 0,
-        };
+        },
     }
-    run_accepted(p, l, records, table, answers)
 }

@@ -29,12 +29,12 @@ unfolding processes_allowed processes shape_for height_for
 allowed_width p l e = width_by p (eqb p 2) (eqb p 4) (eqb p 8) refl refl refl e
 
 -- its height, worked out, and the words that its table must have
-pub shape_is : (p l h w : ℕ) → h ≡ height_for p → w ≡ l → record { height = h; most = w } ≡ shape_for p l
+pub shape_is : (p l h : ℕ) → h ≡ height_for p → record { height = h; most = l } ≡ shape_for p l
 unfolding shape_for
-shape_is p l h w e f = rw (e, f)
+shape_is p l h e = rw e
 
-pub needed_for : (p l h w : ℕ) → h ≡ height_for p → w ≡ l → words_needed (record { height = h; most = w }) ≡ words_needed (shape_for p l)
-needed_for p l h w e f = ap words_needed (shape_is p l h w e f)
+pub needed_for : (p l h : ℕ) → h ≡ height_for p → words_needed (record { height = h; most = l }) ≡ words_needed (shape_for p l)
+needed_for p l h e = ap words_needed (shape_is p l h e)
 
 -- it is at most 3
 pub short_for : (p l : ℕ) → (shape_for p l).height ≤ 3

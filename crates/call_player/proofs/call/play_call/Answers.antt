@@ -9,17 +9,16 @@ use Rattle.call_player.proofs.call.play_call.Goals.{After-words_needed-needed}
 use Rattle.call_player.proofs.call.play_call.Goals as goal
 
 -- where the words needed are worked out
-measured : (c : After-words_needed-needed) → let a = c.args in Measured a.p a.l a.heads.now (length a.table.now) a.room (length a.out.now) c.height_for-height.result c.as_index-most.result c.words_needed-needed.result
+measured : (c : After-words_needed-needed) → let a = c.args in Measured a.p a.l a.heads.now (length a.table.now) a.room (length a.out.now) c.height_for-height.result c.words_needed-needed.result
 measured c = record {
   callable = c.requires;
   height = c.height_for-height.ensures.0;
-  most = c.as_index-most.ensures;
   needs = c.words_needed-needed.ensures.0;
 }
 
 pub words_needed-needed-requires : goal.words_needed-needed-requires
 words_needed-needed-requires c =
-    (c.height_for-height.ensures.2, omega (arith, c.as_index-most.ensures, (allowed_most _ c.requires.most).1))
+    (c.height_for-height.ensures.2, (allowed_most _ c.requires.most).1)
 
 pub clear-requires : goal.clear-requires
 clear-requires c = call_fits (measured (goal.at.clear-requires c).After-words_needed-needed)
@@ -27,7 +26,7 @@ clear-requires c = call_fits (measured (goal.at.clear-requires c).After-words_ne
 pub starts-firsts-requires : goal.starts-firsts-requires
 starts-firsts-requires c =
     let k = measured (goal.at.starts-firsts-requires c).After-words_needed-needed in
-    (c.height_for-height.ensures.2, omega (arith, k.most, (allowed_most _ k.callable.most).1))
+    (c.height_for-height.ensures.2, (allowed_most _ k.callable.most).1)
 
 pub slice_bounds-play-end : goal.slice_bounds-play-end
 slice_bounds-play-end c =

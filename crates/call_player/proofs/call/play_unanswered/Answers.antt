@@ -14,7 +14,7 @@ pub returns : goal.returns
 returns c =
     let o = c.play_call.ensures in record {
       result = record {
-        refusal = o.result.refusal;
+        ended = o.result.ended;
         taken = o.result.taken;
         answered = o.result.answered;
         equal = o.result.equal;

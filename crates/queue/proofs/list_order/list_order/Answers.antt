@@ -1,13 +1,10 @@
 -- `list_order::list_order` meets its contract.
-use Rattle.refusals.proofs.Found.{found_accepted, found_refused}
+use Rattle.std.proofs.lemmas.Result.{err_from_is_err_and}
+use mathlib.Core.Path.{sym, ◌∙◌}
 use Rattle.queue.proofs.ListLaws.{list_down}
 use Rattle.queue.proofs.list_order.list_order.Goals as goal
 
-pub returns-then-not-accepted : goal.returns-then-not-accepted
-returns-then-not-accepted c =
-    let n = c.of_call-n.ensures in
-    list_down _ _ _ _ _ _ n (found_refused n c.accepted.ensures c.if-not-accepted.true)
-
-pub list_accepted-requires : goal.list_accepted-requires
-list_accepted-requires c =
-    found_accepted c.of_call-n.ensures c.accepted.ensures c.if-not-accepted.false
+pub returns-in_err-of_call : goal.returns-in_err-of_call
+returns-in_err-of_call c =
+    let p = err_from_is_err_and c.from_residual.result c.from_residual.ensures.1 in
+    rw (p.1, p.2) (list_down _ _ _ _ _ _ (sym c.in_err-of_call.was ∙ c.of_call.ensures))

@@ -6,14 +6,14 @@ use Rattle.queue.proofs.RunLaws.{run_left_lem}
 use Rattle.queue.proofs.run.run_accepted.Goals as goal
 
 pub slice_bounds-heads-end : goal.slice_bounds-heads-end
-slice_bounds-heads-end c = accepted_heads _ _ _ _ c.requires _ refl _ c.as_index-nodes.ensures
+slice_bounds-heads-end c = accepted_heads _ _ _ _ c.requires _ refl
 
 pub slice_bounds-play_call-end : goal.slice_bounds-play_call-end
-slice_bounds-play_call-end c = sym (accepted_nodes _ _ _ _ c.requires _ refl _ c.as_index-nodes.ensures)
+slice_bounds-play_call-end c = sym (accepted_nodes _ _ _ _ c.requires _ refl)
 
 pub play_call-o-requires : goal.play_call-o-requires
 play_call-o-requires c =
-    accepted_callable _ _ _ _ c.requires _ refl _ c.as_index-nodes.ensures (inr refl)
+    accepted_callable _ _ _ _ c.requires _ refl (inr refl)
 
 pub returns : goal.returns
 returns c =
