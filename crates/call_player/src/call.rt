@@ -9,7 +9,7 @@ ghost use Rattle.call_player.specs.Clauses.Callable.{Callable};
 
 use player::Outcome;
 use player::play::play;
-use table::layout::{clear, height_for, starts, words_needed};
+use table::layout::{Layout, Tree};
 
 // Plays the records of a call with p and l, which are allowed, and a table that is long enough. Table words past those
 // needed stay.
@@ -28,15 +28,12 @@ pub fn play_call(
         (take (words_needed (shape_for p l)) table.new) heads.new out.new }
     ensures rest { drop (words_needed (shape_for p l)) table.new ≡ drop (words_needed (shape_for p l)) table.old }
 {
-    let height = height_for(p);
-    let most = l as usize;
-    let needed = words_needed(height, most);
-    clear(table, needed);
-    let firsts = starts(height, most);
+    let tree = Tree::new(p, l);
+    let layout = Layout::new(tree);
+    let needed = tree.words_needed();
+    table[..needed].fill(0);
     play(
-        p,
-        l,
-        &firsts,
+        &layout,
         records,
         heads,
         &mut table[..needed],

@@ -4,12 +4,12 @@ use Prim.Native.Nat.{ℕ, ◌*◌, ◌≤◌, ◌<◌}
 use mathlib.Core.Path.{◌≡◌, ap, sym, ◌∙◌, subst}
 use mathlib.Core.Bool.{true}
 use mathlib.Core.List.{List, ◌++◌}
-use lib.ListN.{length, take, drop, get_or}
+use lib.ListN.{length, take, drop}
 use borrow.Author.Tests.{lt-ltb, le-ltb}
 use Rattle.record.specs.StepRecords.{step_records}
 use Rattle.record.specs.AnswerRecords.{answer_size}
-use Rattle.tree.specs.Shape.{Shape, processes, height_for, shape_for}
-use Rattle.tree.specs.Layout.{part_start, words_needed}
+use Rattle.tree.specs.Shape.{Shape, shape_for}
+use Rattle.tree.specs.Layout.{words_needed}
 use Rattle.tree.specs.Memory.{Memory, memory_of}
 use Rattle.tree.specs.Clauses.Invariant.{Sized, Sound}
 use Rattle.tree.specs.Clauses.SoundTree.{SoundTree}
@@ -25,7 +25,6 @@ use Rattle.calls.proofs.Theorem.{tall_for}
 use Rattle.steps.proofs.Limits.{allowed_most, allowed_width, short_for}
 use Rattle.player.specs.declared.Outcome.{Outcome}
 use Rattle.player.proofs.PlayLaws.{played_agrees}
-use Rattle.call_player.proofs.PlayCallLaws.{laid_for}
 use Rattle.queue.specs.Left.{list_left}
 use Rattle.queue.specs.Clauses.PlayedAll.{PlayedAll}
 use Rattle.queue.specs.Clauses.ListingCall.{ListingCall, list_from}
@@ -33,24 +32,9 @@ use Rattle.queue.proofs.PlayAll.{all_left}
 
 -- ---- the list of a played table
 
--- its parts begin at the starts that are worked out
-pub listing_tree : (p l : ℕ) (heads table : List ℕ) → ListingCall p l heads table → (h : ℕ) → h ≡ height_for p → (firsts : List ℕ)
-    → ((v : ℕ) → v ≤ 2 * processes (record { height = h; most = l }) → get_or firsts v 0 ≡ part_start (record { height = h; most = l }) v)
-    → SoundTree (shape_for p l) firsts heads table
-unfolding shape_for
-listing_tree p l heads table k h eh firsts parts =
-    record {
-      inner = tall_for p l;
-      tall = short_for p l;
-      few = (allowed_most l k.operations).1;
-      laid = laid_for p l h eh firsts heads parts k.sized.heads;
-      sized = k.sized;
-      sound = k.sound;
-    }
-
-pub listing_height : (p l h : ℕ) → h ≡ height_for p → h ≡ (shape_for p l).height
-unfolding shape_for
-listing_height p l h e = e
+pub listing_tree : (p l : ℕ) (heads table : List ℕ) → ListingCall p l heads table → SoundTree (shape_for p l) heads table
+listing_tree p l heads table k =
+    record { inner = tall_for p l; tall = short_for p l; few = (allowed_most l k.operations).1; sized = k.sized; sound = k.sound }
 
 -- the first heads and words of more are its memory
 pub listing_nodes : (p l : ℕ) (heads table : List ℕ) → ListingCall p l (take (2 * p) heads) table → 2 * p ≡ length (take (2 * p) heads)

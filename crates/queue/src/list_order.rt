@@ -12,7 +12,7 @@ use calls::Refusal;
 use order::list::write_order;
 use order::roots::{last_root, list_length};
 use refusals::before::of_call;
-use table::layout::{height_for, starts, words_needed};
+use table::layout::{Layout, Tree};
 
 // The list of the root order that a played table has, written to the output if it is not longer than that; its length
 // in bytes is returned. The first 2p heads are those of the nodes.
@@ -27,18 +27,15 @@ fn write_list(
     ensures { list_left result table.now output.new
         ≡ list_from (shape_for p l) (take (words_needed (shape_for p l)) table.now) table.now output.old }
 {
-    let height = height_for(p);
-    let most = l as usize;
-    let needed = words_needed(height, most);
-    let words = &table[..needed];
-    let firsts = starts(height, most);
-    let nodes = 2 * p as usize;
-    let last = last_root(&heads[..nodes], words, &firsts);
-    let length = list_length(words, &firsts, last);
+    let tree = Tree::new(p, l);
+    let layout = Layout::new(tree);
+    let words = &table[..tree.words_needed()];
+    let last = last_root(&heads[..2 * p as usize], words, &layout);
+    let length = list_length(words, &layout, last);
     if output.len() < length {
         return Err(Refusal::OutputShort);
     }
-    write_order(words, &firsts, height, last, output);
+    write_order(words, &layout, last, output);
     Ok(length)
 }
 

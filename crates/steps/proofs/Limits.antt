@@ -28,15 +28,7 @@ pub allowed_width : (p l : ℕ) → processes_allowed p ≡ true → processes (
 unfolding processes_allowed processes shape_for height_for
 allowed_width p l e = width_by p (eqb p 2) (eqb p 4) (eqb p 8) refl refl refl e
 
--- its height, worked out, and the words that its table must have
-pub shape_is : (p l h : ℕ) → h ≡ height_for p → record { height = h; most = l } ≡ shape_for p l
-unfolding shape_for
-shape_is p l h e = rw e
-
-pub needed_for : (p l h : ℕ) → h ≡ height_for p → words_needed (record { height = h; most = l }) ≡ words_needed (shape_for p l)
-needed_for p l h e = ap words_needed (shape_is p l h e)
-
--- it is at most 3
+-- its height is at most 3
 pub short_for : (p l : ℕ) → (shape_for p l).height ≤ 3
 unfolding shape_for height_for
 short_for p l = both (λ (x : ℕ). x ≤ 3) (eqb p 2) (omega arith) (both (λ (x : ℕ). x ≤ 3) (eqb p 4) (omega arith) (omega arith))

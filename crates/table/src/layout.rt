@@ -114,6 +114,7 @@ impl Tree {
 }
 
 // A tree, and the first word of each node's part: node v's part is from starts[v] to starts[v + 1].
+#[derive(Drop)]
 pub struct Layout {
     tree: Tree,
     starts: [usize; 17],

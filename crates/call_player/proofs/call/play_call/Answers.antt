@@ -1,49 +1,48 @@
 -- `call::play_call` meets its contract.
+use Prim.Native.Nat.{ℕ}
 use native.Mathlib.Omega.{arith}
-use mathlib.Core.Path.{sym, ◌∙◌}
-use lib.ListN.{length}
-use lib.Seq.{length-take-le}
-use Rattle.steps.proofs.Limits.{allowed_most, allowed_width}
-use Rattle.call_player.proofs.PlayCallLaws.{Measured, call_fits, call_starts, call_words, call_rest}
-use Rattle.call_player.proofs.call.play_call.Goals.{After-words_needed-needed}
+use mathlib.Core.Path.{◌≡◌, ap, sym, ◌∙◌, subst}
+use mathlib.Core.List.{List}
+use lib.ListN.{length, take, drop, replicate}
+use lib.Seq.{take_at, drop_at, length-take-le}
+use Rattle.tree.specs.Shape.{shape_for}
+use Rattle.tree.specs.Layout.{words_needed}
+use Rattle.steps.proofs.Limits.{allowed_most}
+use Rattle.player.specs.Clauses.PlayCalls.{AtStart}
+use Rattle.call_player.proofs.PlayCallLaws.{call_starts}
+use Rattle.call_player.proofs.call.play_call.Goals.{After-fill}
 use Rattle.call_player.proofs.call.play_call.Goals as goal
 
--- where the words needed are worked out
-measured : (c : After-words_needed-needed) → let a = c.args in Measured a.p a.l a.heads.now (length a.table.now) a.room (length a.out.now) c.height_for-height.result c.words_needed-needed.result
-measured c = record {
-  callable = c.requires;
-  height = c.height_for-height.ensures.0;
-  needs = c.words_needed-needed.ensures.0;
-}
+pub new-tree-requires : goal.new-tree-requires
+new-tree-requires c = (allowed_most _ c.requires.most).1
 
-pub words_needed-needed-requires : goal.words_needed-needed-requires
-words_needed-needed-requires c =
-    (c.height_for-height.ensures.2, (allowed_most _ c.requires.most).1)
+needed_is : (c : After-fill) → let a = c.args in c.words_needed-needed.result ≡ words_needed (shape_for a.p a.l)
+needed_is c = rw (← c.new-tree.ensures) c.words_needed-needed.ensures.0
 
-pub clear-requires : goal.clear-requires
-clear-requires c = call_fits (measured (goal.at.clear-requires c).After-words_needed-needed)
+part_long : (c : After-fill) → length (take c.words_needed-needed.result c.args.table.now) ≡ c.words_needed-needed.result
+part_long c = length-take-le _ _ (omega (arith, needed_is c, c.requires.enough))
 
-pub starts-firsts-requires : goal.starts-firsts-requires
-starts-firsts-requires c =
-    let k = measured (goal.at.starts-firsts-requires c).After-words_needed-needed in
-    (c.height_for-height.ensures.2, (allowed_most _ k.callable.most).1)
+-- the words needed, which are cleared
+cleared_long : (c : After-fill) → length c.fill.new.self ≡ c.words_needed-needed.result
+cleared_long c = c.fill.ensures.len ∙ part_long c
 
-pub slice_bounds-play-end : goal.slice_bounds-play-end
-slice_bounds-play-end c =
-    omega (arith, call_fits (measured (goal.at.slice_bounds-play-end c).After-words_needed-needed), c.clear.auto.table)
-
-pub slice_bounds-play-end-2 : goal.slice_bounds-play-end-2
-slice_bounds-play-end-2 c =
-    sym (length-take-le _ _ (omega (arith, call_fits (measured (goal.at.slice_bounds-play-end-2 c).After-words_needed-needed), c.clear.auto.table)))
+cleared : (c : After-fill) → let a = c.args in c.fill.new.self ≡ replicate (words_needed (shape_for a.p a.l)) 0
+cleared c = c.fill.ensures.after (λ y e. e) ∙ ap (λ (n : ℕ). replicate n 0) (part_long c ∙ needed_is c)
 
 pub play-requires : goal.play-requires
 play-requires c =
-    let k = measured (goal.at.play-requires c).After-words_needed-needed in
-    (rw c.clear.ensures (call_starts k _ _ c.starts-firsts.ensures.nodes), allowed_width _ _ k.callable.processes)
+    let a = c.args in
+    let here = (goal.at.play-requires c).After-fill in
+    let part = take_at c.fill.new.self _ c.words_needed-needed.result (cleared_long here) ∙ cleared here in
+    rw (c.new-layout.ensures ∙ c.new-tree.ensures)
+    (subst (λ (t : List ℕ). AtStart (shape_for a.p a.l) a.heads.now t a.room (length a.out.now)) (sym part) (call_starts c.requires))
 
 pub returns : goal.returns
 returns c =
-    let p = c.play in
-    let cleared = c.clear in
-    let k = measured (goal.at.returns c).After-words_needed-needed in
-    let n = p.auto.table ∙ length-take-le c.words_needed-needed.result cleared.new.table (omega (arith, call_fits k, cleared.auto.table)) in record { result = rw (call_words k _ _ n) p.ensures; rest = call_rest k p.new.table _ c.args.table.now n cleared.ensures }
+    let here = (goal.at.returns c).After-fill in
+    let played = c.play.new.table in
+    let same = cleared_long here in
+    let n = c.play.auto.table ∙ ap length (take_at c.fill.new.self _ c.words_needed-needed.result same) ∙ same ∙ needed_is here in record {
+      result = rw (take_at played _ _ n, ← (c.new-layout.ensures ∙ c.new-tree.ensures)) c.play.ensures;
+      rest = drop_at played _ _ n ∙ drop_at c.fill.new.self _ _ same ∙ ap (λ (k : ℕ). drop k c.args.table.now) (needed_is here);
+    }
