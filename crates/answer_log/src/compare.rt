@@ -43,6 +43,7 @@ pub fn equal_after(log: &[u8], n: usize, equal: usize, a: AnswerRecord) -> usize
 
 // What checking a log of so many bytes finds, when `equal` records at the beginning are those of the answers: the same
 // log, if these are all records of both. A log has whole records here, so its bytes tell how many they are.
+#[tactic(auto, unfolding(crate::specs::Clauses::Leading::verdict_of, record::specs::AnswerRecords::answer_size))]
 pub fn verdict(equal: usize, answers: usize, bytes: usize) -> calls::Verdict
     requires { 16 * answers < 18446744073709551616 }
     ensures { result ≡ verdict_of equal answers bytes }

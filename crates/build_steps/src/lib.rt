@@ -4,27 +4,28 @@
 
 ghost use Rattle.std.specs.Prelude.{true, ◌≡◌, ℕ, ◌+◌, ◌*◌, ◌-◌, ◌<◌, ◌≤◌};
 ghost use Rattle.steps.specs.Rules.{above as above_of, built, same_totals};
-ghost use Rattle.stepping.specs.Clauses.Next.{step_in, StepsByTable, Decided, GoesFromC3N, Fits};
-ghost use Rattle.tree.specs.Clauses.Access.{HasPlace, node_block, totals_of};
+ghost use Rattle.stepping.specs.Clauses.Next.{step_in, StepsByTable, Decided, GoesFromC3N};
+ghost use Rattle.tree.specs.Blocks.{block_at};
+ghost use Rattle.tree.specs.Clauses.Access.{HasPlace, totals_of};
 ghost use Rattle.steps.specs.Clauses.Ready.{Sums, Decides};
 ghost use Rattle.tree.specs.Size.{root_size};
 
 use stepping::sequence::above;
 use stepping::turn::{moved, step_in};
 use steps::{Built, Process, Step, Visit};
-use table::access::{size_at_root, totals_at};
+use table::layout::Layout;
 use tree::{Block, Totals};
 
 // C3L: the totals of the left child's block at the end that C1 found.
-pub fn step_c3l(table: &[u32], starts: &[usize; 17], q: Process) -> Process
+pub fn step_c3l(table: &[u32], layout: &Layout, q: Process) -> Process
     requires { (q.steps < 65536) × ((w : Visit) (l r : ℕ) → step_in q.status ≡ Step.C3L w l r →
-        HasPlace starts.now table.now (2 * w.node) l × Fits starts.now (Step.C3L w l r)) }
-    ensures { (number : ℕ) → StepsByTable (λ P. (w : Visit) (l r : ℕ) → P (Step.C3L w l r)) number starts.now table.now table.now q result }
+        HasPlace layout.now table.now (2 * w.node) l) }
+    ensures { (number : ℕ) → StepsByTable (λ P. (w : Visit) (l r : ℕ) → P (Step.C3L w l r)) layout.now number table.now table.now q result }
 {
     let Step::C3L { visit, left, right } = step_in(q) else {
         return q;
     };
-    let x = totals_at(table, starts, 2 * visit.node, left);
+    let x = layout.totals_at(table, 2 * visit.node, left);
     moved(
         q,
         Step::C3R {
@@ -38,10 +39,10 @@ pub fn step_c3l(table: &[u32], starts: &[usize; 17], q: Process) -> Process
 }
 
 // C3R: those of the right child's block at the end that C2 found are added.
-pub fn step_c3r(table: &[u32], starts: &[usize; 17], q: Process) -> Process
+pub fn step_c3r(table: &[u32], layout: &Layout, q: Process) -> Process
     requires { (q.steps < 65536) × ((w : Visit) (l r puts takes : ℕ) → step_in q.status ≡ Step.C3R w l r puts takes →
-        Sums starts.now table.now w r puts takes × Fits starts.now (Step.C3R w l r puts takes)) }
-    ensures { (number : ℕ) → StepsByTable (λ P. (w : Visit) (l r puts takes : ℕ) → P (Step.C3R w l r puts takes)) number starts.now table.now table.now q result }
+        Sums layout.now table.now w r puts takes) }
+    ensures { (number : ℕ) → StepsByTable (λ P. (w : Visit) (l r puts takes : ℕ) → P (Step.C3R w l r puts takes)) layout.now number table.now table.now q result }
 {
     let Step::C3R {
         visit,
@@ -53,7 +54,7 @@ pub fn step_c3r(table: &[u32], starts: &[usize; 17], q: Process) -> Process
     else {
         return q;
     };
-    let y = totals_at(table, starts, 2 * visit.node + 1, right);
+    let y = layout.totals_at(table, 2 * visit.node + 1, right);
     moved(
         q,
         Step::C3N {
@@ -82,12 +83,12 @@ fn root_size(old: Totals, size: u32, puts: u32, takes: u32) -> u32
 
 // The size of the block that C3N makes, where `old` are the totals of the block before. Below the root there is none,
 // and none is read.
-fn size_of(table: &[u32], starts: &[usize; 17], w: Visit, old: Totals, puts: u32, takes: u32) -> u32
-    requires { Decides starts.now table.now w puts takes × (old ≡ totals_of (node_block starts.now table.now w.node (w.head - 1))) }
-    ensures { (l r : ℕ) → result ≡ (built w.node (node_block starts.now table.now w.node (w.head - 1)) l r puts takes).size }
+fn size_of(table: &[u32], layout: &Layout, w: Visit, old: Totals, puts: u32, takes: u32) -> u32
+    requires { Decides layout.now table.now w puts takes × (old ≡ totals_of (block_at layout.now table.now w.node (w.head - 1))) }
+    ensures { (l r : ℕ) → result ≡ (built w.node (block_at layout.now table.now w.node (w.head - 1)) l r puts takes).size }
 {
     if w.node == 1 {
-        let size = size_at_root(table, starts, w.head - 1);
+        let size = layout.size_at_root(table, w.head - 1);
         return root_size(old, size, puts, takes);
     }
     0
@@ -102,9 +103,9 @@ fn same_totals(puts: u32, takes: u32, old: Totals) -> bool
 
 // C3N decides by the node's block before the head: whether a block with the totals in hand would add nothing to it. A
 // process at another step has none to add.
-pub fn adds_nothing(table: &[u32], starts: &[usize; 17], q: Process) -> bool
-    requires { (w : Visit) (l r puts takes : ℕ) → step_in q.status ≡ Step.C3N w l r puts takes → Decides starts.now table.now w puts takes }
-    ensures { Decided starts.now table.now q result }
+pub fn adds_nothing(table: &[u32], layout: &Layout, q: Process) -> bool
+    requires { (w : Visit) (l r puts takes : ℕ) → step_in q.status ≡ Step.C3N w l r puts takes → Decides layout.now table.now w puts takes }
+    ensures { Decided layout.now table.now q result }
 {
     let Step::C3N {
         visit,
@@ -115,7 +116,7 @@ pub fn adds_nothing(table: &[u32], starts: &[usize; 17], q: Process) -> bool
     else {
         return true;
     };
-    let old = totals_at(table, starts, visit.node, visit.head - 1);
+    let old = layout.totals_at(table, visit.node, visit.head - 1);
     same_totals(puts, takes, old)
 }
 
@@ -131,9 +132,9 @@ pub fn step_c3n_up(q: Process) -> Process
 }
 
 // C3N, where it would add something: C4 is to write it.
-pub fn step_c3n_on(table: &[u32], starts: &[usize; 17], q: Process) -> Process
-    requires { (q.steps < 65536) × ((w : Visit) (l r puts takes : ℕ) → step_in q.status ≡ Step.C3N w l r puts takes → Decides starts.now table.now w puts takes) }
-    ensures { GoesFromC3N (λ w l r puts takes. Step.C4 w (built w.node (node_block starts.now table.now w.node (w.head - 1)) l r puts takes)) q result }
+pub fn step_c3n_on(table: &[u32], layout: &Layout, q: Process) -> Process
+    requires { (q.steps < 65536) × ((w : Visit) (l r puts takes : ℕ) → step_in q.status ≡ Step.C3N w l r puts takes → Decides layout.now table.now w puts takes) }
+    ensures { GoesFromC3N (λ w l r puts takes. Step.C4 w (built w.node (block_at layout.now table.now w.node (w.head - 1)) l r puts takes)) q result }
 {
     let Step::C3N {
         visit,
@@ -145,8 +146,8 @@ pub fn step_c3n_on(table: &[u32], starts: &[usize; 17], q: Process) -> Process
     else {
         return q;
     };
-    let old = totals_at(table, starts, visit.node, visit.head - 1);
-    let size = size_of(table, starts, visit, old, puts, takes);
+    let old = layout.totals_at(table, visit.node, visit.head - 1);
+    let size = size_of(table, layout, visit, old, puts, takes);
     let new = Built {
         left,
         right,

@@ -1,5 +1,6 @@
 -- The theorem: of all runs, just those change that stopped with 6 at a begin of a process that is not idle and has
 -- begun L; they stop with 8 and leave the same. For every p, L, list of bytes, table and buffer of each call.
+use Rattle.std.specs.Prelude.{Err}
 use Rattle.std.specs.Prelude.{if◌then◌else◌}
 use Prim.Native.Nat.{ℕ, ◌*◌, ◌≤◌}
 use native.Mathlib.Omega.{arith}
@@ -17,12 +18,11 @@ use Rattle.record.specs.AnswerRecords.{answer_size}
 use Rattle.tree.specs.Shape.{Shape, processes, shape_for}
 use Rattle.steps.specs.declared.Process.{Process}
 use Rattle.steps.specs.Machine.{process_of}
-use Rattle.calls.specs.declared.Refusal.{Refusal}
 use Rattle.calls.specs.declared.Refusal.TheVariants.{BeginWhileBusy, BegunAll}
-use Rattle.calls.specs.Refusals.{refusal_number, accepted, call_refusal, record_refusal}
+use Rattle.calls.specs.Refusals.{Acceptance, paper_number, refusal_number, accepted, call_refusal, record_refusal}
 use Rattle.calls.specs.Run.{Played, refusing, play, run_played, run}
 use Rattle.calls.specs.ListOrder.{play_all, list_refusal, listed, list_played, list_order}
-use Rattle.calls.specs.CheckLog.{check_refusal, verdict_number, verdict_index, verdict_refusal, checked, verdict_on, check_played, check_log}
+use Rattle.calls.specs.CheckLog.{check_refusal, verdict_number, verdict_index, verdict_refusal, checked, check_turned_down, verdict_on, check_played, check_log}
 use Rattle.calls.proofs.Legal.{not_step, no_step, formed_low}
 use Rattle.calls.proofs.Played.{played_all, whole_machine, whole_legal}
 use Rattle.calls.proofs.Runs.{runs}
@@ -42,7 +42,7 @@ module _ (s : Shape) (tall : 1 ≤ s.height) (room : ℕ) (rs : List StepRecord)
   abbrev Told : Type 0
   Told =
       ((StoppedInLast s rs former → ⊥) × (play s room rs ≡ former))
-      ⊎ (StoppedInLast s rs former × (former.refusal ≡ BeginWhileBusy) × (play s room rs ≡ refusing former BegunAll))
+      ⊎ (StoppedInLast s rs former × (former.refusal ≡ Err BeginWhileBusy) × (play s room rs ≡ refusing former (Err BegunAll)))
 
   told_taken : accepted (play s room rs).refusal ≡ true → former ≡ play s room rs → Told
   told_taken ok e =
@@ -79,7 +79,7 @@ module _ (s : Shape) (tall : 1 ≤ s.height) (room : ℕ) (rs : List StepRecord)
           rw (whole_machine s room before on) ((runs s tall (whole_legal s room before on)).invariant.process r.process (formed_low (processes s) r formed)).within
 
       stops : Last → StoppedInLast s rs former
-      unfolding refusal_number
+      unfolding paper_number refusal_number
       stops i =
           record {
             before = before;
@@ -110,7 +110,7 @@ module _ (s : Shape) (tall : 1 ≤ s.height) (room : ℕ) (rs : List StepRecord)
           }
 
       told_refused : Told
-      unfolding refusing refusal_number
+      unfolding refusing paper_number refusal_number
       told_refused = on_tests (alike s (left s room g) q r)
         where
           on_tests : (record_refusal s (left s room g) q r ≡ former_record s (left s room g) q r) ⊎ Last → Told
@@ -131,9 +131,9 @@ module _ (s : Shape) (tall : 1 ≤ s.height) (room : ℕ) (rs : List StepRecord)
       on_ends (refused before r after list on f h) = told_refused before r after list on f h
 
 -- ---- a call with tests n of its own, by what it makes of a run, or gives where it is turned down
-module _ {R : Type 0} (numbered : ℕ → R → R) (n : Refusal) (s : Shape) (tall : 1 ≤ s.height) (room : ℕ) (rs : List StepRecord) (made : Played → R) (down : R)
-    (six : (g : Played) → g.refusal ≡ BeginWhileBusy → made g ≡ numbered 6 (made g))
-    (eight : (g : Played) → g.refusal ≡ BeginWhileBusy → made (refusing g BegunAll) ≡ numbered 8 (made g))
+module _ {R : Type 0} (numbered : ℕ → R → R) (n : Acceptance) (s : Shape) (tall : 1 ≤ s.height) (room : ℕ) (rs : List StepRecord) (made : Played → R) (down : R)
+    (six : (g : Played) → g.refusal ≡ Err BeginWhileBusy → made g ≡ numbered 6 (made g))
+    (eight : (g : Played) → g.refusal ≡ Err BeginWhileBusy → made (refusing g (Err BegunAll)) ≡ numbered 8 (made g))
   where
     abbrev gave : Bool → R
     gave b = if b then made (play_by former_record s room rs) else down
@@ -160,19 +160,19 @@ module _ (p l : ℕ) (records table : List ℕ) where
   rs = step_records records
 
   run_compared : (answers : List ℕ) → RunCompared p l records table answers
-  unfolding run run_by run_played run_numbered refusing refusal_number
+  unfolding run run_by run_played run_numbered refusing paper_number refusal_number
   run_compared answers =
       compared run_numbered (call_refusal p l (length table) (length records)) s (tall_for p l) (length answers) rs (λ g. run_played s g table answers) _
       (λ g e. rw e) (λ g e. refl)
 
   list_compared : (output : List ℕ) → ListCompared p l records table output
-  unfolding list_order list_order_by play_all play_all_by list_played list_refusal listed list_numbered refusing accepted refusal_number
+  unfolding list_order list_order_by play_all play_all_by list_played list_refusal listed list_numbered refusing accepted paper_number refusal_number
   list_compared output =
       compared list_numbered (call_refusal p l (length table) (length records)) s (tall_for p l) (answer_size * length rs) rs (λ g. list_played s g table output) _
       (λ g e. rw e) (λ g e. rw e)
 
   check_compared : (log : List ℕ) → CheckCompared p l records log table
-  unfolding check_log check_log_by play_all play_all_by check_played checked verdict_on verdict_number verdict_index verdict_refusal check_numbered refusing accepted refusal_number
+  unfolding check_log check_log_by play_all play_all_by check_played checked check_turned_down verdict_on verdict_number verdict_index verdict_refusal check_numbered refusing accepted paper_number refusal_number
   check_compared log =
       compared check_numbered (check_refusal p l (length table) (length records) (length log)) s (tall_for p l) (answer_size * length rs) rs (λ g. check_played s g log table) _
       (λ g e. rw e) (λ g e. rw e)

@@ -19,9 +19,8 @@ use Rattle.steps.specs.declared.Status.{Status}
 use Rattle.steps.specs.declared.Status.TheVariants.{Idle, Busy}
 use Rattle.steps.specs.Machine.{process_of, is_idle}
 use Rattle.steps.proofs.Overall.{inside, busy}
-use Rattle.calls.specs.declared.Refusal.{Refusal}
 use Rattle.calls.specs.declared.Refusal.TheVariants.{TableShort, AnswersFull}
-use Rattle.calls.specs.Refusals.{refusal_number, accepted, torn, first_refusal, settings_refusal, bytes_refusal, buffer_refusal, call_refusal}
+use Rattle.calls.specs.Refusals.{Acceptance, paper_number, refusal_number, accepted, torn, first_refusal, settings_refusal, bytes_refusal, buffer_refusal, call_refusal}
 use Rattle.calls.specs.Numbered.{Numbered, numbered}
 use Rattle.calls.specs.Run.{RunResult, Played, play, run_turned_down, run_played, run}
 use Rattle.calls.specs.History.{operation, begun_by, machine_after, history}
@@ -108,8 +107,8 @@ module _ (p l : ℕ) (records table answers : List ℕ) (n : ℕ) (many : length
     only_torn = rw (settings, le-ltb (length table) (words_needed s) wide)
 
     torn_fits : Fits (refusal_number (bytes_refusal (length records)))
-    unfolding bytes_refusal refusal_number
-    torn_fits = both (λ (n : Refusal). Fits (refusal_number n)) (torn step_size (length records)) refl refl
+    unfolding bytes_refusal paper_number refusal_number
+    torn_fits = both (λ (n : Acceptance). Fits (refusal_number n)) (torn step_size (length records)) refl refl
 
     run_fits : Fits e.refusal
     unfolding run_turned_down run_played
@@ -117,7 +116,7 @@ module _ (p l : ℕ) (records table answers : List ℕ) (n : ℕ) (many : length
         run_within p l records table answers (λ (e : RunResult). Fits e.refusal)
         (rw only_torn torn_fits) (λ ok. rw (begins_roomy s (tall_for p l) (length answers) rs (rw many room)) (roomy_fits s rs))
 
-    neither : (e.refusal ≢ refusal_number TableShort) × (e.refusal ≢ refusal_number AnswersFull)
+    neither : (e.refusal ≢ paper_number TableShort) × (e.refusal ≢ paper_number AnswersFull)
     neither = let z = or-false _ _ run_fits in (eqb-false _ _ z.0, eqb-false _ _ z.1)
 
   stays : accepted (settings_refusal p l) ≡ true → StaysWithin (foreseen s n) e (history s (numbered (take e.taken rs))) (length table) (length answers)

@@ -9,7 +9,7 @@ use Rattle.base.proofs.Cases.{cases}
 use Rattle.record.specs.declared.StepRecord.{StepRecord}
 use Rattle.record.specs.StepRecords.{step_size, is_begin, step_records}
 use Rattle.tree.specs.Shape.{Shape, shape_for}
-use Rattle.calls.specs.Refusals.{refusal_number, accepted, torn, settings_refusal, bytes_refusal}
+use Rattle.calls.specs.Refusals.{accepted, torn, settings_refusal, bytes_refusal}
 use Rattle.calls.specs.Run.{run}
 use Rattle.calls.specs.Numbered.{Numbered, numbered}
 use Rattle.calls.specs.History.{machine_after}
@@ -37,7 +37,7 @@ module _ (s : Shape) (tall : 1 ≤ s.height) where
       }
 
   legal_planned : {ns : List Numbered} → Legal s ns → accepted (begins_refusal s [] (begin_records (items ns))) ≡ true
-  unfolding begin_records begins_refusal accepted refusal_number
+  unfolding begin_records begins_refusal accepted
   legal_planned none = refl
   legal_planned (more {ns} n l a) =
       let before = legal_planned l in
@@ -55,7 +55,7 @@ module _ (p l : ℕ) (records table answers : List ℕ) (none : (run p l records
     (these : begin_records (step_records records) ≡ step_records bytes)
   where
     bytes_pass : accepted (bytes_refusal (length bytes)) ≡ true
-    unfolding bytes_refusal accepted refusal_number
+    unfolding bytes_refusal accepted
     bytes_pass = rw whole
 
     begins_pass : accepted (begins_refusal (shape_for p l) [] (step_records bytes)) ≡ true

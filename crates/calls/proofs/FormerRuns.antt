@@ -1,4 +1,5 @@
 -- A run by the former tests of a begin and the run of the same records: they take the same, and refuse the same record.
+use Rattle.std.specs.Prelude.{Err}
 use Prim.Native.Nat.{ℕ, ◌*◌, ◌-◌}
 use native.Mathlib.Omega.{arith}
 use mathlib.Core.Path.{◌≡◌, refl, ap, sym, ◌∙◌, subst}
@@ -15,9 +16,8 @@ use Rattle.record.specs.AnswerRecords.{answer_size}
 use Rattle.tree.specs.Shape.{Shape, processes}
 use Rattle.steps.specs.declared.Process.{Process}
 use Rattle.steps.specs.Machine.{process_of, is_idle}
-use Rattle.calls.specs.declared.Refusal.{Refusal}
 use Rattle.calls.specs.declared.Refusal.TheVariants.{BeginWhileBusy, BegunAll}
-use Rattle.calls.specs.Refusals.{refusal_number, accepted, begin_refusal, step_refusal, record_refusal}
+use Rattle.calls.specs.Refusals.{Acceptance, paper_number, refusal_number, accepted, begin_refusal, step_refusal, record_refusal}
 use Rattle.calls.specs.Run.{Played, at_start, taking, refusing, play}
 use Rattle.calls.proofs.Played.{play_taken, play_refused}
 use Rattle.calls.specs.CallsBy.{play_by}
@@ -33,11 +33,11 @@ module _ (s : Shape) (room : ℕ) (q : Process) (r : StepRecord) where
     pub busy : is_idle q.status ≡ false
     pub begun_all : leb s.most q.begun ≡ true
 
-  pub now_eight : InLast → record_refusal s room q r ≡ BegunAll
+  pub now_eight : InLast → record_refusal s room q r ≡ Err BegunAll
   unfolding record_refusal begin_refusal
   now_eight i = rw (i.formed, i.begins, i.begun_all)
 
-  pub then_six : InLast → former_record s room q r ≡ BeginWhileBusy
+  pub then_six : InLast → former_record s room q r ≡ Err BeginWhileBusy
   unfolding former_record is_begin
   then_six i = rw (i.formed, i.begins, i.busy)
 
@@ -67,7 +67,7 @@ module _ (s : Shape) (room : ℕ) (q : Process) (r : StepRecord) where
 
   -- a record that has 6 in the former order is formed
   pub six_formed : refusal_number (former_record s room q r) ≡ 6 → ill_formed (processes s) r ≡ false
-  unfolding former_record refusal_number
+  unfolding former_record paper_number refusal_number
   six_formed e = on (ill_formed (processes s) r) refl
     where
       on : (b : Bool) → ill_formed (processes s) r ≡ b → ill_formed (processes s) r ≡ false
@@ -100,17 +100,17 @@ module _ (s : Shape) (room : ℕ) where
     abbrev q : Process
     q = process_of g.machine r.process
 
-    abbrev n : Refusal
+    abbrev n : Acceptance
     n = record_refusal s (left g) q r
 
-    abbrev m : Refusal
+    abbrev m : Acceptance
     m = former_record s (left g) q r
 
     abbrev Go : Type 0
     Go = (former (before ++ (r ∷ [])) ≡ now (before ++ (r ∷ []))) × (accepted (now (before ++ (r ∷ []))).refusal ≡ true)
 
     go : accepted m ≡ true → accepted n ≡ true → Go
-    unfolding taking accepted refusal_number
+    unfolding taking accepted
     go b a =
         let f = by_taken former_record s room before r g same on b in
         let h = play_taken s room before r on a in
@@ -120,7 +120,7 @@ module _ (s : Shape) (room : ℕ) where
     stop b a = refused before r ts refl on (by_refused former_record s room before r g same on b ts) (play_refused s room before r on a ts)
 
     ends_one : Go ⊎ Ends (before ++ (r ∷ ts))
-    unfolding accepted refusal_number
+    unfolding accepted
     ends_one = on_tests (alike s (left g) q r) (accepted n) refl
       where
         on_tests : (n ≡ m) ⊎ InLast s (left g) q r → (b : Bool) → accepted n ≡ b → Go ⊎ Ends (before ++ (r ∷ ts))
@@ -134,7 +134,7 @@ module _ (s : Shape) (room : ℕ) where
       ⊎_elim (λ go. subst Ends (append_snoc before r ts) (ends_from (before ++ (r ∷ [])) ts go.0 go.1)) (λ stop. stop) (ends_one before r ts same on)
 
   pub ends : (rs : List StepRecord) → Ends rs
-  unfolding play play_by at_start accepted refusal_number
+  unfolding play play_by at_start accepted
   ends rs = ends_from [] rs refl refl
 
   -- a run without refusal meets a begin of a process that is not idle and has begun L: formerly 6, now 8
@@ -142,7 +142,7 @@ module _ (s : Shape) (room : ℕ) where
       (i : InLast s (left (now before)) (process_of (now before).machine r.process) r)
     where
       same_before : Ends before → former before ≡ now before
-      unfolding refusing accepted refusal_number
+      unfolding refusing accepted
       same_before (taken ok e) = e
       same_before (refused b x a list ok f h) =
           let q = process_of (now b).machine x.process in
@@ -150,8 +150,8 @@ module _ (s : Shape) (room : ℕ) where
           (λ j. contradiction (accepted (now before).refusal) on (ap (λ (g : Played). accepted g.refusal) h ∙ ap accepted (now_eight s (left (now b)) q x j)))
           (alike s (left (now b)) q x)
 
-      pub overlap : (former (before ++ (r ∷ ts)) ≡ refusing (now before) BeginWhileBusy) × (now (before ++ (r ∷ ts)) ≡ refusing (now before) BegunAll)
-      unfolding accepted refusal_number
+      pub overlap : (former (before ++ (r ∷ ts)) ≡ refusing (now before) (Err BeginWhileBusy)) × (now (before ++ (r ∷ ts)) ≡ refusing (now before) (Err BegunAll))
+      unfolding accepted
       overlap =
           let six = then_six s (left (now before)) (process_of (now before).machine r.process) r i in
           let eight = now_eight s (left (now before)) (process_of (now before).machine r.process) r i in (

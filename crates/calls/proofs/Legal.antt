@@ -7,7 +7,7 @@ use mathlib.Core.Bool.{Bool, true, false, not, ◌&&◌, ◌||◌, true≢false,
 use mathlib.Core.List.{List, [], ◌∷◌, ◌++◌}
 use lib.ListN.{length}
 use lib.Dec.{ltb, leb, eqb}
-use borrow.Author.Tests.{leb-false, ltb-false, not-true}
+use borrow.Author.Tests.{leb-false, ltb-false, not-true, not-false}
 use Rattle.base.proofs.Cases.{cases, or-false}
 use Rattle.record.specs.declared.StepRecord.{StepRecord}
 use Rattle.record.specs.declared.AnswerRecord.{AnswerRecord}
@@ -18,9 +18,8 @@ use Rattle.steps.specs.declared.Process.{Process}
 use Rattle.steps.specs.declared.Status.{Status}
 use Rattle.steps.specs.declared.Status.TheVariants.{Idle, Busy}
 use Rattle.steps.specs.Machine.{Machine, process_of, is_idle, is_q, at_q}
-use Rattle.calls.specs.declared.Refusal.TheVariants.{IllFormed, StepWhileIdle, AnswersFull}
 use Rattle.calls.specs.Answer.{answers_from, answers_of}
-use Rattle.calls.specs.Refusals.{refusal_number, accepted, begin_refusal, step_refusal, record_refusal}
+use Rattle.calls.specs.Refusals.{accepted, begin_refusal, step_refusal, record_refusal}
 use Rattle.calls.specs.Numbered.{Numbered}
 use Rattle.calls.specs.Run.{record_answers}
 use Rattle.calls.specs.History.{machine_after}
@@ -64,26 +63,23 @@ not_begin r e = rw e
 
 -- the tests of a begin, of a step and of a record, all failed
 begin_passed : (l : ℕ) (q : Process) → accepted (begin_refusal l q) ≡ true → (is_idle q.status ≡ true) × (q.begun < l)
-unfolding begin_refusal accepted refusal_number
-begin_passed l q h = on (is_idle q.status) refl (leb l q.begun) refl
-  where
-    on : (i : Bool) → is_idle q.status ≡ i → (b : Bool) → leb l q.begun ≡ b → (is_idle q.status ≡ true) × (q.begun < l)
-    on true z false w = (z, leb-false l q.begun w)
-    on true z true w = absurd (false≢true (simp (z, w) at h))
-    on false z true w = absurd (false≢true (simp (z, w) at h))
-    on false z false w = absurd (false≢true (simp (z, w) at h))
+unfolding begin_refusal
+begin_passed l q h =
+    let a = passed (leb l q.begun) _ _ h in
+    let b = passed (not (is_idle q.status)) _ _ a.1 in
+    (not-false (is_idle q.status) b.0, leb-false l q.begun a.0)
 
 step_passed : (room : ℕ) (q : Process) → accepted (step_refusal room q) ≡ true → (is_idle q.status ≡ false) × (at_q q.status && ltb room answer_size ≡ false)
-unfolding step_refusal accepted refusal_number
+unfolding step_refusal
 step_passed room q h =
-    let a = passed (is_idle q.status) StepWhileIdle _ refl h in
-    let b = passed (at_q q.status && ltb room answer_size) AnswersFull _ refl a.1 in
+    let a = passed (is_idle q.status) _ _ h in
+    let b = passed (at_q q.status && ltb room answer_size) _ _ a.1 in
     (a.0, b.0)
 
 record_passed : (s : Shape) (room : ℕ) (q : Process) (r : StepRecord) → accepted (record_refusal s room q r) ≡ true
     → (ill_formed (processes s) r ≡ false) × (accepted (if is_step r then step_refusal room q else begin_refusal s.most q) ≡ true)
-unfolding record_refusal accepted refusal_number
-record_passed s room q r h = passed (ill_formed (processes s) r) IllFormed _ refl h
+unfolding record_refusal
+record_passed s room q r h = passed (ill_formed (processes s) r) _ _ h
 
 pub formed_low : (p : ℕ) (r : StepRecord) → ill_formed p r ≡ false → r.process < p
 unfolding ill_formed

@@ -13,8 +13,7 @@ use Rattle.tree.specs.Shape.{Shape, processes, shape_for}
 use Rattle.tree.specs.Layout.{words_needed}
 use Rattle.order.specs.OrderList.{order_list}
 use Rattle.steps.proofs.Limits.{allowed_width}
-use Rattle.calls.specs.declared.Refusal.{Refusal}
-use Rattle.calls.specs.Refusals.{refusal_number, accepted, call_refusal}
+use Rattle.calls.specs.Refusals.{Acceptance, refusal_number, accepted, call_refusal}
 use Rattle.calls.specs.Run.{Played}
 use Rattle.calls.specs.ListOrder.{play_all, list_refusal, listed, list_played, list_order}
 use Rattle.calls.proofs.Acceptance.{zero_accepted}
@@ -23,7 +22,7 @@ use Rattle.calls.proofs.Theorem.{tall_for}
 use Rattle.calls.proofs.PlayedRecords.{played_few}
 
 -- where the output is long enough, what is listed is told by the refusal of the records
-listed_as : (n : Refusal) (list table output : List ℕ) → length list ≤ length output → listed (list_refusal n (length list) (length output)) list table output ≡ listed n list table output
+listed_as : (n : Acceptance) (list table output : List ℕ) → length list ≤ length output → listed (list_refusal n (length list) (length output)) list table output ≡ listed n list table output
 unfolding list_refusal listed refusal_number accepted
 listed_as n list table output h = on (accepted n) refl
   where

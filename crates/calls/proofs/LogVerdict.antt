@@ -1,5 +1,7 @@
 -- The verdict of check a log tells exactly whether a log is that of the rules, and if not, at which record they first
 -- differ.
+use Rattle.std.specs.Prelude.{Ok, Err}
+use Rattle.std.specs.Result.{result_and}
 use Prim.Native.Nat.{ℕ, zero, suc, ◌+◌, ◌*◌, ◌/◌, ◌%◌, ◌≤◌, ◌<◌}
 use native.Mathlib.Omega.{arith}
 use native.Mathlib.Nat.{add-zero, zero-add}
@@ -18,14 +20,13 @@ use Rattle.record.specs.StepRecords.{step_records}
 use Rattle.record.specs.AnswerRecords.{answer_size, bytes_of_answer, log_bytes}
 use Rattle.record.proofs.Lengths.{answer_length}
 use Rattle.encoding.proofs.Numbers.{inner_part}
-use Rattle.calls.specs.declared.Refusal.{Refusal}
 use Rattle.calls.specs.declared.Verdict.{Verdict}
-use Rattle.calls.specs.declared.Verdict.TheVariants.{Same, Differs, Refused}
-use Rattle.calls.specs.Refusals.{accepted, torn}
+use Rattle.calls.specs.declared.Verdict.TheVariants.{Same, Differs}
+use Rattle.calls.specs.Refusals.{Acceptance, accepted, torn}
 use Rattle.tree.specs.Shape.{shape_for}
 use Rattle.calls.specs.Run.{Played}
 use Rattle.calls.specs.ListOrder.{play_all}
-use Rattle.calls.specs.CheckLog.{CheckResult, same_bytes, compared, verdict_number, verdict_index, check_refusal, checked, verdict_on, check_played, check_log}
+use Rattle.calls.specs.CheckLog.{CheckResult, same_bytes, compared, verdict_number, verdict_index, check_refusal, checked, check_turned_down, verdict_on, check_played, check_log}
 use Rattle.calls.specs.LogVerdict.{log_of_rules, NoRefusal, record_at, DifferFirst, Judges}
 use Rattle.calls.proofs.SameBytes.{same_equal, itself_same}
 use Rattle.calls.proofs.Acceptance.{accepted_zero, zero_accepted}
@@ -137,7 +138,7 @@ module _ (p l words : ℕ) (records log : List ℕ) where
   abbrev own : List ℕ
   own = log_of_rules p l records
 
-  judges_compared : (v : Verdict) → NoRefusal p l words records log → Compared 0 own log v → Judges p l words records log (verdict_number v) (verdict_index v)
+  judges_compared : (v : Verdict) → NoRefusal p l words records log → Compared 0 own log v → Judges p l words records log (verdict_number (Ok v)) (verdict_index (Ok v))
   unfolding verdict_number verdict_index
   judges_compared v none (inl (e, q)) =
       rw e
@@ -156,16 +157,15 @@ module _ (p l words : ℕ) (records log : List ℕ) where
             );
       }
 
-  judges_refused : (n : Refusal) → (NoRefusal p l words records log → ⊥) → Judges p l words records log (verdict_number (Refused n)) (verdict_index (Refused n))
-  unfolding verdict_number verdict_index
-  judges_refused n some =
+  judges_refused : (NoRefusal p l words records log → ⊥) → Judges p l words records log 2 0
+  judges_refused some =
       record {
         same = (λ z. absurd (omega (arith, z)), λ z. absurd (some z.0));
         differs = λ i. (λ z. absurd (omega (arith, z.0)), λ z. absurd (some z.0));
       }
 
 module _ (p l : ℕ) (records log table : List ℕ) where
-  abbrev call : Refusal
+  abbrev call : Acceptance
   call = check_refusal p l (length table) (length records) (length log)
 
   abbrev all : Played
@@ -177,18 +177,25 @@ module _ (p l : ℕ) (records log table : List ℕ) where
       omega (arith, eqb-true (length log % answer_size) 0 (not-false (eqb (length log % answer_size) 0) (check_whole p l (length table) (length records) (length log) ok)))
 
   judges_played : accepted call ≡ true → Judges p l (length table) records log (verdict_number (verdict_on all log)) (verdict_index (verdict_on all log))
-  unfolding verdict_on log_of_rules
-  judges_played ok =
-      cases (λ (v : Verdict). Judges p l (length table) records log (verdict_number v) (verdict_index v)) (accepted all.refusal)
-      (λ done.
-      judges_compared p l (length table) records log (compared 0 (map bytes_of_answer all.answers) (cut answer_size (length log / answer_size) log))
-      (record { call = zero_accepted call ok; list = zero_accepted all.refusal done })
-      (compared_as 0 all.answers (length log / answer_size) log (whole ok)))
-      (λ some. judges_refused p l (length table) records log all.refusal (λ none. contradiction (accepted all.refusal) (accepted_zero all.refusal none.list) some))
+  unfolding verdict_on verdict_number verdict_index log_of_rules accepted
+  judges_played ok = on all.refusal refl
+    where
+      found : Verdict
+      found = compared 0 (map bytes_of_answer all.answers) (cut answer_size (length log / answer_size) log)
+
+      on : (n : Acceptance) → all.refusal ≡ n
+          → Judges p l (length table) records log (verdict_number (result_and n (Ok found))) (verdict_index (result_and n (Ok found)))
+      on (Ok x) e =
+          judges_compared p l (length table) records log found
+          (record { call = zero_accepted call ok; list = zero_accepted all.refusal (ap accepted e) })
+          (compared_as 0 all.answers (length log / answer_size) log (whole ok))
+      on (Err n) e =
+          judges_refused p l (length table) records log
+          (λ none. contradiction (accepted all.refusal) (accepted_zero all.refusal none.list) (ap accepted e))
 
   pub check_judges : Judges p l (length table) records log (check_log p l records log table).verdict (check_log p l records log table).index
-  unfolding check_log check_played checked
+  unfolding check_log check_played checked check_turned_down
   check_judges =
       cases (λ (e : CheckResult). Judges p l (length table) records log e.verdict e.index) (accepted call)
       (λ ok. judges_played ok)
-      (λ down. judges_refused p l (length table) records log call (λ none. contradiction (accepted call) (accepted_zero call none.call) down))
+      (λ down. judges_refused p l (length table) records log (λ none. contradiction (accepted call) (accepted_zero call none.call) down))

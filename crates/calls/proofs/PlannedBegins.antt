@@ -1,6 +1,6 @@
 -- A list of begin records in which the forecast refuses nothing: all are begins of processes below p, and no process
 -- has more than L.
-use Rattle.std.specs.Prelude.{if◌then◌else◌}
+use Rattle.std.specs.Prelude.{Ok, if◌then◌else◌}
 use Prim.Native.Nat.{ℕ, ◌+◌, ◌*◌, ◌≤◌, ◌<◌}
 use native.Mathlib.Omega.{arith}
 use mathlib.Core.Path.{◌≡◌, refl, ap}
@@ -14,8 +14,7 @@ use Rattle.base.specs.Members.{All}
 use Rattle.record.specs.declared.StepRecord.{StepRecord}
 use Rattle.record.specs.StepRecords.{is_step, is_begin, ill_formed, step_records}
 use Rattle.tree.specs.Shape.{Shape, processes, shape_for}
-use Rattle.calls.specs.declared.Refusal.TheVariants.{None, IllFormed, BegunAll, StepAmongBegins}
-use Rattle.calls.specs.Refusals.{refusal_number, accepted, first_refusal, settings_refusal, bytes_refusal}
+use Rattle.calls.specs.Refusals.{accepted, first_refusal, settings_refusal, bytes_refusal}
 use Rattle.calls.specs.Forecast.{begins, planned_refusal, begins_refusal, forecast_refusal}
 use Rattle.calls.proofs.Acceptance.{passed, both_accepted, first_accepted}
 use Rattle.calls.proofs.Legal.{not_step, no_step, formed_low}
@@ -29,15 +28,15 @@ pub record Planned (s : Shape) (begun : ℕ) (r : StepRecord) : Type 0 where
   pub fewer : begun < s.most
 
 pub planned : (s : Shape) (begun : ℕ) (r : StepRecord) → accepted (planned_refusal s begun r) ≡ true → Planned s begun r
-unfolding planned_refusal accepted refusal_number
+unfolding planned_refusal
 planned s begun r ok =
-    let a = passed (ill_formed (processes s) r) IllFormed _ refl ok in
-    let b = passed (is_step r) StepAmongBegins _ refl a.1 in
-    let c = passed (leb s.most begun) BegunAll None refl b.1 in
+    let a = passed (ill_formed (processes s) r) _ _ ok in
+    let b = passed (is_step r) _ _ a.1 in
+    let c = passed (leb s.most begun) _ _ b.1 in
     record { formed = a.0; begins = not_step r b.0; fewer = leb-false s.most begun c.0 }
 
 pub plan : (s : Shape) (begun : ℕ) (r : StepRecord) → Planned s begun r → accepted (planned_refusal s begun r) ≡ true
-unfolding planned_refusal accepted refusal_number
+unfolding planned_refusal accepted
 plan s begun r p = rw (p.formed, no_step r p.begins, lt-leb s.most begun p.fewer)
 
 module _ (s : Shape) where
@@ -84,7 +83,7 @@ module _ (s : Shape) where
   pub planned_snoc : (before rs : List StepRecord) (r : StepRecord) → accepted (begins_refusal s before rs) ≡ true
       → accepted (planned_refusal s (begins r.process (before ++ rs)) r) ≡ true → accepted (begins_refusal s before (rs ++ (r ∷ []))) ≡ true
   unfolding begins_refusal
-  planned_snoc before [] r ok more = first_accepted (planned_refusal s (begins r.process before) r) None (rw (append-nil before) at more) ok
+  planned_snoc before [] r ok more = first_accepted (planned_refusal s (begins r.process before) r) (Ok tt) (rw (append-nil before) at more) ok
   planned_snoc before (q ∷ rs) r ok more =
       let z = both_accepted (planned_refusal s (begins q.process before) q) (begins_refusal s (before ++ (q ∷ [])) rs) ok in
       first_accepted (planned_refusal s (begins q.process before) q) _ z.0

@@ -14,8 +14,7 @@ use Rattle.record.specs.StepRecords.{is_step}
 use Rattle.record.specs.AnswerRecords.{answer_size}
 use Rattle.tree.specs.Shape.{Shape}
 use Rattle.steps.specs.Machine.{Machine, process_of, with_process, begin}
-use Rattle.calls.specs.declared.Refusal.{Refusal}
-use Rattle.calls.specs.Refusals.{accepted, record_refusal}
+use Rattle.calls.specs.Refusals.{Acceptance, accepted, record_refusal}
 use Rattle.calls.specs.Numbered.{next_after, numbered_after, numbered}
 use Rattle.calls.specs.Run.{take_record, Played, at_start, taking, refusing, play_record, play}
 use Rattle.calls.specs.History.{course_start, course_after, machine_after}
@@ -54,7 +53,7 @@ module _ (s : Shape) (room : ℕ) where
       }
 
   -- where the run is over, or ends, the record is one of the rest
-  tracks_rest : (rs : List StepRecord) (g : Played) (n : Refusal) (r : StepRecord) → Tracks s room rs g → accepted n ≡ false → Tracks s room (rs ++ (r ∷ [])) (refusing g n)
+  tracks_rest : (rs : List StepRecord) (g : Played) (n : Acceptance) (r : StepRecord) → Tracks s room rs g → accepted n ≡ false → Tracks s room (rs ++ (r ∷ [])) (refusing g n)
   unfolding refusing
   tracks_rest rs g n r t e =
       record {
@@ -161,7 +160,7 @@ module _ (s : Shape) (room : ℕ) where
     abbrev g : Played
     g = play s room rs
 
-    abbrev met : Refusal
+    abbrev met : Acceptance
     met = record_refusal s (room - answer_size * length g.answers) (process_of g.machine r.process) r
 
     pub play_taken : accepted met ≡ true → play s room (rs ++ (r ∷ [])) ≡ taking s g r
@@ -181,7 +180,7 @@ pub begin_memory : (s : Shape) (room : ℕ) (g : Played) (r : StepRecord) → is
 unfolding play_record taking refusing take_record begin with_process
 begin_memory s room g r z = on (not (accepted g.refusal)) (accepted n)
   where
-    n : Refusal
+    n : Acceptance
     n = record_refusal s (room - answer_size * length g.answers) (process_of g.machine r.process) r
 
     on : (a b : Bool) → (if a then g else (if b then taking s g r else refusing g n)).machine.memory ≡ g.machine.memory

@@ -15,8 +15,7 @@ use Rattle.record.proofs.Cuts.{records_length, records_append}
 use Rattle.tree.specs.Shape.{Shape, shape_for}
 use Rattle.tree.specs.Layout.{words_needed}
 use Rattle.steps.specs.Machine.{process_of}
-use Rattle.calls.specs.declared.Refusal.{Refusal}
-use Rattle.calls.specs.Refusals.{refusal_number, accepted, torn, settings_refusal, bytes_refusal, buffer_refusal, call_refusal, record_refusal}
+use Rattle.calls.specs.Refusals.{Acceptance, accepted, torn, settings_refusal, bytes_refusal, buffer_refusal, call_refusal, record_refusal}
 use Rattle.calls.specs.Run.{Played, at_start, taking, refusing, play, RunResult, run_played, run}
 use Rattle.calls.specs.FormerOrder.{run_numbered}
 use Rattle.calls.proofs.Acceptance.{zero_accepted, first_accepted}
@@ -44,11 +43,11 @@ module _ (s : Shape) (room : ℕ) (table answers : List ℕ) where
   Leaves l = left (play s room (take (play s room l).taken l)) ≡ run_numbered 0 (left (play s room l))
 
   module _ (us : List StepRecord) (r : StepRecord) (rs : List StepRecord) (on : accepted (play s room us).refusal ≡ true) where
-    abbrev met : Refusal
+    abbrev met : Acceptance
     met = record_refusal s (room - answer_size * length (play s room us).answers) (process_of (play s room us).machine r.process) r
 
     goes_on : (accepted (play s room (us ++ (r ∷ []))).refusal ≡ true → Leaves ((us ++ (r ∷ [])) ++ rs)) → Leaves (us ++ (r ∷ rs))
-    unfolding refusing taking accepted refusal_number run_played run_numbered
+    unfolding refusing taking accepted run_played run_numbered
     goes_on next = by (accepted met) refl
       where
         by : (b : Bool) → accepted met ≡ b → Leaves (us ++ (r ∷ rs))
@@ -63,7 +62,7 @@ module _ (s : Shape) (room : ℕ) (table answers : List ℕ) where
   from us (r ∷ rs) on = goes_on us r rs on (from (us ++ (r ∷ [])) rs)
 
   pub leaves_taken : (rs : List StepRecord) → Leaves rs
-  unfolding play at_start accepted refusal_number
+  unfolding play at_start accepted
   leaves_taken rs = from [] rs refl
 
 -- the bytes of the first n records
@@ -90,7 +89,7 @@ module _ (p l : ℕ) (records table answers : List ℕ) (ok : accepted (call_ref
   within = omega (arith, played_length (shape_for p l) (length answers) (step_records records), length-take g.taken (step_records records), records_length records)
 
   fits : accepted (call_refusal p l (length table) (length (take (8 * g.taken) records))) ≡ true
-  unfolding call_refusal buffer_refusal bytes_refusal torn step_size accepted refusal_number
+  unfolding call_refusal buffer_refusal bytes_refusal torn step_size accepted
   fits =
       let whole : length (take (8 * g.taken) records) % 8 ≡ 0 = omega (arith, length-take-le (8 * g.taken) records within) in
       first_accepted (settings_refusal p l) _ (accepted_settings p l (length table) (length records) ok)

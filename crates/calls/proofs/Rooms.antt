@@ -21,9 +21,8 @@ use Rattle.steps.specs.declared.Status.{Status}
 use Rattle.steps.specs.declared.Status.TheVariants.{Idle, Busy}
 use Rattle.steps.specs.Machine.{Machine, process_of, is_idle, at_q}
 use Rattle.steps.proofs.Overall.{inside}
-use Rattle.calls.specs.declared.Refusal.{Refusal}
 use Rattle.calls.specs.declared.Refusal.TheVariants.{TableShort, AnswersFull}
-use Rattle.calls.specs.Refusals.{refusal_number, accepted, begin_refusal, step_refusal, record_refusal}
+use Rattle.calls.specs.Refusals.{Acceptance, paper_number, refusal_number, accepted, begin_refusal, step_refusal, record_refusal}
 use Rattle.calls.specs.Numbered.{numbered}
 use Rattle.calls.specs.Run.{Played, at_start, taking, refusing, play_record, play}
 use Rattle.calls.specs.ListOrder.{play_all}
@@ -66,13 +65,13 @@ record_roomy s room q r h = on (ill_formed (processes s) r) refl
 
 -- a refusal's number is neither 3 nor 9
 abbrev pub Fits : ℕ → Type 0
-Fits x = eqb x (refusal_number TableShort) || eqb x (refusal_number AnswersFull) ≡ false
+Fits x = eqb x (paper_number TableShort) || eqb x (paper_number AnswersFull) ≡ false
 
-abbrev Roomy : Refusal → Type 0
+abbrev Roomy : Acceptance → Type 0
 Roomy n = Fits (refusal_number n)
 
 record_fits : (s : Shape) (q : Process) (r : StepRecord) → Roomy (record_refusal s answer_size q r)
-unfolding record_refusal step_refusal begin_refusal refusal_number
+unfolding record_refusal step_refusal begin_refusal paper_number refusal_number
 record_fits s q r =
     both Roomy (ill_formed (processes s) r) refl
     (both Roomy (is_step r) (both Roomy (is_idle q.status) refl (rw (not_full answer_size q.status (λ e. le_refl answer_size)) refl))
@@ -162,7 +161,7 @@ module _ (s : Shape) (tall : 1 ≤ s.height) (rs : List StepRecord) where
 -- ---- and it never lacks room
 module _ (s : Shape) where
   fits_on : (rs : List StepRecord) (g : Played) → Roomy g.refusal → Roomy (foldl (play_record_by roomy_tests s 0) g rs).refusal
-  unfolding play_record_by taking refusing refusal_number
+  unfolding play_record_by taking refusing paper_number refusal_number
   fits_on [] g h = h
   fits_on (r ∷ rs) g h =
       fits_on rs (play_record_by roomy_tests s 0 g r)
@@ -170,7 +169,7 @@ module _ (s : Shape) where
       (both (λ (x : Played). Roomy x.refusal) (accepted (record_refusal s answer_size (process_of g.machine r.process) r)) refl (record_fits s (process_of g.machine r.process) r)))
 
   pub roomy_fits : (rs : List StepRecord) → Fits (refusal_number (play_roomy s rs).refusal)
-  unfolding play_by at_start refusal_number
+  unfolding play_by at_start paper_number refusal_number
   roomy_fits rs = fits_on rs (at_start s) refl
 
 -- so list the order and check a log refuse no record with 9

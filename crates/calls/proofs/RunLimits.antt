@@ -13,8 +13,7 @@ use Rattle.record.specs.AnswerRecords.{answer_size}
 use Rattle.tree.specs.Shape.{Shape, processes, shape_for}
 use Rattle.tree.proofs.Places.{processes_most}
 use Rattle.steps.proofs.Limits.{allowed_width}
-use Rattle.calls.specs.declared.Refusal.{Refusal}
-use Rattle.calls.specs.Refusals.{accepted, call_refusal}
+use Rattle.calls.specs.Refusals.{Acceptance, accepted, call_refusal}
 use Rattle.calls.specs.Numbered.{numbered}
 use Rattle.calls.specs.Run.{RunResult, Played, play, run_turned_down, run_played, run}
 use Rattle.calls.specs.ListOrder.{play_all}
@@ -79,7 +78,7 @@ module _ (p l : ℕ) (records table answers : List ℕ) where
   abbrev s : Shape
   s = shape_for p l
 
-  abbrev n : Refusal
+  abbrev n : Acceptance
   n = call_refusal p l (length table) (length records)
 
   -- what holds of a call turned down, and of the records played

@@ -8,8 +8,7 @@ use Rattle.record.specs.declared.StepRecord.{StepRecord}
 use Rattle.record.specs.AnswerRecords.{answer_size}
 use Rattle.tree.specs.Shape.{Shape}
 use Rattle.steps.specs.Machine.{process_of}
-use Rattle.calls.specs.declared.Refusal.{Refusal}
-use Rattle.calls.specs.Refusals.{accepted, record_refusal}
+use Rattle.calls.specs.Refusals.{Acceptance, accepted, record_refusal}
 use Rattle.calls.specs.Run.{Played, at_start, taking, refusing, play_record, play, run}
 use Rattle.calls.specs.ListOrder.{play_all, list_order}
 use Rattle.calls.specs.CheckLog.{check_log}
@@ -42,7 +41,7 @@ module _ (tests : Tests) (s : Shape) (room : ℕ) where
 
   -- a run that is not over meets a record
   module _ (rs : List StepRecord) (r : StepRecord) (g : Played) (is : play_by tests s room rs ≡ g) (on : accepted g.refusal ≡ true) where
-    abbrev met : Refusal
+    abbrev met : Acceptance
     met = tests s (room - answer_size * length g.answers) (process_of g.machine r.process) r
 
     pub by_taken : accepted met ≡ true → play_by tests s room (rs ++ (r ∷ [])) ≡ taking s g r

@@ -8,8 +8,7 @@ use lib.Seq.{take_at}
 use Rattle.record.specs.StepRecords.{step_records}
 use Rattle.tree.specs.Layout.{words_needed}
 use Rattle.tree.specs.Order.{root_order}
-use Rattle.calls.specs.declared.Refusal.{Refusal}
-use Rattle.calls.specs.Refusals.{refusal_number, accepted, call_refusal}
+use Rattle.calls.specs.Refusals.{Acceptance, refusal_number, accepted, call_refusal}
 use Rattle.tree.specs.Shape.{shape_for}
 use Rattle.calls.specs.Run.{RunResult, Played, play, run_played, run_turned_down, run}
 use Rattle.calls.specs.ListOrder.{ListResult, play_all, list_refusal, listed, list_played, list_order}
@@ -20,7 +19,7 @@ use Rattle.calls.proofs.Theorem.{run_down, run_is, table_is}
 
 -- ---- Run on some bytes, without refusal
 module _ (p l : ℕ) (records table answers : List ℕ) where
-  abbrev n : Refusal
+  abbrev n : Acceptance
   n = call_refusal p l (length table) (length records)
 
   abbrev g : Played
@@ -47,7 +46,7 @@ module _ (p l : ℕ) (records table answers : List ℕ) where
 
 -- ---- list the order on some bytes, without refusal
 module _ (p l : ℕ) (records table output : List ℕ) where
-  abbrev listing : Refusal
+  abbrev listing : Acceptance
   listing = call_refusal p l (length table) (length records)
 
   abbrev all : Played

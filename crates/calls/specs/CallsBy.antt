@@ -7,16 +7,14 @@ use Rattle.record.specs.AnswerRecords.{answer_size}
 use Rattle.tree.specs.Shape.{Shape, shape_for}
 use Rattle.steps.specs.declared.Process.{Process}
 use Rattle.steps.specs.Machine.{process_of}
-use Rattle.calls.specs.declared.Refusal.{Refusal}
-use Rattle.calls.specs.declared.Verdict.TheVariants.{Refused}
-use Rattle.calls.specs.Refusals.{accepted, call_refusal}
+use Rattle.calls.specs.Refusals.{Acceptance, accepted, call_refusal}
 use Rattle.calls.specs.Run.{Played, at_start, taking, refusing, RunResult, run_played, run_turned_down}
 use Rattle.calls.specs.ListOrder.{ListResult, listed, list_played}
-use Rattle.calls.specs.CheckLog.{CheckResult, check_refusal, checked, check_played}
+use Rattle.calls.specs.CheckLog.{CheckResult, check_refusal, check_turned_down, check_played}
 
 -- what refuses a record, where there are so many answer bytes left, by its process
 abbrev pub Tests : Type 0
-Tests = Shape → ℕ → Process → StepRecord → Refusal
+Tests = Shape → ℕ → Process → StepRecord → Acceptance
 
 unfoldable pub play_record_by : Tests → Shape → ℕ → Played → StepRecord → Played
 play_record_by tests s room g r =
@@ -45,4 +43,4 @@ unfoldable pub check_log_by : Tests → ℕ → ℕ → List ℕ → List ℕ �
 check_log_by tests p l records log table =
     let n = check_refusal p l (length table) (length records) (length log) in
     let s = shape_for p l in
-    if accepted n then check_played s (play_all_by tests s (step_records records)) log table else checked (Refused n) table
+    if accepted n then check_played s (play_all_by tests s (step_records records)) log table else check_turned_down n table

@@ -1,14 +1,13 @@
 -- Forecast: what a list of begin records, one for each operation, will need, before it runs.
-use Rattle.std.specs.Prelude.{ℕ, suc, ◌+◌, ◌*◌, ◌≤◌, ◌≡◌, ◌≢◌, true, ◌&&◌, List, [], ◌∷◌, ◌++◌, length, take, leb, eqb, if◌then◌else◌}
+use Rattle.std.specs.Prelude.{ℕ, suc, ◌+◌, ◌*◌, ◌≤◌, ◌≡◌, ◌≢◌, true, ◌&&◌, List, [], ◌∷◌, ◌++◌, length, take, leb, eqb, Ok, Err, if◌then◌else◌}
 use Rattle.record.specs.declared.StepRecord.{StepRecord}
 use Rattle.record.specs.StepRecords.{is_step, is_begin, ill_formed, step_records}
 use Rattle.record.specs.AnswerRecords.{answer_size}
 use Rattle.tree.specs.Shape.{Shape, processes, shape_for}
 use Rattle.tree.specs.Layout.{words_needed}
 use Rattle.tree.specs.Order.{OpId}
-use Rattle.calls.specs.declared.Refusal.{Refusal}
-use Rattle.calls.specs.declared.Refusal.TheVariants.{None, TableShort, IllFormed, BegunAll, AnswersFull, StepAmongBegins}
-use Rattle.calls.specs.Refusals.{refusal_number, accepted, first_refusal, settings_refusal, bytes_refusal}
+use Rattle.calls.specs.declared.Refusal.TheVariants.{TableShort, IllFormed, BegunAll, AnswersFull, StepAmongBegins}
+use Rattle.calls.specs.Refusals.{Acceptance, paper_number, refusal_number, accepted, first_refusal, settings_refusal, bytes_refusal}
 use Rattle.calls.specs.Numbered.{numbered}
 use Rattle.calls.specs.Run.{RunResult, run}
 use Rattle.calls.specs.History.{Event, history, is_opened, is_finished}
@@ -26,22 +25,22 @@ begins k [] = 0
 begins k (r ∷ rs) = let n = begins k rs in if is_begin r && eqb r.process k then suc n else n
 
 -- a record whose process begins so many operations before it: 5; 12 kind 0; 8
-unfoldable pub planned_refusal : Shape → ℕ → StepRecord → Refusal
+unfoldable pub planned_refusal : Shape → ℕ → StepRecord → Acceptance
 planned_refusal s begun r =
-    if ill_formed (processes s) r then IllFormed
-    else (if is_step r then StepAmongBegins
-    else (if leb s.most begun then BegunAll
-    else None))
+    if ill_formed (processes s) r then Err IllFormed
+    else (if is_step r then Err StepAmongBegins
+    else (if leb s.most begun then Err BegunAll
+    else Ok tt))
 
 -- records that follow others, one by one: the first refusal
-unfoldable pub begins_refusal : Shape → List StepRecord → List StepRecord → Refusal
-begins_refusal s before [] = None
+unfoldable pub begins_refusal : Shape → List StepRecord → List StepRecord → Acceptance
+begins_refusal s before [] = Ok tt
 begins_refusal s before (r ∷ rs) =
     let later = begins_refusal s (before ++ (r ∷ [])) rs in
     first_refusal (planned_refusal s (begins r.process before) r) later
 
 -- the call: 1, 2, 4; then its records
-unfoldable pub forecast_refusal : ℕ → ℕ → List ℕ → Refusal
+unfoldable pub forecast_refusal : ℕ → ℕ → List ℕ → Acceptance
 forecast_refusal p l bytes =
     first_refusal (first_refusal (settings_refusal p l) (bytes_refusal (length bytes))) (begins_refusal (shape_for p l) [] (step_records bytes))
 
@@ -84,7 +83,7 @@ pub record StaysWithin (f : ForecastResult) (e : RunResult) (h : List Event) (wo
   -- if nothing is refused and all operations finish, the answer bytes are exact
   pub exact : e.refusal ≡ 0 → AllFinish h → answer_size * e.answered ≡ f.answer_bytes
   -- a table and a buffer of the sizes foreseen are not too short: neither 3 nor 9
-  pub enough : f.words ≤ words → f.answer_bytes ≤ room → (e.refusal ≢ refusal_number TableShort) × (e.refusal ≢ refusal_number AnswersFull)
+  pub enough : f.words ≤ words → f.answer_bytes ≤ room → (e.refusal ≢ paper_number TableShort) × (e.refusal ≢ paper_number AnswersFull)
 
 -- of a forecast without refusal: every list with these begins in this order, whatever table and buffer it is lent, and
 -- whether or not a record is refused

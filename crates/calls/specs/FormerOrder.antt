@@ -1,29 +1,28 @@
 -- The tests of a record in their former order, 6 before 8, and what is claimed: which answers of the calls the new
 -- order changes, and to what. Only that theorem names the former order.
-use Rattle.std.specs.Prelude.{ℕ, ◌≡◌, true, false, not, ◌&&◌, List, ◌∷◌, ◌++◌, length, ltb, leb, if◌then◌else◌}
+use Rattle.std.specs.Prelude.{ℕ, ◌≡◌, true, false, not, ◌&&◌, List, ◌∷◌, ◌++◌, length, ltb, leb, Ok, Err, if◌then◌else◌}
 use Rattle.record.specs.declared.StepRecord.{StepRecord}
 use Rattle.record.specs.StepRecords.{is_step, is_begin, ill_formed, step_records}
 use Rattle.record.specs.AnswerRecords.{answer_size}
 use Rattle.tree.specs.Shape.{Shape, processes, shape_for}
 use Rattle.steps.specs.declared.Process.{Process}
 use Rattle.steps.specs.Machine.{process_of, is_idle, at_q}
-use Rattle.calls.specs.declared.Refusal.{Refusal}
-use Rattle.calls.specs.declared.Refusal.TheVariants.{None, IllFormed, BeginWhileBusy, StepWhileIdle, BegunAll, AnswersFull}
-use Rattle.calls.specs.Refusals.{refusal_number, accepted, call_refusal}
+use Rattle.calls.specs.declared.Refusal.TheVariants.{IllFormed, BeginWhileBusy, StepWhileIdle, BegunAll, AnswersFull}
+use Rattle.calls.specs.Refusals.{Acceptance, refusal_number, accepted, call_refusal}
 use Rattle.calls.specs.Run.{Played, RunResult, run}
 use Rattle.calls.specs.ListOrder.{ListResult, list_order}
 use Rattle.calls.specs.CheckLog.{CheckResult, check_refusal, check_log}
 use Rattle.calls.specs.CallsBy.{play_by, play_all_by, run_by, list_order_by, check_log_by}
 
 -- a record, whose process is q, where there are `room` answer bytes left, as document 01 lists the tests: 5, 6, 7, 8, 9
-unfoldable pub former_record : Shape → ℕ → Process → StepRecord → Refusal
+unfoldable pub former_record : Shape → ℕ → Process → StepRecord → Acceptance
 former_record s room q r =
-    if ill_formed (processes s) r then IllFormed
-    else (if is_begin r && not (is_idle q.status) then BeginWhileBusy
-    else (if is_step r && is_idle q.status then StepWhileIdle
-    else (if is_begin r && leb s.most q.begun then BegunAll
-    else (if is_step r && at_q q.status && ltb room answer_size then AnswersFull
-    else None))))
+    if ill_formed (processes s) r then Err IllFormed
+    else (if is_begin r && not (is_idle q.status) then Err BeginWhileBusy
+    else (if is_step r && is_idle q.status then Err StepWhileIdle
+    else (if is_begin r && leb s.most q.begun then Err BegunAll
+    else (if is_step r && at_q q.status && ltb room answer_size then Err AnswersFull
+    else Ok tt))))
 
 -- ---- what is claimed
 
@@ -50,7 +49,7 @@ unfoldable pub check_numbered : ℕ → CheckResult → CheckResult
 check_numbered n e = record { refusal = n; verdict = e.verdict; index = e.index; table = e.table }
 
 -- a call that passed its own tests, n, stopped so
-abbrev pub Stopped : Refusal → Shape → List StepRecord → Played → Type 0
+abbrev pub Stopped : Acceptance → Shape → List StepRecord → Played → Type 0
 Stopped n s rs g = (accepted n ≡ true) × StoppedInLast s rs g
 
 -- the former result of a call and its result: equal, where the former call did not stop so; where it did, equal but for

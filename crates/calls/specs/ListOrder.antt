@@ -1,13 +1,12 @@
 -- List the order: the order records of the root order that a list of step records leaves.
-use Rattle.std.specs.Prelude.{ℕ, ◌*◌, List, [], ◌++◌, length, drop, ltb, if◌then◌else◌}
+use Rattle.std.specs.Prelude.{ℕ, ◌*◌, List, [], ◌++◌, length, drop, ltb, Ok, Err, if◌then◌else◌}
 use Rattle.record.specs.declared.StepRecord.{StepRecord}
 use Rattle.record.specs.StepRecords.{step_records}
 use Rattle.record.specs.AnswerRecords.{answer_size}
 use Rattle.tree.specs.Shape.{Shape, shape_for}
 use Rattle.tree.specs.Layout.{words_needed}
-use Rattle.calls.specs.declared.Refusal.{Refusal}
-use Rattle.calls.specs.declared.Refusal.TheVariants.{None, OutputShort}
-use Rattle.calls.specs.Refusals.{refusal_number, accepted, call_refusal}
+use Rattle.calls.specs.declared.Refusal.TheVariants.{OutputShort}
+use Rattle.calls.specs.Refusals.{Acceptance, refusal_number, accepted, call_refusal}
 use Rattle.calls.specs.Run.{Played, play}
 use Rattle.order.specs.OrderList.{order_list}
 
@@ -25,11 +24,11 @@ pub record ListResult : Type 0 where
   pub output : List ℕ
 
 -- 1 to 8 as Run; then 10, the list longer than the output
-unfoldable pub list_refusal : Refusal → ℕ → ℕ → Refusal
-list_refusal n list output = if accepted n then (if ltb output list then OutputShort else None) else n
+unfoldable pub list_refusal : Acceptance → ℕ → ℕ → Acceptance
+list_refusal n list output = if accepted n then (if ltb output list then Err OutputShort else Ok tt) else n
 
 -- any refusal writes no output and returns length 0
-unfoldable pub listed : Refusal → List ℕ → List ℕ → List ℕ → ListResult
+unfoldable pub listed : Acceptance → List ℕ → List ℕ → List ℕ → ListResult
 listed n list table output =
     record {
       refusal = refusal_number n;

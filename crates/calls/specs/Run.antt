@@ -1,5 +1,5 @@
 -- Run: the step records played in order, until the end or the first that is refused.
-use Rattle.std.specs.Prelude.{ℕ, ◌+◌, ◌*◌, ◌-◌, not, length, drop, if◌then◌else◌}
+use Rattle.std.specs.Prelude.{ℕ, ◌+◌, ◌*◌, ◌-◌, not, length, drop, Ok, if◌then◌else◌}
 use mathlib.Core.List.{List, [], ◌++◌, foldl}
 use Rattle.record.specs.declared.StepRecord.{StepRecord}
 use Rattle.record.specs.declared.AnswerRecord.{AnswerRecord}
@@ -10,11 +10,9 @@ use Rattle.tree.specs.Layout.{words_needed}
 use Rattle.steps.specs.declared.Operation.{Operation}
 use Rattle.steps.specs.declared.Operation.TheVariants.{Put, Take}
 use Rattle.steps.specs.Machine.{Machine, start, process_of, begin, step_of}
-use Rattle.calls.specs.declared.Refusal.{Refusal}
-use Rattle.calls.specs.declared.Refusal.TheVariants.{None}
 use Rattle.calls.specs.Answer.{answers_of}
 use Rattle.calls.specs.Numbered.{Numbered, next_after}
-use Rattle.calls.specs.Refusals.{refusal_number, accepted, call_refusal, record_refusal}
+use Rattle.calls.specs.Refusals.{Acceptance, refusal_number, accepted, call_refusal, record_refusal}
 
 -- the operation that a begin record opens
 unfoldable pub operation_of : StepRecord → Operation
@@ -28,15 +26,15 @@ take_record s m n =
 unfoldable pub record_answers : Shape → Machine → StepRecord → List AnswerRecord
 record_answers s m r = if is_step r then answers_of s m r.process else []
 
--- a run so far: the machine, the answers, the records taken, and the refusal that ended it
+-- a run so far: the machine, the answers, the records taken, and the refusal that ended it, if any did
 pub record Played : Type 0 where
   pub machine : Machine
   pub answers : List AnswerRecord
   pub taken : ℕ
-  pub refusal : Refusal
+  pub refusal : Acceptance
 
 unfoldable pub at_start : Shape → Played
-at_start s = record { machine = start s; answers = []; taken = 0; refusal = None }
+at_start s = record { machine = start s; answers = []; taken = 0; refusal = Ok tt }
 
 -- the next record of the whole list is the one that follows those taken
 unfoldable pub taking : Shape → Played → StepRecord → Played
@@ -45,10 +43,10 @@ taking s g r =
       machine = take_record s g.machine (next_after g.taken r);
       answers = g.answers ++ record_answers s g.machine r;
       taken = g.taken + 1;
-      refusal = None;
+      refusal = Ok tt;
     }
 
-unfoldable pub refusing : Played → Refusal → Played
+unfoldable pub refusing : Played → Acceptance → Played
 refusing g n = record { machine = g.machine; answers = g.answers; taken = g.taken; refusal = n }
 
 -- one record, where there are `room` answer bytes in all: a refused one changes nothing and ends the run
@@ -70,7 +68,7 @@ pub record RunResult : Type 0 where
   pub answers : List ℕ
 
 -- a call turned down returns zero counts and changes nothing
-unfoldable pub run_turned_down : Refusal → List ℕ → List ℕ → RunResult
+unfoldable pub run_turned_down : Acceptance → List ℕ → List ℕ → RunResult
 run_turned_down n table answers = record { refusal = refusal_number n; taken = 0; answered = 0; table = table; answers = answers }
 
 -- words past those needed and bytes past the answers keep their content

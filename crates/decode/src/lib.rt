@@ -7,9 +7,9 @@ pub mod numbers;
 
 use steps::Operation;
 
-// The process that the record names opens an operation; an ill-formed record opens none.
+// The process that a record names opens an operation.
 #[derive(Clone, Copy)]
-pub enum Begin {
-    IllFormed,
-    Opens { process: u32, operation: Operation },
+pub struct Begin {
+    pub process: u32,
+    pub operation: Operation,
 }

@@ -1,8 +1,9 @@
 -- What the call returns, by the tests that it made.
+use Rattle.std.specs.Prelude.{Result, Ok, Err}
 use Prim.Native.Nat.{ℕ, ◌*◌, ◌/◌, ◌≤◌}
 use native.Mathlib.Omega.{arith}
-use mathlib.Core.Path.{◌≡◌, ap, sym, ◌∙◌, subst}
-use mathlib.Core.Bool.{true, false}
+use mathlib.Core.Path.{◌≡◌, ap, sym, subst}
+use mathlib.Core.Bool.{true}
 use mathlib.Core.List.{List}
 use lib.ListN.{length}
 use Rattle.record.specs.declared.StepRecord.{StepRecord}
@@ -15,29 +16,14 @@ use Rattle.tree.proofs.LayoutSums.{product_most}
 use Rattle.tree.proofs.Places.{processes_most}
 use Rattle.steps.proofs.Limits.{allowed_most, short_for}
 use Rattle.calls.specs.declared.Refusal.{Refusal}
-use Rattle.calls.specs.Refusals.{accepted, first_refusal}
+use Rattle.calls.specs.Refusals.{refusal_number, accepted}
 use Rattle.calls.specs.Demand3.{step_limit}
 use Rattle.calls.specs.Forecast.{record_limit, forecast_refusal, foreseen, forecast, Forecasts}
-use Rattle.calls.proofs.Acceptance.{zero_accepted}
 use Rattle.calls.proofs.CallAccepted.{settings_operations}
 use Rattle.calls.proofs.PlannedBegins.{planned_most, forecast_settings, forecast_begins}
 use Rattle.calls.proofs.ForecastHolds.{forecast_holds}
 use Rattle.forecast.specs.declared.Forecast.{Forecast}
 use Rattle.forecast.specs.Returned.{returned}
-
--- of three tests, the first that refuses
-module _ (a b c : Refusal) where
-  pub first_refuses : accepted a ≡ false → a ≡ first_refusal (first_refusal a b) c
-  unfolding first_refusal
-  first_refuses e = rw (e, e)
-
-  pub second_refuses : accepted a ≡ true → accepted b ≡ false → b ≡ first_refusal (first_refusal a b) c
-  unfolding first_refusal
-  second_refuses e f = rw (e, f)
-
-  pub third_refuses : accepted a ≡ true → accepted b ≡ true → c ≡ first_refusal (first_refusal a b) c
-  unfolding first_refusal
-  third_refuses e f = rw (e, f)
 
 -- the limit for an operation is far from what a word holds
 pub limit_small : (p l : ℕ) → record_limit (shape_for p l) ≤ 1000
@@ -52,28 +38,28 @@ module _ (p l : ℕ) (bytes : List ℕ) where
   rs = step_records bytes
 
   -- both clauses follow from the equation
-  pub both_clauses : (f : Forecast) → returned f ≡ forecast p l bytes → (returned f ≡ forecast p l bytes) × Forecasts p l bytes (returned f)
+  pub both_clauses : (f : Result Forecast Refusal) → returned f ≡ forecast p l bytes → (returned f ≡ forecast p l bytes) × Forecasts p l bytes (returned f)
   both_clauses f e = (e, subst (Forecasts p l bytes) (sym e) (forecast_holds p l bytes))
 
-  -- n, what the tests say
-  module _ (n : Refusal) (told : n ≡ forecast_refusal p l bytes) where
-    pub returns_zeros : accepted n ≡ false → returned (record { refusal = n; words = 0; answer_bytes = 0; records = 0 }) ≡ forecast p l bytes
-    unfolding returned forecast
-    returns_zeros e = rw (← told, e)
+  pub returns_refused : (n : Refusal) → Err n ≡ forecast_refusal p l bytes → returned (Err n) ≡ forecast p l bytes
+  unfolding returned forecast accepted refusal_number
+  returns_refused n told = rw (← told)
 
-    module _ (none : accepted n ≡ true) where
-      pub returns_foreseen : (w a r : ℕ) → w ≡ words_needed s → a ≡ answer_size * length rs → r ≡ length rs * record_limit s
-          → returned (record { refusal = n; words = w; answer_bytes = a; records = r }) ≡ forecast p l bytes
-      unfolding returned forecast foreseen
-      returns_foreseen w a r x y z = rw (← told, none, x, y, z, zero_accepted n none)
+  -- the tests refuse nothing
+  module _ (told : Ok tt ≡ forecast_refusal p l bytes) where
+    pub returns_foreseen : (w a r : ℕ) → w ≡ words_needed s → a ≡ answer_size * length rs → r ≡ length rs * record_limit s
+        → returned (Ok (record { words = w; answer_bytes = a; records = r })) ≡ forecast p l bytes
+    unfolding returned forecast foreseen accepted
+    returns_foreseen w a r x y z = rw (← told, x, y, z)
 
-      passed : accepted (forecast_refusal p l bytes) ≡ true
-      passed = ap accepted (sym told) ∙ none
+    passed : accepted (forecast_refusal p l bytes) ≡ true
+    unfolding accepted
+    passed = ap accepted (sym told)
 
-      pub most_allowed : l ≤ 500
-      most_allowed = (allowed_most l (settings_operations p l (forecast_settings p l bytes passed))).1
+    pub most_allowed : l ≤ 500
+    most_allowed = (allowed_most l (settings_operations p l (forecast_settings p l bytes passed))).1
 
-      pub few_begins : length bytes / 8 ≤ 4000
-      unfolding shape_for
-      few_begins =
-          omega (arith, records_length bytes, planned_most s rs (forecast_begins p l bytes passed), product_most (processes s) l 8 500 (processes_most s (short_for p l)) most_allowed)
+    pub few_begins : length bytes / 8 ≤ 4000
+    unfolding shape_for
+    few_begins =
+        omega (arith, records_length bytes, planned_most s rs (forecast_begins p l bytes passed), product_most (processes s) l 8 500 (processes_most s (short_for p l)) most_allowed)

@@ -10,14 +10,13 @@ use lib.ListN.{length, get_or, set, take, drop, replicate, length-set, get_or-re
 use lib.Seq.{take-suc, drop-cons, get_or-set_same, get_or-set_other}
 use lib.Dec.{eqb}
 use borrow.Author.Tests.{eq-eqb, ne_eqb}
-use Rattle.std.specs.Prelude.{if◌then◌else◌}
+use Rattle.std.specs.Prelude.{Ok, Err, if◌then◌else◌}
 use Rattle.record.specs.declared.StepRecord.{StepRecord}
 use Rattle.record.specs.StepRecords.{step_record, step_records, ill_formed}
 use Rattle.record.proofs.Cuts.{records_length, record_at_lem}
 use Rattle.tree.specs.Shape.{Shape, processes}
 use Rattle.calls.specs.declared.Refusal.{Refusal}
-use Rattle.calls.specs.declared.Refusal.TheVariants.{None}
-use Rattle.calls.specs.Refusals.{accepted, first_refusal}
+use Rattle.calls.specs.Refusals.{Acceptance, accepted, first_refusal}
 use Rattle.calls.specs.Forecast.{begins, planned_refusal, begins_refusal}
 use Rattle.calls.proofs.Histories.{begins_snoc}
 use Rattle.calls.proofs.PlannedBegins.{Planned, planned}
@@ -28,7 +27,7 @@ pub record ReadSoFar (s : Shape) (bytes begun : List ℕ) (i : ℕ) : Type 0 whe
   pub left : begins_refusal s [] (step_records bytes) ≡ begins_refusal s (take i (step_records bytes)) (drop i (step_records bytes))
 
 -- record x, the next one, and n, what its test says where it looks at the counts
-pub record Tested (s : Shape) (bytes begun : List ℕ) (i : ℕ) (x : StepRecord) (n : Refusal) : Type 0 where
+pub record Tested (s : Shape) (bytes begun : List ℕ) (i : ℕ) (x : StepRecord) (n : Acceptance) : Type 0 where
   pub so_far : ReadSoFar s bytes begun i
   pub more : i < length bytes / 8
   pub is : x ≡ step_record (take 8 (drop (8 * i) bytes))
@@ -41,12 +40,12 @@ module _ (s : Shape) (bytes : List ℕ) where
   read_none = record { sized = refl; counts = λ k l. get_or-replicate 8 k 0 0 l; left = refl }
 
   -- all are read
-  pub read_all : (begun : List ℕ) (i : ℕ) → ReadSoFar s bytes begun i → length bytes / 8 ≤ i → None ≡ begins_refusal s [] (step_records bytes)
+  pub read_all : (begun : List ℕ) (i : ℕ) → ReadSoFar s bytes begun i → length bytes / 8 ≤ i → Ok tt ≡ begins_refusal s [] (step_records bytes)
   unfolding begins_refusal
   read_all begun i z h = sym (z.left ∙ rw (drop_of_length-le (step_records bytes) {i = i} (omega (arith, records_length bytes))))
 
 -- ---- the next record
-module _ {s : Shape} {bytes begun : List ℕ} {i : ℕ} {x : StepRecord} {n : Refusal} (t : Tested s bytes begun i x n) where
+module _ {s : Shape} {bytes begun : List ℕ} {i : ℕ} {x : StepRecord} {n : Acceptance} (t : Tested s bytes begun i x n) where
   open t use {so_far as z, more, is, slot, told}
 
   abbrev rs : List StepRecord
@@ -77,14 +76,15 @@ module _ {s : Shape} {bytes begun : List ℕ} {i : ℕ} {x : StepRecord} {n : Re
       on true e = rw e
       on false e = ap (λ (j : ℕ). planned_refusal s j x) (z.counts k (slot e))
 
-  pub read_refused : accepted n ≡ false → n ≡ begins_refusal s [] rs
-  unfolding first_refusal
-  read_refused e = sym (first ∙ rw (← tested, e))
+  pub read_refused : (x : Refusal) → n ≡ Err x → Err x ≡ begins_refusal s [] rs
+  unfolding first_refusal accepted
+  read_refused x e = sym (first ∙ rw (← tested, e))
 
   -- it is not refused, so its process begins one more
-  module _ (ok : accepted n ≡ true) where
+  module _ (ok : n ≡ Ok tt) where
     plan : Planned s (begins k before) x
-    plan = planned s (begins k before) x (ap accepted (sym tested) ∙ ok)
+    unfolding accepted
+    plan = planned s (begins k before) x (ap accepted (sym tested ∙ ok))
 
     pub read_slot : k < 8
     read_slot = slot plan.formed
@@ -109,7 +109,7 @@ module _ {s : Shape} {bytes begun : List ℕ} {i : ℕ} {x : StepRecord} {n : Re
         on (no e) = rw (ne_eqb k j (λ w. e (sym w))) (omega (arith, get_or-set_other begun k j (get_or begun k 0 + 1) 0 e, z.counts j l))
 
     pub read_more : ReadSoFar s bytes begun' (i + 1)
-    unfolding first_refusal
+    unfolding first_refusal accepted
     read_more =
         record {
           sized = length-set begun k (get_or begun k 0 + 1) ∙ z.sized;

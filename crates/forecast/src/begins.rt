@@ -2,49 +2,44 @@
 ghost use Rattle.std.specs.Prelude.{◌≡◌, true, [], length, get_or};
 ghost use Rattle.record.specs.StepRecords.{step_records};
 ghost use Rattle.tree.specs.Shape.{shape_for};
-ghost use Rattle.calls.specs.Refusals.{accepted as is_accepted, settings_refusal};
+ghost use Rattle.calls.specs.Refusals.{accepted, settings_refusal};
 ghost use Rattle.calls.specs.Forecast.{planned_refusal, begins_refusal};
 
-use base::as_index;
 use calls::Refusal;
 use record::StepRecord;
-use refusals::numbers::accepted;
 use step_codec::{ill_formed, step_record};
 
 // A record, where `begun` has how many operations each process begins before it: 5, 12, 8.
-fn planned_refusal(p: u32, l: u32, begun: &[u32], x: StepRecord) -> Refusal
-    requires { (is_accepted (settings_refusal p l) ≡ true) × (length begun.now ≡ 8) }
+fn planned_refusal(p: u32, l: u32, begun: &[u32], x: StepRecord) -> Result<(), Refusal>
+    requires { (accepted (settings_refusal p l) ≡ true) × (length begun.now ≡ 8) }
     ensures { result ≡ planned_refusal (shape_for p l) (get_or begun.now x.process 0) x }
 {
     let ill = ill_formed(p, x);
     let step = x.kind == 0;
     if ill {
-        return Refusal::IllFormed;
+        return Err(Refusal::IllFormed);
     }
     if step {
-        return Refusal::StepAmongBegins;
+        return Err(Refusal::StepAmongBegins);
     }
-    if l <= begun[as_index(x.process)] {
-        return Refusal::BegunAll;
+    if l <= begun[x.process as usize] {
+        return Err(Refusal::BegunAll);
     }
-    Refusal::None
+    Ok(())
 }
 
 // The first refusal of the records.
-pub fn begins_refusal(p: u32, l: u32, begins: &[u8]) -> Refusal
-    requires { is_accepted (settings_refusal p l) ≡ true }
+pub fn begins_refusal(p: u32, l: u32, begins: &[u8]) -> Result<(), Refusal>
+    requires { accepted (settings_refusal p l) ≡ true }
     ensures { result ≡ begins_refusal (shape_for p l) [] (step_records begins.now) }
 {
     let mut begun = [0u32; 8];
     let n = begins.len() / 8;
     for i in 0..n {
         let x = step_record(begins, 8 * i);
-        let refusal = planned_refusal(p, l, &begun, x);
-        if !accepted(refusal) {
-            return refusal;
-        }
-        let k = as_index(x.process);
+        planned_refusal(p, l, &begun, x)?;
+        let k = x.process as usize;
         begun[k] = begun[k] + 1;
     }
-    Refusal::None
+    Ok(())
 }

@@ -4,13 +4,9 @@
 pub mod begins;
 pub mod call;
 
-use calls::Refusal;
-
-// What the forecast returns: a refusal and zeros, or none, the words of the work table, the bytes of the answers, and a
-// limit on the records of any run.
-#[derive(Clone, Copy)]
+// The words of the work table, the bytes of the answers, and a limit on the records of any run.
+#[derive(Clone, Copy, Debug, PartialEq, Eq)]
 pub struct Forecast {
-    pub refusal: Refusal,
     pub words: usize,
     pub answer_bytes: usize,
     pub records: usize,

@@ -110,22 +110,6 @@ pub fn step_r1(heads: &[u32], q: Process) -> Process
     )
 }
 
-// The head of v's left child.
-fn left_head(heads: &[u32], v: u32) -> u32
-    requires { (v < 65536) × (2 * v + 1 < length heads.now) }
-    ensures { result ≡ get_or heads.now (2 * v) 1 }
-{
-    head_of(heads, 2 * v)
-}
-
-// The head of v's right child.
-fn right_head(heads: &[u32], v: u32) -> u32
-    requires { (v < 65536) × (2 * v + 1 < length heads.now) }
-    ensures { result ≡ get_or heads.now (2 * v + 1) 1 }
-{
-    head_of(heads, 2 * v + 1)
-}
-
 // R2: the left child's head, where a block may stand that its writer has not advanced yet.
 pub fn step_r2(heads: &[u32], q: Process) -> Process
     requires { (q.steps < 65536) × ((w : Visit) → step_in q.status ≡ Step.R2 w → Children heads.now w) }
@@ -134,7 +118,7 @@ pub fn step_r2(heads: &[u32], q: Process) -> Process
     let Step::R2 { visit } = step_in(q) else {
         return q;
     };
-    let child = left_head(heads, visit.node);
+    let child = head_of(heads, 2 * visit.node);
     moved(q, Step::R3 { visit, child })
 }
 
@@ -146,7 +130,7 @@ pub fn step_r4(heads: &[u32], q: Process) -> Process
     let Step::R4 { visit } = step_in(q) else {
         return q;
     };
-    let child = right_head(heads, visit.node);
+    let child = head_of(heads, 2 * visit.node + 1);
     moved(q, Step::R5 { visit, child })
 }
 
@@ -158,7 +142,7 @@ pub fn step_c1(heads: &[u32], q: Process) -> Process
     let Step::C1 { visit } = step_in(q) else {
         return q;
     };
-    let left = left_head(heads, visit.node) - 1;
+    let left = head_of(heads, 2 * visit.node) - 1;
     moved(q, Step::C2 { visit, left })
 }
 
@@ -170,6 +154,6 @@ pub fn step_c2(heads: &[u32], q: Process) -> Process
     let Step::C2 { visit, left } = step_in(q) else {
         return q;
     };
-    let right = right_head(heads, visit.node) - 1;
+    let right = head_of(heads, 2 * visit.node + 1) - 1;
     moved(q, Step::C3L { visit, left, right })
 }

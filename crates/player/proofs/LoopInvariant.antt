@@ -1,4 +1,5 @@
 -- What the loop of `play` keeps, and what each record needs and leaves.
+use Rattle.std.specs.Prelude.{Ok, Err}
 use Prim.Native.Nat.{ℕ, ◌+◌, ◌*◌, ◌≤◌, ◌<◌}
 use native.Mathlib.Omega.{arith}
 use mathlib.Core.Path.{◌≡◌, refl, sym, ◌∙◌, subst}
@@ -20,7 +21,6 @@ use Rattle.tree.specs.Clauses.Access.{Laid}
 use Rattle.steps.specs.Clauses.Operations.{rested}
 use Rattle.tree.proofs.Places.{processes_most}
 use Rattle.calls.specs.declared.Refusal.{Refusal}
-use Rattle.calls.specs.declared.Refusal.TheVariants.{None}
 use Rattle.calls.specs.Answer.{answer_of}
 use Rattle.calls.specs.Run.{at_start, play}
 use Rattle.calls.proofs.RunLimits.{number_fits}
@@ -67,11 +67,11 @@ module _ {c : Call} {t : State} {i : ℕ} (k : LoopInvariant c t i) where
   loop_number = rw k.so_far.count at (number_fits (shape_of c) k.begun.inner c.room (take i (list_of c)) k.begun.tall k.begun.few)
 
   -- after the last record
-  pub loop_ends : count_of c ≤ i → EndsWith c t None (count_of c)
+  pub loop_ends : count_of c ≤ i → EndsWith c t (Ok tt) (count_of c)
   loop_ends h =
       let e : i ≡ length (list_of c) = omega (arith, k.so_far.within, records_length c.records) in
       let f : i ≡ count_of c = omega (arith, records_length c.records) in
-      subst (EndsWith c t None) f (so_far_ends k.so_far e)
+      subst (EndsWith c t (Ok tt)) f (so_far_ends k.so_far e)
 
   -- where there is room for an answer, there is in the answer bytes, if there are any
   pub loop_spare : 16 ≤ t.left → (length c.out ≡ 0) ⊎ (length c.out ≡ c.room) → (length c.out ≡ 0) ⊎ (16 * t.answers + 16 ≤ length c.out)
@@ -97,7 +97,7 @@ module _ {c : Call} {t : State} {i : ℕ} (k : LoopInvariant c t i) where
     loop_record = sym (record_at_lem c.records i (omega arith))
 
     module _ (r : StepRecord) (is : r ≡ get_or (list_of c) i (step_record [])) where
-      pub loop_refused : (x : Refusal) → Gives c t i r (memory_at t) (Refused x) → EndsWith c t x i
+      pub loop_refused : (x : Refusal) → Gives c t i r (memory_at t) (Refused x) → EndsWith c t (Err x) i
       loop_refused = so_far_refused k.so_far r within is
 
       pub loop_moves : (q : Process) (n : Memory) → r.process < c.p → length n.heads ≡ length t.heads → length n.table ≡ length t.table

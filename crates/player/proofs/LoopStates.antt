@@ -9,7 +9,7 @@ use Rattle.tree.specs.Memory.{Memory, memory_of}
 use Rattle.steps.specs.declared.Process.{Process}
 use Rattle.steps.specs.Process.{idle}
 use Rattle.steps.specs.Machine.{Machine}
-use Rattle.calls.specs.declared.Refusal.{Refusal}
+use Rattle.calls.specs.Refusals.{Acceptance}
 use Rattle.calls.specs.Run.{Played, play}
 use Rattle.answer.specs.Clauses.Playing.{machine_of, Plays}
 use Rattle.player.specs.Clauses.PlayCalls.{AtStart, PlayResult}
@@ -118,8 +118,8 @@ PlaysAs c t k q = Plays (shape_of c) (processes_of c t) c.starts t.heads t.table
 abbrev pub Gives : Call → State → ℕ → StepRecord → Memory → RecordResult → Type 0
 Gives c t i r n x = ResultOf (shape_of c) t.left i (machine_at c t) r n x
 
--- the call ends in state t with refusal x, after i records
-abbrev pub EndsWith : Call → State → Refusal → ℕ → Type 0
+-- the call ends in state t with x, after i records
+abbrev pub EndsWith : Call → State → Acceptance → ℕ → Type 0
 EndsWith c t x i =
     PlayResult (play (shape_of c) c.room (list_of c)) c.log c.out
-    (record { refusal = x; taken = i; answers = t.answers; equal = t.equal }) t.table t.heads t.out
+    (record { ended = x; taken = i; answers = t.answers; equal = t.equal }) t.table t.heads t.out

@@ -1,4 +1,5 @@
 -- A run of some records and one more, by what that one does.
+use Rattle.std.specs.Prelude.{Ok, Err}
 use Prim.Native.Nat.{ℕ, ◌+◌, ◌*◌, ◌-◌, ◌≤◌}
 use mathlib.Core.Path.{◌≡◌, ap, sym, ◌∙◌, subst}
 use mathlib.Core.Bool.{true, false}
@@ -13,10 +14,9 @@ use Rattle.steps.specs.declared.Operation.{Operation}
 use Rattle.steps.specs.declared.Process.{Process}
 use Rattle.steps.specs.Machine.{Machine, process_of, with_process}
 use Rattle.steps.specs.Clauses.Operations.{rested}
-use Rattle.calls.specs.declared.Refusal.{Refusal}
-use Rattle.calls.specs.declared.Refusal.TheVariants.{None}
 use Rattle.calls.specs.Answer.{answer_of}
-use Rattle.calls.specs.Refusals.{refusal_number, accepted, record_refusal}
+use Rattle.calls.specs.declared.Refusal.{Refusal}
+use Rattle.calls.specs.Refusals.{accepted, record_refusal}
 use Rattle.calls.specs.Run.{Played, take_record, record_answers, taking, refusing, play}
 use Rattle.calls.specs.Numbered.{Numbered, next_after, numbered}
 use Rattle.calls.specs.History.{begun_by, history}
@@ -34,7 +34,7 @@ pub played_agrees : (s : Shape) → 1 ≤ s.height → (room : ℕ) (rs : List S
 played_agrees s tall room rs =
     subst (PlayedAs s (numbered (take (play s room rs).taken rs))) (sym (played_machine s room rs)) (runs s tall (played_legal s room rs))
 
-module _ (s : Shape) (room : ℕ) (rs : List StepRecord) (going : (play s room rs).refusal ≡ None) (r : StepRecord) where
+module _ (s : Shape) (room : ℕ) (rs : List StepRecord) (going : (play s room rs).refusal ≡ Ok tt) (r : StepRecord) where
   abbrev g : Played
   g = play s room rs
 
@@ -43,25 +43,25 @@ module _ (s : Shape) (room : ℕ) (rs : List StepRecord) (going : (play s room r
   room_left = room - 16 * length g.answers
 
   on : accepted g.refusal ≡ true
-  unfolding accepted refusal_number
+  unfolding accepted
   on = ap accepted going
 
-  pub result_refused : (n : Memory) (x : Refusal) → ResultOf s room_left g.taken g.machine r n (Refused x) → play s room (rs ++ (r ∷ [])) ≡ refusing g x
-  unfolding answer_size
-  result_refused n x t = play_refused s room rs r on (ap accepted t.0 ∙ t.1) [] ∙ ap (refusing g) t.0
+  pub result_refused : (n : Memory) (x : Refusal) → ResultOf s room_left g.taken g.machine r n (Refused x) → play s room (rs ++ (r ∷ [])) ≡ refusing g (Err x)
+  unfolding answer_size accepted
+  result_refused n x t = play_refused s room rs r on (ap accepted t.0) [] ∙ ap (refusing g) t.0
 
   -- a record that is accepted: the machine and the answers are those that it leaves
   taken_as : accepted (record_refusal s room_left (process_of g.machine r.process) r) ≡ true → (m : Machine) → take_record s g.machine (next_after g.taken r) ≡ m
       → (xs : List AnswerRecord) → record_answers s g.machine r ≡ xs
-      → play s room (rs ++ (r ∷ [])) ≡ record { machine = m; answers = g.answers ++ xs; taken = g.taken + 1; refusal = None }
+      → play s room (rs ++ (r ∷ [])) ≡ record { machine = m; answers = g.answers ++ xs; taken = g.taken + 1; refusal = Ok tt }
   unfolding answer_size taking
   taken_as ok m em xs ea = play_taken s room rs r on ok ∙ rw (em, ea)
 
   pub result_moved : (n : Memory) (q : Process) → ResultOf s room_left g.taken g.machine r n (Moved q)
-      → play s room (rs ++ (r ∷ [])) ≡ record { machine = with_process g.machine r.process q n; answers = g.answers; taken = g.taken + 1; refusal = None }
+      → play s room (rs ++ (r ∷ [])) ≡ record { machine = with_process g.machine r.process q n; answers = g.answers; taken = g.taken + 1; refusal = Ok tt }
   result_moved n q t =
       taken_as t.0 _ t.2 [] t.1
-      ∙ ap (λ (x : List AnswerRecord). record { machine = with_process g.machine r.process q n; answers = x; taken = g.taken + 1; refusal = None }) (append-nil g.answers)
+      ∙ ap (λ (x : List AnswerRecord). record { machine = with_process g.machine r.process q n; answers = x; taken = g.taken + 1; refusal = Ok tt }) (append-nil g.answers)
 
   pub result_finished : (n : Memory) (o : Operation) → ResultOf s room_left g.taken g.machine r n (Finished o)
       → play s room (rs ++ (r ∷ []))
@@ -69,7 +69,7 @@ module _ (s : Shape) (room : ℕ) (rs : List StepRecord) (going : (play s room r
         machine = with_process g.machine r.process (rested (process_of g.machine r.process)) n;
         answers = g.answers ++ (answer_of s g.machine r.process o ∷ []);
         taken = g.taken + 1;
-        refusal = None;
+        refusal = Ok tt;
       }
   result_finished n o t = taken_as t.0 _ t.2 _ t.1
 

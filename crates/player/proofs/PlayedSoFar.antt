@@ -1,4 +1,5 @@
 -- The records played so far: what the loop keeps of a run that goes on.
+use Rattle.std.specs.Prelude.{Ok, Err}
 use Prim.Native.Nat.{ℕ, zero, suc, ◌+◌, ◌*◌, ◌-◌, ◌≤◌, ◌<◌}
 use native.Mathlib.Numerals.{add-one}
 use native.Mathlib.Omega.{arith}
@@ -20,10 +21,9 @@ use Rattle.steps.specs.Process.{idle}
 use Rattle.tree.specs.Clauses.Access.{Laid}
 use Rattle.steps.specs.Clauses.Operations.{rested}
 use Rattle.steps.specs.Machine.{Machine, process_of, with_process}
-use Rattle.calls.specs.declared.Refusal.{Refusal}
-use Rattle.calls.specs.declared.Refusal.TheVariants.{None}
 use Rattle.calls.specs.Answer.{answer_of}
-use Rattle.calls.specs.Refusals.{accepted}
+use Rattle.calls.specs.declared.Refusal.{Refusal}
+use Rattle.calls.specs.Refusals.{Acceptance, accepted}
 use Rattle.calls.specs.Numbered.{Numbered, numbered}
 use Rattle.calls.specs.Run.{Played, refusing, play}
 use Rattle.calls.specs.History.{Event, operation, begun_by, does, history}
@@ -39,7 +39,7 @@ use Rattle.player.proofs.LoopStates.{Call, State, shape_of, list_of, played_to, 
 -- after the first i records none is refused, and the state is what the run so far left
 pub record PlayedSoFar (c : Call) (t : State) (i : ℕ) : Type 0 where
   pub within : i ≤ length (list_of c)
-  pub going : (played_to c i).refusal ≡ None
+  pub going : (played_to c i).refusal ≡ Ok tt
   pub count : (played_to c i).taken ≡ i
   pub machine : (played_to c i).machine ≡ machine_at c t
   pub answered : t.answers ≡ length (played_to c i).answers
@@ -98,13 +98,13 @@ module _ {c : Call} {t : State} {i : ℕ} (k : PlayedSoFar c t i) where
       (get_or t.procs n idle) (get_or-take (processes s) t.procs n idle low)
 
   -- where the whole run is the run so far, ended by x
-  over : (x : Refusal) → play s c.room (list_of c) ≡ refusing g x → EndsWith c t x i
+  over : (x : Acceptance) → play s c.room (list_of c) ≡ refusing g x → EndsWith c t x i
   unfolding refusing
   over x e =
-      subst (λ (y : Played). PlayResult y c.log c.out (record { refusal = x; taken = i; answers = t.answers; equal = t.equal }) t.table t.heads t.out)
+      subst (λ (y : Played). PlayResult y c.log c.out (record { ended = x; taken = i; answers = t.answers; equal = t.equal }) t.table t.heads t.out)
       (sym e)
       (record {
-        refusal = refl;
+        ended = refl;
         taken = sym k.count;
         answered = k.answered;
         equal = k.same;
@@ -114,12 +114,12 @@ module _ {c : Call} {t : State} {i : ℕ} (k : PlayedSoFar c t i) where
       })
 
   -- at the end of the records
-  unrefused : g ≡ refusing g None
+  unrefused : g ≡ refusing g (Ok tt)
   unfolding refusing
   unrefused = λ j. record { machine = g.machine; answers = g.answers; taken = g.taken; refusal = k.going j }
 
-  pub so_far_ends : i ≡ length (list_of c) → EndsWith c t None i
-  so_far_ends e = over None (ap (play s c.room) (sym (ap (λ (n : ℕ). take n (list_of c)) e ∙ take-length (list_of c))) ∙ unrefused)
+  pub so_far_ends : i ≡ length (list_of c) → EndsWith c t (Ok tt) i
+  so_far_ends e = over (Ok tt) (ap (play s c.room) (sym (ap (λ (n : ℕ). take n (list_of c)) e ∙ take-length (list_of c))) ∙ unrefused)
 
   -- one more record
   module _ (r : StepRecord) (more : i < length (list_of c)) (is : r ≡ get_or (list_of c) i (step_record [])) where
@@ -138,13 +138,13 @@ module _ {c : Call} {t : State} {i : ℕ} (k : PlayedSoFar c t i) where
         (subst (λ (j : ℕ). ResultOf s t.left j (machine_at c t) r n x) (sym k.count) h))
 
     -- refused: the run is over
-    pub so_far_refused : (x : Refusal) → Gives c t i r (memory_at t) (Refused x) → EndsWith c t x i
-    unfolding refusing
+    pub so_far_refused : (x : Refusal) → Gives c t i r (memory_at t) (Refused x) → EndsWith c t (Err x) i
+    unfolding refusing accepted
     so_far_refused x h =
-        let e : played_to c (i + 1) ≡ refusing g x =
+        let e : played_to c (i + 1) ≡ refusing g (Err x) =
         ap (play s c.room) next ∙ result_refused s c.room (take i (list_of c)) k.going r (memory_at t) x (as_played (memory_at t) (Refused x) h)
         in
-        over x (play_over s c.room (list_of c) (i + 1) (ap (λ (y : Played). accepted y.refusal) e ∙ h.1) ∙ e)
+        over (Err x) (play_over s c.room (list_of c) (i + 1) (ap (λ (y : Played). accepted y.refusal) e) ∙ e)
 
     -- the processes after it
     moved_process : (q : Process) (n : Memory) → r.process < processes s → with_process g.machine r.process q n ≡ machine_at c (after_move t r.process q n)

@@ -1,7 +1,8 @@
 -- What one record does to the process that it names and to the memory.
+use Rattle.std.specs.Prelude.{Err}
 use Prim.Native.Nat.{ℕ}
 use mathlib.Core.Path.{◌≡◌}
-use mathlib.Core.Bool.{true, false}
+use mathlib.Core.Bool.{true}
 use mathlib.Core.List.{[], ◌∷◌}
 use Rattle.record.specs.declared.StepRecord.{StepRecord}
 use Rattle.tree.specs.Shape.{Shape}
@@ -12,8 +13,8 @@ use Rattle.steps.specs.declared.Status.TheVariants.{Busy}
 use Rattle.steps.specs.declared.Step.TheVariants.{Q}
 use Rattle.steps.specs.Machine.{Machine, process_of, with_process}
 use Rattle.steps.specs.Clauses.Operations.{rested}
-use Rattle.calls.specs.declared.Refusal.{Refusal}
 use Rattle.calls.specs.Answer.{answer_of}
+use Rattle.calls.specs.declared.Refusal.{Refusal}
 use Rattle.calls.specs.Refusals.{accepted, record_refusal}
 use Rattle.calls.specs.Numbered.{next_after}
 use Rattle.calls.specs.Run.{take_record, record_answers}
@@ -28,7 +29,7 @@ pub data RecordResult : Type 0 where
 -- memory n
 abbrev pub ResultOf : Shape → ℕ → ℕ → Machine → StepRecord → Memory → RecordResult → Type 0
 ResultOf s room i m r n (Refused x) =
-    (record_refusal s room (process_of m r.process) r ≡ x) × (accepted x ≡ false) × (n ≡ m.memory)
+    (record_refusal s room (process_of m r.process) r ≡ Err x) × (n ≡ m.memory)
 ResultOf s room i m r n (Moved q) =
     (accepted (record_refusal s room (process_of m r.process) r) ≡ true)
     × (record_answers s m r ≡ [])

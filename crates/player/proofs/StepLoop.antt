@@ -1,4 +1,5 @@
 -- A step record in the loop of `play`: what each step needs and leaves.
+use Rattle.std.specs.Prelude.{Err}
 use Prim.Native.Nat.{ℕ, ◌+◌, ◌*◌, ◌%◌, ◌≤◌, ◌<◌}
 use native.Mathlib.Nat.{mod-eq_of_lt}
 use native.Mathlib.Omega.{arith}
@@ -38,26 +39,24 @@ use Rattle.player.proofs.RecordResults.{Moved}
 use Rattle.player.proofs.StepResults.{gives_idle, gives_full, gives_answer, gives_step}
 use Rattle.player.proofs.LoopInvariant.{LoopInvariant, loop_narrow, loop_laid, loop_spare, loop_plays, loop_fits, loop_record, loop_refused, loop_moves, loop_finishes}
 
--- record i, which is before the last one, is a step of process `first`: its words are `first` and 0. j is the place of
--- `first` among the processes
-pub record StepAt (c : Call) (t : State) (i first j : ℕ) : Type 0 where
+-- record i, which is before the last one, is a step of process `first`: its words are `first` and 0
+pub record StepAt (c : Call) (t : State) (i first : ℕ) : Type 0 where
   pub inv : LoopInvariant c t i
   pub more : i < count_of c
   pub word : first ≡ number_of (take 4 (drop (8 * i) c.records))
   pub zero : number_of (take 4 (drop (8 * i + 4) c.records)) ≡ 0
   pub low : first < c.p
-  pub at : j ≡ first
 
-module _ {c : Call} {t : State} {i first j : ℕ} (w : StepAt c t i first j) where
+module _ {c : Call} {t : State} {i first : ℕ} (w : StepAt c t i first) where
   abbrev s : Shape
   s = shape_of c
 
   -- its process
   abbrev pub q : Process
-  q = get_or t.procs j idle
+  q = get_or t.procs first idle
 
-  pub step_low : j < 8
-  step_low = omega (arith, w.at, w.low, loop_narrow w.inv)
+  pub step_low : first < 8
+  step_low = omega (arith, w.low, loop_narrow w.inv)
 
   pub step_begins : (v : ℕ) → v < length t.heads → Begins s c.starts v
   step_begins v h = begins s c.starts t.heads v (loop_laid w.inv) h
@@ -76,7 +75,7 @@ module _ {c : Call} {t : State} {i first j : ℕ} (w : StepAt c t i first j) whe
       ap step_of w.word ∙ sym (words_step c.records (8 * i) (loop_fits w.inv w.more) small w.zero) ∙ loop_record w.inv w.more
 
   pub step_plays : PlaysAs c t first q
-  step_plays = subst (λ (x : ℕ). PlaysAs c t first (get_or t.procs x idle)) (sym w.at) (loop_plays w.inv first w.low)
+  step_plays = loop_plays w.inv first w.low
 
   pub step_playing : Playing c.p c.starts t.heads t.table first q
   step_playing = record { shape = s; others = processes_of c t; width = w.inv.width; plays = step_plays }
@@ -88,7 +87,7 @@ module _ {c : Call} {t : State} {i first j : ℕ} (w : StepAt c t i first j) whe
   well : ill_formed (processes s) (step_of first) ≡ false
   well = step_formed (processes s) first (omega (arith, w.inv.width, w.low))
 
-  pub step_idle : q.status ≡ Idle → EndsWith c t StepWhileIdle i
+  pub step_idle : q.status ≡ Idle → EndsWith c t (Err StepWhileIdle) i
   unfolding is_step is_idle
   step_idle e = loop_refused w.inv w.more (step_of first) step_is StepWhileIdle (gives_idle c t i (step_of first) q step_plays well refl (ap is_idle e))
 
@@ -140,7 +139,7 @@ module _ {c : Call} {t : State} {i first j : ℕ} (w : StepAt c t i first j) whe
 
     -- the process has become r by the rules, and this memory is left
     pub telling_moves : {y : Step} → x ≡ y → is_q y ≡ false → (table heads : List ℕ) (r : Process) → length heads ≡ length t.heads → length table ≡ length t.table
-        → At y ((r ≡ stepped q by_rules) × (by_rules.memory ≡ memory_of table heads)) → LoopInvariant c (after_move t j r (memory_of table heads)) (i + 1)
+        → At y ((r ≡ stepped q by_rules) × (by_rules.memory ≡ memory_of table heads)) → LoopInvariant c (after_move t first r (memory_of table heads)) (i + 1)
     unfolding is_step
     telling_moves {y} is goes table heads r eh et left =
         let told : step_in q.status ≡ y = ap step_in busy ∙ is in
@@ -150,15 +149,14 @@ module _ {c : Call} {t : State} {i first j : ℕ} (w : StepAt c t i first j) whe
         let given =
         gives_step c t i (step_of first) q step_plays well refl (operation_in q.status) (step_in q.status) (step_busy refl refl) (ap is_q told ∙ goes)
         in
-        subst (λ (z : Process). LoopInvariant c (after_move t j z (memory_of table heads)) (i + 1)) (sym e.0)
-        (subst (λ (k : ℕ). LoopInvariant c (after_move t k q' (memory_of table heads)) (i + 1)) (sym w.at)
+        subst (λ (z : Process). LoopInvariant c (after_move t first z (memory_of table heads)) (i + 1)) (sym e.0)
         (loop_moves w.inv w.more (step_of first) step_is q' (memory_of table heads) w.low eh et
-        (subst (λ (n : Memory). Gives c t i (step_of first) n (Moved q')) e.1 given)))
+        (subst (λ (n : Memory). Gives c t i (step_of first) n (Moved q')) e.1 given))
 
     -- the same of a step that is no help
     pub step_moves : {y : Step} → x ≡ y → is_q y ≡ false → (table heads : List ℕ) (r : Process) → length heads ≡ length t.heads → length table ≡ length t.table
         → At y (Moves q r × (by_rules ≡ go s (i + 1) first (operation_in q.status) (memory_at t) (memory_of table heads) (step_in r.status)))
-        → LoopInvariant c (after_move t j r (memory_of table heads)) (i + 1)
+        → LoopInvariant c (after_move t first r (memory_of table heads)) (i + 1)
     unfolding go_telling go
     step_moves is goes table heads r eh et left =
         telling_moves is goes table heads r eh et
@@ -166,16 +164,16 @@ module _ {c : Call} {t : State} {i first j : ℕ} (w : StepAt c t i first j) whe
 
     -- of a step that looks at heads alone, and of one that looks at the table alone
     pub heads_move : {y : Step} → x ≡ y → is_q y ≡ false → (heads : List ℕ) (r : Process) → length heads ≡ length t.heads
-        → (step_in q.status ≡ y → NextByHeads t.heads heads q r) → LoopInvariant c (after_move t j r (memory_of t.table heads)) (i + 1)
+        → (step_in q.status ≡ y → NextByHeads t.heads heads q r) → LoopInvariant c (after_move t first r (memory_of t.table heads)) (i + 1)
     heads_move is goes heads r eh next = step_moves is goes t.table heads r eh refl (λ told _ _. let e = next told in (e.0, e.1 _ _ _ _ _))
 
     pub table_moves : {y : Step} → x ≡ y → is_q y ≡ false → (table : List ℕ) (r : Process) → length table ≡ length t.table
-        → (step_in q.status ≡ y → NextByTable (i + 1) c.starts t.table table q r) → LoopInvariant c (after_move t j r (memory_of table t.heads)) (i + 1)
+        → (step_in q.status ≡ y → NextByTable (i + 1) c.starts t.table table q r) → LoopInvariant c (after_move t first r (memory_of table t.heads)) (i + 1)
     table_moves is goes table r et next = step_moves is goes table t.heads r refl et (λ told _ begins. let e = next told in (e.0, e.1 _ _ _ _ begins))
 
   -- Q
   module _ {o : Operation} (finish-busy : q.status ≡ Busy o Q) where
-    pub finish_full : t.left < 16 → EndsWith c t AnswersFull i
+    pub finish_full : t.left < 16 → EndsWith c t (Err AnswersFull) i
     unfolding is_step is_q
     finish_full h =
         loop_refused w.inv w.more (step_of first) step_is AnswersFull (gives_full c t i (step_of first) q step_plays well refl o Q finish-busy refl h)
@@ -184,15 +182,14 @@ module _ {c : Call} {t : State} {i first j : ℕ} (w : StepAt c t i first j) whe
         → ((s' : Shape) (ps : List Process) → processes s' ≡ c.p → Plays s' ps c.starts t.heads t.table first q
         → a ≡ answer_of s' (machine_of t.table t.heads ps) first o)
         → equal ≡ count_after c.log t.answers t.equal a → out ≡ with_answer t.out t.answers a
-        → LoopInvariant c (after_answer t j (rested q) out equal) (i + 1)
+        → LoopInvariant c (after_answer t first (rested q) out equal) (i + 1)
     unfolding is_step is_q answer_size
     finish_moves enough a out equal eo told-a told-e told-w =
         let so_far = w.inv.so_far in
         let xs : List AnswerRecord = (played_to c i).answers in
         let room = rw so_far.answered at (loop_spare w.inv enough w.inv.begun.bounded) in
-        subst (λ (k : ℕ). LoopInvariant c (after_answer t k (rested (get_or t.procs k idle)) out equal) (i + 1)) (sym w.at)
-        (loop_finishes w.inv w.more (step_of first) step_is o a out equal w.low eo
+        loop_finishes w.inv w.more (step_of first) step_is o a out equal w.low eo
         (gives_answer c t i (step_of first) q step_plays well refl o Q finish-busy refl enough)
         (told-a s (processes_of c t) w.inv.width step_plays) enough
         (told-e ∙ rw (so_far.answered, so_far.same) (count_after_lem xs a c.log))
-        (told-w ∙ rw (so_far.answered, so_far.bytes) (written_after c.out xs a room)))
+        (told-w ∙ rw (so_far.answered, so_far.bytes) (written_after c.out xs a room))

@@ -5,11 +5,11 @@ pub mod play;
 
 use calls::Refusal;
 
-// What playing a list of records comes to: why it ended, the records taken, the answers given, and how many answers at
+// What playing a list of records comes to: the refusal that ended it, if any did, the records taken, the answers given, and how many answers at
 // the beginning are equal to those of a log.
-#[derive(Clone, Copy)]
+#[derive(Clone, Copy, Debug, PartialEq, Eq)]
 pub struct Outcome {
-    pub refusal: Refusal,
+    pub ended: Result<(), Refusal>,
     pub taken: usize,
     pub answers: usize,
     pub equal: usize,

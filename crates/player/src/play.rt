@@ -10,11 +10,9 @@ use crate::Outcome;
 use answer::answers::answer_of;
 use answer_log::compare::equal_after;
 use answer_log::write::write_answer;
-use base::as_index;
 use block_steps::{step_a, step_c4, step_r3, step_r5, step_v2};
 use build_steps::{adds_nothing, step_c3l, step_c3n_on, step_c3n_up, step_c3r};
 use calls::Refusal;
-use decode::Begin;
 use decode::begins::begin_of;
 use decode::numbers::number_after;
 use encoding::word_at;
@@ -23,19 +21,18 @@ use head_steps::{
     step_v3_own,
 };
 use refusals::begin::begin_refusal;
-use refusals::numbers::accepted;
 use stepping::turn::operation_in;
 use steps::{Process, Status, Step};
 
 // What the loop comes to.
-fn ended(refusal: Refusal, taken: usize, answers: usize, equal: usize) -> Outcome
-    ensures { result ≡ record { refusal = refusal; taken = taken; answers = answers; equal = equal } }
+fn ended(ended: Result<(), Refusal>, taken: usize, answers: usize, equal: usize) -> Outcome
+    ensures { result ≡ record { ended = ended; taken = taken; answers = answers; equal = equal } }
 {
     Outcome {
-        refusal: refusal,
-        taken: taken,
-        answers: answers,
-        equal: equal,
+        ended,
+        taken,
+        answers,
+        equal,
     }
 }
 
@@ -69,15 +66,15 @@ pub fn play(
         let first = word_at(records, at);
         if first < p {
             if word_at(records, at + 4) != 0 {
-                return ended(Refusal::IllFormed, i, answers, equal);
+                return ended(Err(Refusal::IllFormed), i, answers, equal);
             }
-            let k = as_index(first);
+            let k = first as usize;
             // so that no arm has its bounds to prove
             prove!(k < 8);
             let seen = procs[k];
             let status = seen.status;
             match status {
-                Status::Idle => return ended(Refusal::StepWhileIdle, i, answers, equal),
+                Status::Idle => return ended(Err(Refusal::StepWhileIdle), i, answers, equal),
                 Status::Busy(_, step) => match step {
                     Step::A => {
                         let q = procs[k];
@@ -164,7 +161,7 @@ pub fn play(
                     }
                     Step::Q => {
                         if free < 16 {
-                            return ended(Refusal::AnswersFull, i, answers, equal);
+                            return ended(Err(Refusal::AnswersFull), i, answers, equal);
                         }
                         let q = procs[k];
                         let a = answer_of(heads, table, starts, p, first % p, q, operation_in(q));
@@ -179,17 +176,16 @@ pub fn play(
             }
         }
         let begin = begin_of(p, first, word_at(records, at + 4));
-        let Begin::Opens { process, operation } = begin else {
-            return ended(Refusal::IllFormed, i, answers, equal);
+        let Some(begin) = begin else {
+            return ended(Err(Refusal::IllFormed), i, answers, equal);
         };
-        let k = as_index(process);
+        let k = begin.process as usize;
         prove!(k < 8);
         let q = procs[k];
-        let refusal = begin_refusal(l, q);
-        if !accepted(refusal) {
-            return ended(refusal, i, answers, equal);
+        match begin_refusal(l, q) {
+            Ok(()) => procs[k] = q.entered(begin.operation),
+            Err(why) => return ended(Err(why), i, answers, equal),
         }
-        procs[k] = q.entered(operation);
     }
-    ended(Refusal::None, n, answers, equal)
+    ended(Ok(()), n, answers, equal)
 }

@@ -6,16 +6,17 @@ use calls::Refusal;
 use steps::Process;
 
 // A begin by process q, where a process has at most l operations: 8, 6.
-pub fn begin_refusal(l: u32, q: Process) -> Refusal
+#[tactic(auto, unfolding(calls::specs::Refusals::begin_refusal))]
+pub fn begin_refusal(l: u32, q: Process) -> Result<(), Refusal>
     ensures { result ≡ begin_refusal l q }
 {
     let idle = q.is_idle();
     let begun_all = l as u64 <= q.begun;
     if begun_all {
-        return Refusal::BegunAll;
+        return Err(Refusal::BegunAll);
     }
     if !idle {
-        return Refusal::BeginWhileBusy;
+        return Err(Refusal::BeginWhileBusy);
     }
-    Refusal::None
+    Ok(())
 }

@@ -1,6 +1,5 @@
-// What a call turns down before its first record, the tests of a begin, and the number of each refusal.
+// What a call turns down before its first record, and the tests of a begin.
 #![tactic(auto)]
 
 pub mod before;
 pub mod begin;
-pub mod numbers;

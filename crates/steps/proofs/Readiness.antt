@@ -50,14 +50,14 @@ size_most s m sound v iv (suc i) (inr f) =
     rw (sound.joins v iv i f).sized
     (both (λ (x : ℕ). x ≤ (block s m v (suc i)).puts) (eqb v 1) (omega arith) (omega arith))
 
-module _ (s : Shape) (m : Memory) (starts : List ℕ) (q : SoundTree s starts m.heads m.table) where
+module _ (s : Shape) (m : Memory) (q : SoundTree s m.heads m.table) where
   abbrev sound : Sound s m
   sound = q.sound
 
   children : (w : Visit) → Inner s w.node → Children m.heads w
   children w iv = record { low = omega (arith, iv.last, processes_most s q.tall); both = omega (arith, q.sized.heads, iv.last) }
 
-  adds : (k b : ℕ) → k < processes s → b ≤ s.most → LeafOpen s m k b → Adds starts m.heads m.table (leaf_of s k)
+  adds : (k b : ℕ) → k < processes s → b ≤ s.most → LeafOpen s m k b → Adds s m.heads m.table (leaf_of s k)
   unfolding head_of
   adds k b kp h o =
       let n = leaf_node s k kp in
@@ -77,14 +77,14 @@ module _ (s : Shape) (m : Memory) (starts : List ℕ) (q : SoundTree s starts m.
     abbrev right : Node s (2 * w.node + 1)
     right = omega (arith, iv.first, iv.last)
 
-    left_place : (l : ℕ) → EndOk s m w onLeft l → HasPlace starts m.table (2 * w.node) l
+    left_place : (l : ℕ) → EndOk s m w onLeft l → HasPlace s m.table (2 * w.node) l
     unfolding left_of
     left_place l lo = node_place q (2 * w.node) l left (below_within q (2 * w.node) l left lo.below)
 
-    sums : (l r : ℕ) → EndOk s m w onRight r → (puts takes : ℕ) → Tallied s m w l r (counted_left puts takes) → Sums starts m.table w r puts takes
+    sums : (l r : ℕ) → EndOk s m w onRight r → (puts takes : ℕ) → Tallied s m w l r (counted_left puts takes) → Sums s m.table w r puts takes
     unfolding left_of right_of
     sums l r ro puts takes told =
-        let x = rw (node_reads q (2 * w.node) l left) at (node_small q (2 * w.node) l left) in
+        let x = rw (node_reads q (2 * w.node) l) at (node_small q (2 * w.node) l left) in
         let y = node_small q (2 * w.node + 1) r right in
         record {
           place = node_place q (2 * w.node + 1) r right (below_within q (2 * w.node + 1) r right ro.below);
@@ -97,20 +97,20 @@ module _ (s : Shape) (m : Memory) (starts : List ℕ) (q : SoundTree s starts m.
     node = inner_node s w.node iv
 
     decides : (l r : ℕ) → EndOk s m w onLeft l → EndOk s m w onRight r → (puts takes : ℕ) → Tallied s m w l r (counted_both puts takes)
-        → Decides starts m.table w puts takes
+        → Decides s m.table w puts takes
     unfolding left_of right_of total built block_of
     decides l r lo ro puts takes told =
-        let x = rw (node_reads q (2 * w.node) l (left w iv)) at (node_small q (2 * w.node) l (left w iv)) in
-        let y = rw (node_reads q (2 * w.node + 1) r (right w iv)) at (node_small q (2 * w.node + 1) r (right w iv)) in
+        let x = rw (node_reads q (2 * w.node) l) at (node_small q (2 * w.node) l (left w iv)) in
+        let y = rw (node_reads q (2 * w.node + 1) r) at (node_small q (2 * w.node + 1) r (right w iv)) in
         let rise = totals_grow s m sound w iv first last l r lo ro puts takes told 0 in
         let sized = size_most s m sound w.node iv (w.head - 1) (below_head (sound.node w.node node) (w.head - 1) (omega arith)) in
         record {
           head = first;
           place = node_place q w.node (w.head - 1) node (below_within q w.node (w.head - 1) node (omega arith));
           puts_low = omega (arith, told.0);
-          puts_rise = rw (node_reads q w.node (w.head - 1) node) (rise Puts);
-          takes_rise = rw (node_reads q w.node (w.head - 1) node) (rise Takes);
-          size_low = λ _. rw (node_reads q w.node (w.head - 1) node) (omega (arith, sized, rise Puts, told.0));
+          puts_rise = rw (node_reads q w.node (w.head - 1)) (rise Puts);
+          takes_rise = rw (node_reads q w.node (w.head - 1)) (rise Takes);
+          size_low = λ _. rw (node_reads q w.node (w.head - 1)) (omega (arith, sized, rise Puts, told.0));
         }
 
     made_place : (n : Built) → HandOk s m w (made n) → w.head ≤ last_place s w.node
@@ -129,7 +129,7 @@ module _ (s : Shape) (m : Memory) (starts : List ℕ) (q : SoundTree s starts m.
 
   -- a step of process k, in its operation b
   module _ (hold : ℕ → Stage) (k : ℕ) (kp : k < processes s) (b : ℕ) (within : b ≤ s.most) where
-    next : (n : Step) → is_q n ≡ false → OwnLeaf s m k b (stage n) → Carried s m hold k b (stage n) → StepNodes s n → Ready starts m.heads m.table (leaf_of s k) n
+    next : (n : Step) → is_q n ≡ false → OwnLeaf s m k b (stage n) → Carried s m hold k b (stage n) → StepNodes s n → Ready s m.heads m.table (leaf_of s k) n
     unfolding is_q head_of
     next A more own carried nodes = adds k b kp within own
     next (V1 a w v h) more own carried nodes = omega (arith, node_headed q v carried.node)
@@ -154,12 +154,12 @@ module _ (s : Shape) (m : Memory) (starts : List ℕ) (q : SoundTree s starts m.
     next Q more own carried nodes = absurd (true≢false more)
 
 -- of a machine whose invariant holds
-pub ready : (s : Shape) (m : Machine) → Invariant s m → (starts : List ℕ) → SoundTree s starts m.memory.heads m.memory.table
+pub ready : (s : Shape) (m : Machine) → Invariant s m → SoundTree s m.memory.heads m.memory.table
     → (k : ℕ) → k < processes s → (o : Operation) (n : Step) → (process_of m k).status ≡ Busy o n → is_q n ≡ false
-    → Ready starts m.memory.heads m.memory.table (leaf_of s k) n
-ready s m inv starts tree k kp o n e more =
+    → Ready s m.memory.heads m.memory.table (leaf_of s k) n
+ready s m inv tree k kp o n e more =
     let p = inv.process k kp in
     let own = subst (λ (x : Status). OwnLeaf s m.memory k (process_of m k).begun (stage_of x)) e p.leaf in
     let carried = subst (λ (x : Status). Carried s m.memory (holding m) k (process_of m k).begun (stage_of x)) e p.carried in
-    next s m.memory starts tree (holding m) k kp (process_of m k).begun p.within n more own carried
+    next s m.memory tree (holding m) k kp (process_of m k).begun p.within n more own carried
     (step_nodes s m.memory (holding m) k kp (process_of m k).begun n carried)

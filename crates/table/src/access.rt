@@ -74,7 +74,7 @@ impl Layout {
     pub fn write_if_absent(&self, table: &mut [u32], v: u32, i: u32, b: Block) -> bool
         requires { HasPlace self.now table.old v i }
         ensures value { result ≡ absent_of (block_at self.now table.old v i) }
-        ensures table_after { table.new ≡ (if result then with_block_at self.now table.old v i b else table.old) }
+        ensures words_after { table.new ≡ (if result then with_block_at self.now table.old v i b else table.old) }
     {
         let empty = blocks::absent(self.block_at(table, v, i));
         if empty {

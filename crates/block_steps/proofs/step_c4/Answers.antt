@@ -4,7 +4,6 @@ use Rattle.tree.specs.Memory.{block, write_if_absent}
 use Rattle.steps.specs.declared.Step.TheVariants.{C4}
 use Rattle.steps.specs.Rules.{step, go}
 use Rattle.stepping.specs.Clauses.Next.{step_in}
-use Rattle.tree.proofs.NodeReads.{node_read, node_written}
 use Rattle.stepping.proofs.StepNames.{busy}
 use borrow.Author.Rules.{rules}
 use Rattle.block_steps.proofs.step_c4.Goals.{In-C4}
@@ -14,7 +13,7 @@ at : (c : In-C4) → step_in c.args.q.status ≡ C4 c.in-C4.visit c.in-C4.built
 at c = sym c.step_in.ensures ∙ c.in-C4.is
 
 pub write_if_absent-success-requires : goal.write_if_absent-success-requires
-write_if_absent-success-requires c = let p = (c.requires.1 _ _ (at (goal.at.write_if_absent-success-requires c).In-C4)).0 in search rules
+write_if_absent-success-requires c = let p = c.requires.1 _ _ (at (goal.at.write_if_absent-success-requires c).In-C4) in search rules
 
 pub moved-requires : goal.moved-requires
 moved-requires c = (search rules, busy _ (at (goal.at.moved-requires c).In-C4) tt)
@@ -25,18 +24,14 @@ returns c =
     let here = at (goal.at.returns c).In-C4 in (
       λ _ _ _. rw c.moved.ensures (
         refl,
-        λ s k o heads b.
-            let g = rw here at b in
-            rw (
-              here,
-              c.advance.ensures,
-              c.after_refresh.ensures,
-              c.write_if_absent-success.ensures.words_after,
-              node_written s _ _ _ _ _ g,
-              c.block_of.ensures,
-              c.write_if_absent-success.ensures.value,
-              node_read s _ _ _ _ g,
-            ),
+        λ k o heads. rw (
+          here,
+          c.advance.ensures,
+          c.after_refresh.ensures,
+          c.write_if_absent-success.ensures.words_after,
+          c.block_of.ensures,
+          c.write_if_absent-success.ensures.value,
+        ),
       ),
       λ no. absurd (no _ _ here),
     )

@@ -16,11 +16,11 @@ pub returns-in_default : goal.returns-in_default
 returns-in_default c = λ number. (λ a b e. absurd (c.in_default.not-R3 a b (c.step_in.ensures ∙ e)), λ _. (refl, refl))
 
 pub overflow_mul-v : goal.overflow_mul-v
-overflow_mul-v c = let p = (c.requires.1 _ _ (at (goal.at.overflow_mul-v c).In-R3)).0 in search rules
+overflow_mul-v c = let p = c.requires.1 _ _ (at (goal.at.overflow_mul-v c).In-R3) in search rules
 
 pub help-requires : goal.help-requires
 unfolding of_child
-help-requires c = let p = (c.requires.1 _ _ (at (goal.at.help-requires c).In-R3)).0 in search rules
+help-requires c = let p = c.requires.1 _ _ (at (goal.at.help-requires c).In-R3) in search rules
 
 pub moved-requires : goal.moved-requires
 moved-requires c = (search rules, busy _ (at (goal.at.moved-requires c).In-R3) tt)
@@ -29,4 +29,4 @@ pub returns : goal.returns
 unfolding step go left_of
 returns c =
     let here = at (goal.at.returns c).In-R3 in
-    λ number. (λ _ _ _. rw c.moved.ensures (refl, λ s k o heads b. rw (here, c.help.ensures s heads (rw here at b))), λ no. absurd (no _ _ here))
+    λ number. (λ _ _ _. rw c.moved.ensures (refl, λ k o heads. rw (here, c.help.ensures heads)), λ no. absurd (no _ _ here))

@@ -4,7 +4,6 @@ use Rattle.tree.specs.Memory.{block, write, set_super}
 use Rattle.steps.specs.declared.Step.TheVariants.{V2}
 use Rattle.steps.specs.Rules.{step, go}
 use Rattle.stepping.specs.Clauses.Next.{step_in}
-use Rattle.tree.proofs.NodeReads.{node_read, node_written}
 use Rattle.stepping.proofs.StepNames.{busy}
 use borrow.Author.Rules.{rules}
 use Rattle.block_steps.proofs.step_v2.Goals.{In-V2}
@@ -17,7 +16,7 @@ pub returns-in_default : goal.returns-in_default
 returns-in_default c = λ number. (λ a b i j k e. absurd (c.in_default.not-V2 a b i j k (c.step_in.ensures ∙ e)), λ _. (refl, refl))
 
 pub set_super_at-requires : goal.set_super_at-requires
-set_super_at-requires c = let p = (c.requires.1 _ _ _ _ _ (at (goal.at.set_super_at-requires c).In-V2)).0 in search rules
+set_super_at-requires c = let p = c.requires.1 _ _ _ _ _ (at (goal.at.set_super_at-requires c).In-V2) in search rules
 
 pub moved-requires : goal.moved-requires
 moved-requires c = (search rules, busy _ (at (goal.at.moved-requires c).In-V2) tt)
@@ -28,9 +27,7 @@ returns c =
     let here = at (goal.at.returns c).In-V2 in λ number. (
       λ _ _ _ _ _ _. rw c.moved.ensures (
         refl,
-        λ s k o heads b.
-            let g = rw here at b in
-            rw (here, c.by_fields-visit.ensures, c.set_super_at.ensures, node_written s _ _ _ _ _ g, node_read s _ _ _ _ g),
+        λ k o heads. rw (here, c.by_fields-visit.ensures, c.set_super_at.ensures),
       ),
       λ no. absurd (no _ _ _ _ _ here),
     )

@@ -6,7 +6,6 @@ use Rattle.tree.specs.Clauses.Access.{totals_of}
 use Rattle.steps.specs.declared.Step.TheVariants.{C3L}
 use Rattle.steps.specs.Rules.{step, go}
 use Rattle.stepping.specs.Clauses.Next.{step_in}
-use Rattle.tree.proofs.NodeReads.{node_read}
 use Rattle.stepping.proofs.StepNames.{busy}
 use borrow.Author.Rules.{rules}
 use Rattle.build_steps.proofs.step_c3l.Goals.{In-C3L}
@@ -19,10 +18,10 @@ pub returns-in_default : goal.returns-in_default
 returns-in_default c = λ number. (λ a b i e. absurd (c.in_default.not-C3L a b i (c.step_in.ensures ∙ e)), λ _. (refl, refl))
 
 pub overflow_mul-visit : goal.overflow_mul-visit
-overflow_mul-visit c = let p = (c.requires.1 _ _ _ (at (goal.at.overflow_mul-visit c).In-C3L)).0 in search rules
+overflow_mul-visit c = let p = c.requires.1 _ _ _ (at (goal.at.overflow_mul-visit c).In-C3L) in search rules
 
 pub totals_at-x-requires : goal.totals_at-x-requires
-totals_at-x-requires c = let p = (c.requires.1 _ _ _ (at (goal.at.totals_at-x-requires c).In-C3L)).0 in search rules
+totals_at-x-requires c = let p = c.requires.1 _ _ _ (at (goal.at.totals_at-x-requires c).In-C3L) in search rules
 
 pub moved-requires : goal.moved-requires
 moved-requires c = (search rules, busy _ (at (goal.at.moved-requires c).In-C3L) tt)
@@ -33,7 +32,7 @@ returns c =
     let here = at (goal.at.returns c).In-C3L in λ number. (
       λ _ _ _ _. rw c.moved.ensures (
         refl,
-        λ s k o heads b. let g = rw here at b in rw (here, c.totals_at-x.ensures, node_read s _ _ _ _ g),
+        λ k o heads. rw (here, c.totals_at-x.ensures),
       ),
       λ no. absurd (no _ _ _ here),
     )

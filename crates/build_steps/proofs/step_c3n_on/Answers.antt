@@ -13,7 +13,7 @@ at : (c : In-C3N) → step_in c.args.q.status ≡ C3N c.in-C3N.visit c.in-C3N.le
 at c = sym c.step_in.ensures ∙ c.in-C3N.is
 
 -- what is required of the memory at this C3N
-decides : (c : In-C3N) → let a = c.args in Decides a.starts.now a.table.now c.in-C3N.visit c.in-C3N.puts c.in-C3N.takes
+decides : (c : In-C3N) → let a = c.args in Decides a.layout.now a.table.now c.in-C3N.visit c.in-C3N.puts c.in-C3N.takes
 decides c = c.requires.1 _ _ _ _ _ (at c)
 
 pub returns-in_default : goal.returns-in_default

@@ -8,7 +8,6 @@ use Rattle.steps.specs.declared.Step.TheVariants.{C3R}
 use Rattle.steps.specs.Rules.{step, go}
 use Rattle.stepping.specs.Clauses.Next.{step_in}
 use Rattle.steps.specs.Clauses.Ready.{Sums}
-use Rattle.tree.proofs.NodeReads.{node_read}
 use Rattle.stepping.proofs.StepNames.{busy}
 use borrow.Author.Rules.{rules}
 use Rattle.build_steps.proofs.step_c3r.Goals.{In-C3R}
@@ -18,8 +17,8 @@ at : (c : In-C3R) → step_in c.args.q.status ≡ C3R c.in-C3R.visit c.in-C3R.le
 at c = sym c.step_in.ensures ∙ c.in-C3R.is
 
 -- what is required of the memory at this C3R
-sums : (c : In-C3R) → let a = c.args in Sums a.starts.now a.table.now c.in-C3R.visit c.in-C3R.right c.in-C3R.puts c.in-C3R.takes
-sums c = (c.requires.1 _ _ _ _ _ (at c)).0
+sums : (c : In-C3R) → let a = c.args in Sums a.layout.now a.table.now c.in-C3R.visit c.in-C3R.right c.in-C3R.puts c.in-C3R.takes
+sums c = c.requires.1 _ _ _ _ _ (at c)
 
 pub returns-in_default : goal.returns-in_default
 returns-in_default c = λ number. (λ a b i j k e. absurd (c.in_default.not-C3R a b i j k (c.step_in.ensures ∙ e)), λ _. (refl, refl))
@@ -50,7 +49,7 @@ returns c =
     let here = at (goal.at.returns c).In-C3R in λ number. (
       λ _ _ _ _ _ _. rw c.moved.ensures (
         refl,
-        λ s k o heads b. let g = rw here at b in rw (here, c.totals_at-y.ensures, node_read s _ _ _ _ g),
+        λ k o heads. rw (here, c.totals_at-y.ensures),
       ),
       λ no. absurd (no _ _ _ _ _ here),
     )

@@ -16,8 +16,11 @@ at c = sym c.step_in.ensures ∙ c.in-C1.is
 pub returns-in_default : goal.returns-in_default
 returns-in_default c = (λ a e. absurd (c.in_default.not-C1 a (c.step_in.ensures ∙ e)), λ _. (refl, refl))
 
-pub left_head-left-requires : goal.left_head-left-requires
-left_head-left-requires c = let p = c.requires.1 _ (at (goal.at.left_head-left-requires c).In-C1) in search rules
+pub overflow_mul-visit : goal.overflow_mul-visit
+overflow_mul-visit c = let p = c.requires.1 _ (at (goal.at.overflow_mul-visit c).In-C1) in search rules
+
+pub head_of-left-requires : goal.head_of-left-requires
+head_of-left-requires c = let p = c.requires.1 _ (at (goal.at.head_of-left-requires c).In-C1) in search rules
 
 pub overflow_sub-left : goal.overflow_sub-left
 overflow_sub-left c = let p = c.requires.1 _ (at (goal.at.overflow_sub-left c).In-C1) in search rules
@@ -29,4 +32,4 @@ pub returns : goal.returns
 unfolding step go head_of left_of
 returns c =
     let here = at (goal.at.returns c).In-C1 in
-    (λ _ _. rw c.moved.ensures (refl, λ s number k o table. rw (here, c.left_head-left.ensures)), λ no. absurd (no _ here))
+    (λ _ _. rw c.moved.ensures (refl, λ s number k o table. rw (here, c.head_of-left.ensures)), λ no. absurd (no _ here))

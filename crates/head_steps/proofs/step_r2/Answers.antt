@@ -16,8 +16,11 @@ at c = sym c.step_in.ensures ∙ c.in-R2.is
 pub returns-in_default : goal.returns-in_default
 returns-in_default c = (λ a e. absurd (c.in_default.not-R2 a (c.step_in.ensures ∙ e)), λ _. (refl, refl))
 
-pub left_head-child-requires : goal.left_head-child-requires
-left_head-child-requires c = let p = c.requires.1 _ (at (goal.at.left_head-child-requires c).In-R2) in search rules
+pub overflow_mul-visit : goal.overflow_mul-visit
+overflow_mul-visit c = let p = c.requires.1 _ (at (goal.at.overflow_mul-visit c).In-R2) in search rules
+
+pub head_of-child-requires : goal.head_of-child-requires
+head_of-child-requires c = let p = c.requires.1 _ (at (goal.at.head_of-child-requires c).In-R2) in search rules
 
 pub moved-requires : goal.moved-requires
 moved-requires c = (search rules, busy _ (at (goal.at.moved-requires c).In-R2) tt)
@@ -26,4 +29,4 @@ pub returns : goal.returns
 unfolding step go head_of left_of
 returns c =
     let here = at (goal.at.returns c).In-R2 in
-    (λ _ _. rw c.moved.ensures (refl, λ s number k o table. rw (here, c.left_head-child.ensures)), λ no. absurd (no _ here))
+    (λ _ _. rw c.moved.ensures (refl, λ s number k o table. rw (here, c.head_of-child.ensures)), λ no. absurd (no _ here))

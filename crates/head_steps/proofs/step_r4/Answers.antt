@@ -16,8 +16,14 @@ at c = sym c.step_in.ensures ∙ c.in-R4.is
 pub returns-in_default : goal.returns-in_default
 returns-in_default c = (λ a e. absurd (c.in_default.not-R4 a (c.step_in.ensures ∙ e)), λ _. (refl, refl))
 
-pub right_head-child-requires : goal.right_head-child-requires
-right_head-child-requires c = let p = c.requires.1 _ (at (goal.at.right_head-child-requires c).In-R4) in search rules
+pub overflow_mul-visit : goal.overflow_mul-visit
+overflow_mul-visit c = let p = c.requires.1 _ (at (goal.at.overflow_mul-visit c).In-R4) in search rules
+
+pub overflow_add-visit : goal.overflow_add-visit
+overflow_add-visit c = let p = c.requires.1 _ (at (goal.at.overflow_add-visit c).In-R4) in search rules
+
+pub head_of-child-requires : goal.head_of-child-requires
+head_of-child-requires c = let p = c.requires.1 _ (at (goal.at.head_of-child-requires c).In-R4) in search rules
 
 pub moved-requires : goal.moved-requires
 moved-requires c = (search rules, busy _ (at (goal.at.moved-requires c).In-R4) tt)
@@ -26,4 +32,4 @@ pub returns : goal.returns
 unfolding step go head_of right_of
 returns c =
     let here = at (goal.at.returns c).In-R4 in
-    (λ _ _. rw c.moved.ensures (refl, λ s number k o table. rw (here, c.right_head-child.ensures)), λ no. absurd (no _ here))
+    (λ _ _. rw c.moved.ensures (refl, λ s number k o table. rw (here, c.head_of-child.ensures)), λ no. absurd (no _ here))

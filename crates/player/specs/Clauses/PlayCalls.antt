@@ -21,7 +21,7 @@ pub record AtStart (s : Shape) (starts heads table : List ℕ) (room bytes : ℕ
 -- the outcome, the memory and the answer bytes are those of g, whose answers were written in some bytes and compared
 -- with a log
 pub record PlayResult (g : Played) (log before : List ℕ) (o : Outcome) (table heads out : List ℕ) : Type 0 where
-  pub refusal : o.refusal ≡ g.refusal
+  pub ended : o.ended ≡ g.refusal
   pub taken : o.taken ≡ g.taken
   pub answered : o.answers ≡ length g.answers
   pub equal : o.equal ≡ leading_of g.answers log

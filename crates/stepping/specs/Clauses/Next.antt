@@ -1,7 +1,7 @@
 -- What the code of a named step promises: the memory that it leaves and the step that its process comes to are those of
 -- the rules, whatever it does not look at.
-use Rattle.std.specs.Prelude.{ℕ, ◌+◌, ◌*◌, ◌-◌, ◌<◌, ◌≡◌, Bool, true, false, List, []}
-use Rattle.tree.specs.Shape.{Shape, processes, leaf_of}
+use Rattle.std.specs.Prelude.{ℕ, ◌+◌, ◌-◌, ◌≡◌, Bool, true, false, List, []}
+use Rattle.tree.specs.Shape.{Shape}
 use Rattle.steps.specs.declared.Operation.{Operation}
 use Rattle.steps.specs.declared.Operation.TheVariants.{Take}
 use Rattle.steps.specs.declared.Visit.{Visit}
@@ -10,44 +10,11 @@ use Rattle.steps.specs.declared.Process.{Process}
 use Rattle.steps.specs.declared.Status.{Status}
 use Rattle.steps.specs.declared.Status.TheVariants.{Idle, Busy}
 use Rattle.steps.specs.declared.Step.{Step}
-use Rattle.steps.specs.declared.Step.TheVariants.{A, V1, V2, V3, R1, R2, R3, R4, R5, C1, C2, C3L, C3R, C3N, C4, Q}
+use Rattle.steps.specs.declared.Step.TheVariants.{A, V3, C3N}
 use Rattle.steps.specs.Rules.{of_child, same_totals, step, go}
 use Rattle.steps.specs.Machine.{stepped}
-use Rattle.tree.specs.Clauses.Access.{Begins, node_block}
+use Rattle.tree.specs.Blocks.{block_at}
 use Rattle.tree.specs.Memory.{memory_of, head_is, raise}
-
--- the parts of the nodes whose blocks a step looks at begin and end where they do in a tree of shape s; A, which knows
--- its leaf from its process, is told it
-abbrev pub PartsBegin : Shape → List ℕ → Step → Type 0
-PartsBegin s starts A = Unit {0}
-PartsBegin s starts (V1 a w v h) = Unit {0}
-PartsBegin s starts (V2 a w v h x) = Begins s starts v
-PartsBegin s starts (V3 a w v h) = Unit {0}
-PartsBegin s starts (R1 x v) = Unit {0}
-PartsBegin s starts (R2 w) = Unit {0}
-PartsBegin s starts (R3 w c) = Begins s starts (2 * w.node)
-PartsBegin s starts (R4 w) = Unit {0}
-PartsBegin s starts (R5 w c) = Begins s starts (2 * w.node + 1)
-PartsBegin s starts (C1 w) = Unit {0}
-PartsBegin s starts (C2 w l) = Unit {0}
-PartsBegin s starts (C3L w l r) = Begins s starts (2 * w.node)
-PartsBegin s starts (C3R w l r puts takes) = Begins s starts (2 * w.node + 1)
-PartsBegin s starts (C3N w l r puts takes) = Begins s starts w.node
-PartsBegin s starts (C4 w n) = Begins s starts w.node
-PartsBegin s starts Q = Unit {0}
-
--- there is a tree whose parts begin where the starts say, as far as the step looks at them
-pub record Fits (starts : List ℕ) (n : Step) : Type 0 where
-  pub shape : Shape
-  pub begins : PartsBegin shape starts n
-
--- there is one that has a process with this leaf, whose part begins where the starts say
-pub record FitsLeaf (starts : List ℕ) (leaf : ℕ) : Type 0 where
-  pub shape : Shape
-  pub process : ℕ
-  pub low : process < processes shape
-  pub own : leaf ≡ leaf_of shape process
-  pub begins : Begins shape starts leaf
 
 -- the operation that a busy process is inside of. An idle one is inside of none: no contract accepts it here
 abbrev pub operation_in : Status → Operation
@@ -79,10 +46,10 @@ abbrev pub NextTelling : List ℕ → List ℕ → Process → Process → Type 
 NextTelling heads heads' q r = (s : Shape) (number k : ℕ) (table : List ℕ)
     → let z = step s number k (operation_in q.status) (memory_of table heads) (step_in q.status) in (r ≡ stepped q z) × (z.memory ≡ memory_of table heads')
 
--- q becomes r by a step that looks at this table alone, by the starts of its parts, and leaves table'; number is that
--- of its record
-abbrev pub NextByTable : ℕ → List ℕ → List ℕ → List ℕ → Process → Process → Type 0
-NextByTable number starts table table' q r = Moves q r × ((s : Shape) (k : ℕ) (o : Operation) (heads : List ℕ) → PartsBegin s starts (step_in q.status)
+-- q becomes r, in a tree of shape s, by a step that looks at this table alone and leaves table'; number is that of its
+-- record
+abbrev pub NextByTable : Shape → ℕ → List ℕ → List ℕ → Process → Process → Type 0
+NextByTable s number table table' q r = Moves q r × ((k : ℕ) (o : Operation) (heads : List ℕ)
     → step s number k o (memory_of table heads) (step_in q.status)
     ≡ go s number k o (memory_of table heads) (memory_of table' heads) (step_in r.status))
 
@@ -97,8 +64,8 @@ StepsByHeads Each heads heads' q r = AtName Each q (NextByHeads heads heads' q r
 abbrev pub StepsTelling : ((Step → Type 0) → Type 0) → List ℕ → List ℕ → Process → Process → Type 0
 StepsTelling Each heads heads' q r = AtName Each q (NextTelling heads heads' q r) ((r ≡ q) × (heads' ≡ heads))
 
-abbrev pub StepsByTable : ((Step → Type 0) → Type 0) → ℕ → List ℕ → List ℕ → List ℕ → Process → Process → Type 0
-StepsByTable Each number starts table table' q r = AtName Each q (NextByTable number starts table table' q r) ((r ≡ q) × (table' ≡ table))
+abbrev pub StepsByTable : ((Step → Type 0) → Type 0) → Shape → ℕ → List ℕ → List ℕ → Process → Process → Type 0
+StepsByTable Each s number table table' q r = AtName Each q (NextByTable s number table table' q r) ((r ≡ q) × (table' ≡ table))
 
 -- Where process q is at V3, P holds of its registers; at another step, Same does.
 abbrev pub AtV3 : Process → (After → ℕ → ℕ → Type 0) → Type 0 → Type 0
@@ -124,8 +91,8 @@ AtC3N q P Same =
     × (((w : Visit) (l r puts takes : ℕ) → step_in q.status ≡ C3N w l r puts takes → ⊥) → Same)
 
 -- whether its totals are those of the block before the head; at another step nothing is added
-abbrev pub Decided : List ℕ → List ℕ → Process → Bool → Type 0
-Decided starts table q b = AtC3N q (λ w l r puts takes. b ≡ same_totals puts takes (node_block starts table w.node (w.head - 1))) (b ≡ true)
+abbrev pub Decided : Shape → List ℕ → Process → Bool → Type 0
+Decided s table q b = AtC3N q (λ w l r puts takes. b ≡ same_totals puts takes (block_at s table w.node (w.head - 1))) (b ≡ true)
 
 -- it becomes z, with step n of its registers next; at another step it stays
 abbrev pub GoesFromC3N : (Visit → ℕ → ℕ → ℕ → ℕ → Step) → Process → Process → Type 0

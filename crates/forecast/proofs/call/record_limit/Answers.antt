@@ -6,4 +6,4 @@ use Rattle.forecast.proofs.call.record_limit.Goals as goal
 
 pub returns : goal.returns
 unfolding record_limit step_limit
-returns c = λ s e. omega arith
+returns c = omega arith

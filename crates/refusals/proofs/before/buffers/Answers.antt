@@ -1,21 +1,17 @@
 -- `before::buffers` meets its contract.
-use native.Mathlib.Omega.{arith}
-use mathlib.Core.Path.{◌∙◌}
 use borrow.Author.Tests.{lt-ltb, le-ltb}
 use Rattle.calls.specs.Refusals.{buffer_refusal}
 use Rattle.calls.proofs.CallAccepted.{settings_operations}
-use Rattle.steps.proofs.Limits.{allowed_most, needed_for}
+use Rattle.steps.proofs.Limits.{allowed_most}
 use Rattle.refusals.proofs.before.buffers.Goals as goal
 
-pub words_needed-requires : goal.words_needed-requires
-words_needed-requires c = (c.height_for.ensures.2, omega (arith, c.as_index.ensures, (allowed_most _ (settings_operations _ _ c.requires)).1))
+pub new-requires : goal.new-requires
+new-requires c = (allowed_most _ (settings_operations _ _ c.requires)).1
 
 pub returns-then-words-words_needed : goal.returns-then-words-words_needed
 unfolding buffer_refusal
-returns-then-words-words_needed c =
-    rw (← (c.words_needed.ensures.0 ∙ needed_for _ _ _ _ c.height_for.ensures.0 c.as_index.ensures), lt-ltb _ _ c.if-words-words_needed.true)
+returns-then-words-words_needed c = rw (← c.new.ensures, ← c.words_needed.ensures.0, lt-ltb _ _ c.if-words-words_needed.true)
 
 pub returns : goal.returns
 unfolding buffer_refusal
-returns c =
-    rw (← (c.words_needed.ensures.0 ∙ needed_for _ _ _ _ c.height_for.ensures.0 c.as_index.ensures), le-ltb _ _ c.if-words-words_needed.false) c.of_bytes.ensures
+returns c = rw (← c.new.ensures, ← c.words_needed.ensures.0, le-ltb _ _ c.if-words-words_needed.false) c.of_bytes.ensures
