@@ -1,13 +1,13 @@
 -- A process whose next step is Q: its operation stands in the root, and where it stands gives its answer.
-use Prim.Native.Nat.{ℕ, zero, suc, ◌+◌, ◌-◌, ◌^◌, ◌≤◌, ◌<◌}
+use Prim.Native.Nat.{ℕ, ◌-◌, ◌<◌}
 use native.Mathlib.Omega.{arith}
-use mathlib.Core.Path.{◌≡◌, refl, subst, ◌∙◌}
+use mathlib.Core.Path.{◌≡◌, subst}
 use mathlib.Core.List.{List}
 use Rattle.record.specs.declared.Reply.{Reply}
 use Rattle.record.specs.declared.Reply.TheVariants.{Done}
 use Rattle.record.specs.declared.AnswerRecord.{AnswerRecord}
 use Rattle.tree.specs.declared.Kind.TheVariants.{Takes}
-use Rattle.tree.specs.Shape.{Shape, processes, root, leaf_of, height_for}
+use Rattle.tree.specs.Shape.{Shape, root}
 use Rattle.tree.specs.Memory.{Memory, head_of, block, memory_of}
 use Rattle.tree.specs.Order.{total}
 use Rattle.tree.proofs.Sound.{below_head}
@@ -31,32 +31,20 @@ use Rattle.answer.specs.Clauses.Playing.{machine_of, Plays}
 use Rattle.answer.specs.Clauses.Answering.{record_of, TakeAt}
 use Rattle.answer.proofs.PlaysLaws.{steps_small, helps_small, plays_tree}
 
--- the height of the tree for so many processes
-height_by : (H : ℕ) → 1 ≤ H → H ≤ 3 → height_for (2 ^ H) ≡ H
-unfolding height_for
-height_by zero f l = absurd (omega arith)
-height_by (suc zero) f l = refl
-height_by (suc (suc zero)) f l = refl
-height_by (suc (suc (suc zero))) f l = refl
-height_by (suc (suc (suc (suc H)))) f l = absurd (omega arith)
-
-module _ {s : Shape} {ps : List Process} {starts heads table : List ℕ} {k : ℕ} {q : Process} (plays : Plays s ps starts heads table k q) {p : ℕ} (width : processes s ≡ p) where
+module _ {s : Shape} {ps : List Process} {heads table : List ℕ} {k : ℕ} {q : Process} (plays : Plays s ps heads table k q) where
   abbrev m : Memory
   m = memory_of table heads
 
-  pub leaf_small : p + k < 16
-  leaf_small = omega (arith, plays.low, processes_most s plays.tall)
-
   pub answer_small : {r : Reply} {b : ℕ} {x : AnswerRecord} → x ≡ record_of k q r b → (x.process < 256) × (x.steps < 256) × (x.helps < 256)
   answer_small e =
-      rw e (omega (arith, leaf_small), omega (arith, steps_small s ps starts heads table k q plays), omega (arith, helps_small s ps starts heads table k q plays))
+      rw e (
+        omega (arith, plays.low, processes_most s plays.tall),
+        omega (arith, steps_small s ps heads table k q plays),
+        omega (arith, helps_small s ps heads table k q plays),
+      )
 
-  height_is : height_for p ≡ s.height
-  unfolding processes
-  height_is = rw (← width) (height_by s.height plays.inner plays.tall)
-
-  tree : SoundTree s starts heads table
-  tree = plays_tree s ps starts heads table k q plays
+  tree : SoundTree s heads table
+  tree = plays_tree s ps heads table k q plays
 
   -- i is the operation's serial
   module _ {o : Operation} (status : q.status ≡ Busy o Q) {i : ℕ} (serial : i ≡ q.begun) where
@@ -67,9 +55,8 @@ module _ {s : Shape} {ps : List Process} {starts heads table : List ℕ} {k : �
         (subst (λ (x : Process). Carried s m (holding (machine_of table heads ps)) k x.begun (stage_of x.status)) plays.here (plays.keeps.process k plays.low).carried)
 
     -- so it can be found there
-    pub stands_as : Stands starts heads table (p + k) i s k
-    unfolding leaf_of
-    stands_as = rw serial (record { tree = tree; process = plays.low; own = rw width; first = plays.some o Q status; rooted = rooted })
+    pub stands_as : Stands s heads table k i
+    stands_as = rw serial (record { tree = tree; process = plays.low; first = plays.some o Q status; rooted = rooted })
 
     -- the record that is made is its answer
     answer_is : {b : ℕ} {r : Reply} → RootBlockIs s table k i b → r ≡ reply_of s table (record { process = k; serial = i }) o
@@ -90,19 +77,12 @@ module _ {s : Shape} {ps : List Process} {starts heads table : List ℕ} {k : �
           let held = reached_present s m tree.sound plays.inner k plays.low (head_of m root - 1) (below_head n _ (omega (arith, n.head))) q.begun (plays.some o Q status) rooted in
           omega (arith, (plays.own Take Q (rw e at status) held).1)
 
-      pub take_stands : StandsOf Takes starts heads table (p + k) i s k
+      pub take_stands : StandsOf Takes s heads table k i
       take_stands = (stands_as, rw serial of_takes)
 
       module _ {at : Standing} (stands : StandsAt s table Takes k i at) where
-        pub taken_as : {height : ℕ} → height ≡ height_for p → TakeAt starts table height at.block at.rank s heads
-        taken_as tall =
-            record {
-              tree = tree;
-              tall = tall ∙ height_is;
-              some = stands.block.first;
-              most = stands.block.last;
-              first = stands.some;
-            }
+        pub taken_as : TakeAt s table at.block at.rank heads
+        taken_as = record { tree = tree; some = stands.block.first; most = stands.block.last; first = stands.some }
 
         pub take_answer : {r : Reply} → r ≡ take_reply s table at.block at.rank → record_of k q r at.block ≡ answer_of s (machine_of table heads ps) k o
         unfolding reply_of

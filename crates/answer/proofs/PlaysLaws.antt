@@ -16,7 +16,7 @@ use Rattle.steps.proofs.Costs.{rest_first}
 use Rattle.steps.proofs.Readiness.{ready}
 use Rattle.answer.specs.Clauses.Playing.{machine_of, Plays}
 
-module _ (s : Shape) (ps : List Process) (starts heads table : List ℕ) (k : ℕ) (q : Process) (plays : Plays s ps starts heads table k q) where
+module _ (s : Shape) (ps : List Process) (heads table : List ℕ) (k : ℕ) (q : Process) (plays : Plays s ps heads table k q) where
   -- its own steps, with one more, and its helps fit a byte, by the limit on own steps; the operations that it has begun
   -- are few
   pub steps_small : q.steps < 255
@@ -31,18 +31,17 @@ module _ (s : Shape) (ps : List Process) (starts heads table : List ℕ) (k : �
   begun_small = omega (arith, (plays.keeps.process k plays.low).within, ap (λ (x : Process). x.begun) plays.here, plays.few)
 
   -- its memory is a sound tree
-  pub plays_tree : SoundTree s starts heads table
+  pub plays_tree : SoundTree s heads table
   plays_tree =
       record {
         inner = plays.inner;
         tall = plays.tall;
         few = plays.few;
-        laid = plays.laid;
         sized = plays.keeps.sized;
         sound = plays.keeps.sound;
       }
 
   -- a busy process that is not at Q can take its step
-  pub plays_ready : (o : Operation) (n : Step) → q.status ≡ Busy o n → is_q n ≡ false → Ready starts heads table (leaf_of s k) n
+  pub plays_ready : (o : Operation) (n : Step) → q.status ≡ Busy o n → is_q n ≡ false → Ready s heads table (leaf_of s k) n
   plays_ready o n e z =
-      ready s (machine_of table heads ps) plays.keeps starts plays_tree k plays.low o n (ap (λ (x : Process). x.status) plays.here ∙ e) z
+      ready s (machine_of table heads ps) plays.keeps plays_tree k plays.low o n (ap (λ (x : Process). x.status) plays.here ∙ e) z

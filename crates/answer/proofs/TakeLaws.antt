@@ -19,58 +19,48 @@ use Rattle.tree.specs.Memory.{Memory, block, memory_of}
 use Rattle.tree.specs.Order.{total, last_root}
 use Rattle.tree.proofs.Sound.{totals_rise}
 use Rattle.tree.proofs.LastRoot.{node_root, root_sound, root_written}
-use Rattle.tree.specs.Clauses.Access.{HasPlace, node_block}
+use Rattle.tree.specs.Clauses.Access.{HasPlace}
 use Rattle.calls.specs.Answer.{margin, put_number, value_of, take_reply}
 use Rattle.calls.proofs.RootQueue.{size_within}
 use Rattle.search.specs.Clauses.Numbered.{Numbered, ValueAt}
-use Rattle.tree.proofs.Places.{places_most, node_reads, written_place}
+use Rattle.tree.proofs.Places.{places_most, written_place}
 use Rattle.answer.specs.Clauses.Answering.{TakeAt}
 use Rattle.answer.proofs.Margins.{margin_below, by_below, by_rest}
 
-module _ {s : Shape} {heads starts table : List ℕ} {height b i : ℕ} (h : TakeAt starts table height b i s heads) where
+module _ {s : Shape} {heads table : List ℕ} {b i : ℕ} (h : TakeAt s table b i heads) where
   abbrev m : Memory
   m = memory_of table heads
 
-  root_place : (j : ℕ) → j ≤ last_root s table → HasPlace starts table 1 j
+  root_place : (j : ℕ) → j ≤ last_root s table → HasPlace s table 1 j
   unfolding root
   root_place j l =
       written_place h.tree root j (node_root s) (root_written s m h.tree.sound j l)
 
-  pub place_before : HasPlace starts table 1 (b - 1)
+  pub place_before : HasPlace s table 1 (b - 1)
   place_before = root_place (b - 1) (omega (arith, h.most))
 
-  pub place_here : HasPlace starts table 1 b
+  pub place_here : HasPlace s table 1 b
   place_here = root_place b h.most
 
-  root_reads : (j : ℕ) → node_block starts table 1 j ≡ block_at s table root j
-  unfolding root block
-  root_reads j = node_reads h.tree root j (node_root s)
-
   -- x and y are the block before and the block itself
-  module _ {x y : Block} (ex : x ≡ node_block starts table 1 (b - 1)) (ey : y ≡ node_block starts table 1 b) where
-    before_is : x ≡ block_at s table root (b - 1)
-    before_is = ex ∙ root_reads (b - 1)
-
-    here_is : y ≡ block_at s table root b
-    here_is = ey ∙ root_reads b
-
+  module _ {x y : Block} (ex : x ≡ block_at s table 1 (b - 1)) (ey : y ≡ block_at s table 1 b) where
     pub puts_rise_lem : x.puts ≤ y.puts
-    unfolding total block
+    unfolding root total block
     puts_rise_lem =
-        rw (before_is, here_is)
+        rw (ex, ey)
         (totals_rise (root_sound s m h.tree.sound) Puts (b - 1) b (omega arith) (root_written s m h.tree.sound b h.most))
 
     size_low_lem : x.size ≤ x.puts
-    unfolding block
-    size_low_lem = rw before_is (size_within s m h.tree.sound h.tree.inner (b - 1) (omega (arith, h.most)))
+    unfolding root block
+    size_low_lem = rw ex (size_within s m h.tree.sound h.tree.inner (b - 1) (omega (arith, h.most)))
 
     pub number_low : x.size ≤ i + x.puts
     number_low = omega (arith, size_low_lem)
 
     puts_small : y.puts ≤ 4000
-    unfolding block
+    unfolding root block
     puts_small =
-        rw here_is (omega (arith, (root_sound s m h.tree.sound).within b, places_most s h.tree.tall h.tree.few root))
+        rw ey (omega (arith, (root_sound s m h.tree.sound).within b, places_most s h.tree.tall h.tree.few root))
 
     -- z is the margin, and the code tests its bits
     module _ {z : ℤ} (ez : z ≡ pos x.size +ℤ pos (y.puts - x.puts) -ℤ pos i) (fits : SFits w64 z) where
@@ -78,8 +68,8 @@ module _ {s : Shape} {heads starts table : List ℕ} {height b i : ℕ} (h : Tak
       bits_are = to_z-of_z fits ∙ ez
 
       margin_is : to_z w64 (of_z w64 z) ≡ margin s table b i
-      unfolding margin
-      margin_is = bits_are ∙ rw (before_is, here_is)
+      unfolding margin root
+      margin_is = bits_are ∙ rw (ex, ey)
 
       pub take_none : lt_z (to_z w64 (of_z w64 z)) (pos 0) ≡ true → Nothing ≡ take_reply s table b i
       unfolding take_reply
@@ -93,18 +83,18 @@ module _ {s : Shape} {heads starts table : List ℕ} {height b i : ℕ} (h : Tak
         pub number_small : i + x.puts ≤ 8000
         number_small = omega (arith, enough, puts_rise_lem, size_low_lem, puts_small)
 
-        pub take_numbered : Numbered starts table height b (i + x.puts - x.size) s heads
+        pub take_numbered : Numbered s table b (i + x.puts - x.size) heads
+        unfolding root
         take_numbered =
             record {
               tree = h.tree;
-              tall = h.tall;
               some = h.some;
               most = h.most;
               first = omega (arith, size_low_lem, h.first);
-              within = omega (arith, enough, puts_rise_lem, ap (λ (w : Block). w.puts) here_is);
+              within = omega (arith, enough, puts_rise_lem, ap (λ (w : Block). w.puts) ey);
             }
 
         pub take_some : {v : ℕ} → ValueAt s table (i + x.puts - x.size) v → Value v ≡ take_reply s table b i
-        unfolding take_reply put_number value_of
+        unfolding take_reply put_number value_of root
         take_some f =
-            ap Value (rw before_is at (f (record { process = 0; serial = 0 }))) ∙ sym (by_rest (margin s table b i) _ (rw margin_is at e))
+            ap Value (rw ex at (f (record { process = 0; serial = 0 }))) ∙ sym (by_rest (margin s table b i) _ (rw margin_is at e))

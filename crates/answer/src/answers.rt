@@ -1,18 +1,18 @@
 // The answer record of an operation whose next step is Q.
 ghost use Rattle.std.specs.Prelude.{◌≡◌, List, ◌<◌};
-ghost use Rattle.tree.specs.Shape.{Shape, processes};
+ghost use Rattle.base.specs.Clauses.Some.{Some};
 ghost use Rattle.steps.specs.declared.Process.{Process as Proc};
 ghost use Rattle.steps.specs.declared.Status.TheVariants.{Busy};
 ghost use Rattle.steps.specs.declared.Step.TheVariants.{Q};
 ghost use Rattle.calls.specs.Answer.{answer_of};
-ghost use Rattle.answer.specs.Clauses.Playing.{machine_of, Plays, Playing};
+ghost use Rattle.answer.specs.Clauses.Playing.{machine_of, Plays};
 ghost use Rattle.answer.specs.Clauses.Answering.{record_of};
 
 use crate::replies::take_reply;
 use record::{AnswerRecord, Reply};
 use search::climb::{root_block, standing};
 use steps::{Operation, Process};
-use table::layout::height_for;
+use table::layout::Layout;
 
 // The answer record of process k, which is q, with a reply and a root block. Q is one more own step.
 fn answer(k: u32, q: Process, reply: Reply, block: u32) -> AnswerRecord
@@ -29,32 +29,29 @@ fn answer(k: u32, q: Process, reply: Reply, block: u32) -> AnswerRecord
     }
 }
 
-// The answer of operation o of process k, which is q. Its leaf is node p + k. Only a take's reply goes by its number in
-// the root block.
+// The answer of operation o of process k, which is q. Only a take's reply goes by its number in the root block.
 pub fn answer_of(
     heads: &[u32],
     table: &[u32],
-    starts: &[usize; 17],
-    p: u32,
+    layout: &Layout,
     k: u32,
     q: Process,
     o: Operation,
 ) -> AnswerRecord
-    requires { Playing p starts.now heads.now table.now k q × (q.status ≡ Busy o Q) }
-    ensures record { (s : Shape) (ps : List Proc) → processes s ≡ p → Plays s ps starts.now heads.now table.now k q →
-        result ≡ answer_of s (machine_of table.now heads.now ps) k o }
+    requires { Some (λ ps. Plays layout.now ps heads.now table.now k q) × (q.status ≡ Busy o Q) }
+    ensures record { (ps : List Proc) → Plays layout.now ps heads.now table.now k q →
+        result ≡ answer_of layout.now (machine_of table.now heads.now ps) k o }
     ensures bounds { (result.process < 256) × (result.steps < 256) × (result.helps < 256) }
 {
-    let leaf = p + k;
     let serial = q.serial();
     match o {
         Operation::Put(_) => {
-            let block = root_block(heads, table, starts, leaf, serial);
+            let block = root_block(heads, table, layout, k, serial);
             answer(k, q, Reply::Done, block)
         }
         Operation::Take => {
-            let at = standing(heads, table, starts, leaf, serial);
-            let reply = take_reply(table, starts, height_for(p), at.block, at.rank);
+            let at = standing(heads, table, layout, k, serial);
+            let reply = take_reply(table, layout, at.block, at.rank);
             answer(k, q, reply, at.block)
         }
     }

@@ -8,7 +8,6 @@ use Rattle.steps.specs.declared.Step.{Step}
 use Rattle.steps.specs.declared.Status.TheVariants.{Busy}
 use Rattle.steps.specs.declared.Process.{Process}
 use Rattle.steps.specs.Machine.{Machine, process_of}
-use Rattle.tree.specs.Clauses.Access.{Laid}
 use Rattle.steps.proofs.Invariant.{Invariant}
 use Rattle.calls.proofs.Leaves.{IsBlockOf}
 
@@ -16,12 +15,11 @@ use Rattle.calls.proofs.Leaves.{IsBlockOf}
 abbrev pub machine_of : List ℕ → List ℕ → List Process → Machine
 machine_of table heads ps = record { memory = memory_of table heads; processes = ps }
 
--- process k is q in a machine that keeps the invariant, whose parts begin at the starts
-pub record Plays (s : Shape) (ps : List Process) (starts heads table : List ℕ) (k : ℕ) (q : Process) : Type 0 where
+-- process k is q in a machine that keeps the invariant
+pub record Plays (s : Shape) (ps : List Process) (heads table : List ℕ) (k : ℕ) (q : Process) : Type 0 where
   pub inner : 1 ≤ s.height
   pub tall : s.height ≤ 3
   pub few : s.most ≤ 500
-  pub laid : Laid s starts heads
   pub low : k < processes s
   pub here : process_of (machine_of table heads ps) k ≡ q
   pub keeps : Invariant s (machine_of table heads ps)
@@ -30,10 +28,3 @@ pub record Plays (s : Shape) (ps : List Process) (starts heads table : List ℕ)
   pub own : (o : Operation) (n : Step) → q.status ≡ Busy o n
       → let m = memory_of table heads in Present s m (leaf_of s k) q.begun
       → IsBlockOf o (block s m (leaf_of s k) (q.begun - 1)) (block s m (leaf_of s k) q.begun)
-
--- it does so in some machine of p processes
-pub record Playing (p : ℕ) (starts heads table : List ℕ) (k : ℕ) (q : Process) : Type 0 where
-  pub shape : Shape
-  pub others : List Process
-  pub width : processes shape ≡ p
-  pub plays : Plays shape others starts heads table k q
