@@ -7,29 +7,18 @@ use Rattle.tree.specs.Shape.{Shape}
 use Rattle.steps.specs.declared.Process.{Process}
 use Rattle.answer.specs.Clauses.Playing.{Plays}
 use Rattle.answer.proofs.PlaysLaws.{steps_small, begun_small}
-use Rattle.answer.proofs.AtQ.{answer_small, stands_as, put_answer, taken_as, take_answer, take_stands}
+use Rattle.answer.proofs.AtQ.{answer_small, put_answer, take_answer, take_stands}
 use Rattle.answer.proofs.answers.answer_of.Goals as goal
 
 -- its own steps and its serial fit their fields
 answer_fits : {s : Shape} {ps : List Process} {heads table : List ℕ} {k : ℕ} {q : Process} → Plays s ps heads table k q → (q.steps < 65535) × (q.begun < 65536)
 answer_fits plays = (omega (arith, steps_small _ _ _ _ _ _ plays), omega (arith, begun_small _ _ _ _ _ _ plays))
 
-pub serial-serial-requires : goal.serial-serial-requires
-serial-serial-requires c = omega (arith, begun_small _ _ _ _ _ _ c.requires.0.holds)
-
-pub root_block-block-requires : goal.root_block-block-requires
-root_block-block-requires c = let p = c.requires in stands_as p.0.holds p.1 c.serial-serial.ensures
-
 pub answer-requires : goal.answer-requires
 answer-requires c = answer_fits c.requires.0.holds
 
 pub standing-at-requires : goal.standing-at-requires
 standing-at-requires c = let p = c.requires in take_stands p.0.holds p.1 c.serial-serial.ensures c.in-Take.is
-
-pub take_reply-reply-requires : goal.take_reply-reply-requires
-take_reply-reply-requires c =
-    let p = c.requires in
-    record { one = _; holds = taken_as p.0.holds p.1 c.serial-serial.ensures c.in-Take.is c.standing-at.ensures }
 
 pub answer-requires-in-Take : goal.answer-requires-in-Take
 answer-requires-in-Take c = answer_fits c.requires.0.holds
