@@ -36,5 +36,5 @@ put_value-value-requires c =
 
 pub returns : goal.returns
 returns c =
-    take_some c.requires.holds c.block_at-before.ensures c.block_at-here.ensures c.margin.ensures (search rules) c.if-margin-lt0.false
-    c.put_value-value.ensures
+    let e = c.if-margin-lt0.false in
+    take_some c.requires.holds c.block_at-before.ensures c.block_at-here.ensures c.margin.ensures (search rules) e c.put_value-value.ensures
