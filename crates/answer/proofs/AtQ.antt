@@ -37,7 +37,11 @@ module _ {s : Shape} {ps : List Process} {heads table : List ℕ} {k : ℕ} {q :
 
   pub answer_small : {r : Reply} {b : ℕ} {x : AnswerRecord} → x ≡ record_of k q r b → (x.process < 256) × (x.steps < 256) × (x.helps < 256)
   answer_small e =
-      rw e (omega (arith, plays.low, processes_most s plays.tall), omega (arith, steps_small s ps heads table k q plays), omega (arith, helps_small s ps heads table k q plays))
+      rw e (
+        omega (arith, plays.low, processes_most s plays.tall),
+        omega (arith, steps_small s ps heads table k q plays),
+        omega (arith, helps_small s ps heads table k q plays),
+      )
 
   tree : SoundTree s heads table
   tree = plays_tree s ps heads table k q plays
@@ -78,13 +82,7 @@ module _ {s : Shape} {ps : List Process} {heads table : List ℕ} {k : ℕ} {q :
 
       module _ {at : Standing} (stands : StandsAt s table Takes k i at) where
         pub taken_as : TakeAt s table at.block at.rank heads
-        taken_as =
-            record {
-              tree = tree;
-              some = stands.block.first;
-              most = stands.block.last;
-              first = stands.some;
-            }
+        taken_as = record { tree = tree; some = stands.block.first; most = stands.block.last; first = stands.some }
 
         pub take_answer : {r : Reply} → r ≡ take_reply s table at.block at.rank → record_of k q r at.block ≡ answer_of s (machine_of table heads ps) k o
         unfolding reply_of

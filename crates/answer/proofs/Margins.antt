@@ -1,24 +1,14 @@
 -- Laws of the margin.
-use Prim.Native.Nat.{ℕ, zero, suc, ◌+◌, ◌-◌, ◌<◌}
+use Prim.Native.Nat.{ℕ, zero, suc, ◌+◌, ◌-◌}
 use mathlib.Core.Path.{◌≡◌, refl, sym, ◌∙◌}
 use mathlib.Core.Bool.{Bool, true, false, cond, true≢false}
 use native.Mathlib.Omega.{arith}
-use native.Mathlib.Nat.{add-zero}
 use borrow.Author.Tests.{ltb-true, le-ltb}
 use lib.Dec.{ltb}
 use lib.IntN.{ℤ, pos, negsuc, ◌+ℤ◌, ◌-ℤ◌}
-use lib.Signed.{mag, lt_z}
+use lib.Signed.{lt_z}
 use Rattle.record.specs.declared.Reply.TheVariants.{Value, Nothing}
 use Rattle.calls.specs.Answer.{by_margin}
-
-mag_by : (a b m : ℕ) → a < m → b < m → (t : Bool) → ltb a (suc b) ≡ t → mag (cond t (negsuc (suc b - suc a)) (pos (a - suc b))) < m
-mag_by a b m h k true e = omega arith
-mag_by a b m h k false e = omega arith
-
--- a difference of two natural numbers is no larger than either
-pub mag_sub : (a b m : ℕ) → a < m → b < m → mag (pos a -ℤ pos b) < m
-mag_sub a zero m h k = rw add-zero h
-mag_sub a (suc b) m h k = mag_by a b m h (omega arith) (ltb a (suc b)) refl
 
 below_by : (a b : ℕ) (t : Bool) → ltb a (suc b) ≡ t → lt_z (cond t (negsuc (suc b - suc a)) (pos (a - suc b))) (pos 0) ≡ t
 below_by a b true e = refl

@@ -44,31 +44,23 @@ module _ {s : Shape} {heads table : List ℕ} {b i : ℕ} (h : TakeAt s table b 
 
   -- x and y are the block before and the block itself
   module _ {x y : Block} (ex : x ≡ block_at s table 1 (b - 1)) (ey : y ≡ block_at s table 1 b) where
-    before_is : x ≡ block_at s table root (b - 1)
-    unfolding root
-    before_is = ex
-
-    here_is : y ≡ block_at s table root b
-    unfolding root
-    here_is = ey
-
     pub puts_rise_lem : x.puts ≤ y.puts
-    unfolding total block
+    unfolding root total block
     puts_rise_lem =
-        rw (before_is, here_is)
+        rw (ex, ey)
         (totals_rise (root_sound s m h.tree.sound) Puts (b - 1) b (omega arith) (root_written s m h.tree.sound b h.most))
 
     size_low_lem : x.size ≤ x.puts
-    unfolding block
-    size_low_lem = rw before_is (size_within s m h.tree.sound h.tree.inner (b - 1) (omega (arith, h.most)))
+    unfolding root block
+    size_low_lem = rw ex (size_within s m h.tree.sound h.tree.inner (b - 1) (omega (arith, h.most)))
 
     pub number_low : x.size ≤ i + x.puts
     number_low = omega (arith, size_low_lem)
 
     puts_small : y.puts ≤ 4000
-    unfolding block
+    unfolding root block
     puts_small =
-        rw here_is (omega (arith, (root_sound s m h.tree.sound).within b, places_most s h.tree.tall h.tree.few root))
+        rw ey (omega (arith, (root_sound s m h.tree.sound).within b, places_most s h.tree.tall h.tree.few root))
 
     -- z is the margin, and the code tests its bits
     module _ {z : ℤ} (ez : z ≡ pos x.size +ℤ pos (y.puts - x.puts) -ℤ pos i) (fits : SFits w64 z) where
@@ -76,8 +68,8 @@ module _ {s : Shape} {heads table : List ℕ} {b i : ℕ} (h : TakeAt s table b 
       bits_are = to_z-of_z fits ∙ ez
 
       margin_is : to_z w64 (of_z w64 z) ≡ margin s table b i
-      unfolding margin
-      margin_is = bits_are ∙ rw (before_is, here_is)
+      unfolding margin root
+      margin_is = bits_are ∙ rw (ex, ey)
 
       pub take_none : lt_z (to_z w64 (of_z w64 z)) (pos 0) ≡ true → Nothing ≡ take_reply s table b i
       unfolding take_reply
@@ -92,16 +84,17 @@ module _ {s : Shape} {heads table : List ℕ} {b i : ℕ} (h : TakeAt s table b 
         number_small = omega (arith, enough, puts_rise_lem, size_low_lem, puts_small)
 
         pub take_numbered : Numbered s table b (i + x.puts - x.size) heads
+        unfolding root
         take_numbered =
             record {
               tree = h.tree;
               some = h.some;
               most = h.most;
               first = omega (arith, size_low_lem, h.first);
-              within = omega (arith, enough, puts_rise_lem, ap (λ (w : Block). w.puts) here_is);
+              within = omega (arith, enough, puts_rise_lem, ap (λ (w : Block). w.puts) ey);
             }
 
         pub take_some : {v : ℕ} → ValueAt s table (i + x.puts - x.size) v → Value v ≡ take_reply s table b i
-        unfolding take_reply put_number value_of
+        unfolding take_reply put_number value_of root
         take_some f =
-            ap Value (rw before_is at (f (record { process = 0; serial = 0 }))) ∙ sym (by_rest (margin s table b i) _ (rw margin_is at e))
+            ap Value (rw ex at (f (record { process = 0; serial = 0 }))) ∙ sym (by_rest (margin s table b i) _ (rw margin_is at e))

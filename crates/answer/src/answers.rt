@@ -1,10 +1,11 @@
 // The answer record of an operation whose next step is Q.
 ghost use Rattle.std.specs.Prelude.{◌≡◌, List, ◌<◌};
+ghost use Rattle.base.specs.Clauses.Some.{Some};
 ghost use Rattle.steps.specs.declared.Process.{Process as Proc};
 ghost use Rattle.steps.specs.declared.Status.TheVariants.{Busy};
 ghost use Rattle.steps.specs.declared.Step.TheVariants.{Q};
 ghost use Rattle.calls.specs.Answer.{answer_of};
-ghost use Rattle.answer.specs.Clauses.Playing.{machine_of, Plays, Playing};
+ghost use Rattle.answer.specs.Clauses.Playing.{machine_of, Plays};
 ghost use Rattle.answer.specs.Clauses.Answering.{record_of};
 
 use crate::replies::take_reply;
@@ -37,7 +38,7 @@ pub fn answer_of(
     q: Process,
     o: Operation,
 ) -> AnswerRecord
-    requires { Playing layout.now heads.now table.now k q × (q.status ≡ Busy o Q) }
+    requires { Some (λ ps. Plays layout.now ps heads.now table.now k q) × (q.status ≡ Busy o Q) }
     ensures record { (ps : List Proc) → Plays layout.now ps heads.now table.now k q →
         result ≡ answer_of layout.now (machine_of table.now heads.now ps) k o }
     ensures bounds { (result.process < 256) × (result.steps < 256) × (result.helps < 256) }

@@ -1,1 +1,2 @@
 pub mod BlockStores
+pub mod PlaceSearch

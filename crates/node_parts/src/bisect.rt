@@ -14,15 +14,6 @@ pub fn first_reaching(part: &[u32], word: usize, last: usize, x: u32) -> usize
     ensures reaches { (1 ≤ result) × (result ≤ last) × (x ≤ word_in part.now result word) }
     ensures first { (i : ℕ) → 1 ≤ i → i < result → word_in part.now i word < x }
 {
-    let mut low: usize = 0;
-    let mut high = last;
-    while low + 1 < high {
-        let middle = (low + high) / 2;
-        if part[BLOCK_WORDS * middle + word] < x {
-            low = middle;
-        } else {
-            high = middle;
-        }
-    }
-    high
+    let blocks = part.as_chunks::<BLOCK_WORDS>().0;
+    1 + blocks[1..last].partition_point(|block| block[word] < x)
 }

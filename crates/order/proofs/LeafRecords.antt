@@ -1,7 +1,7 @@
 -- A leaf's block as order records: one, if its total of the kind is above that of the block before it, else none.
 use Prim.Native.Nat.{ℕ, ◌-◌, ◌≤◌, ◌<◌}
 use native.Mathlib.Omega.{arith}
-use mathlib.Core.Path.{◌≡◌, ap}
+use mathlib.Core.Path.{◌≡◌}
 use mathlib.Core.Bool.{true, false}
 use mathlib.Core.List.{List, [], flat_map, append-nil}
 use Rattle.record.specs.declared.OrderRecord.{OrderRecord}
@@ -14,7 +14,6 @@ use Rattle.tree.specs.Order.{opened, placed}
 use Rattle.tree.proofs.Levels.{level_leaf}
 use Rattle.order.specs.OrderList.{kind_number, order_record}
 use Rattle.order.specs.declared.Listing.{Listing}
-use Rattle.order.specs.declared.Subtree.{Subtree}
 use Rattle.order.specs.Clauses.Opens.{leaf_at, adds_to, BlockOf}
 use Rattle.order.specs.Clauses.Listed.{block_records}
 use Rattle.order.proofs.Subblocks.{subtree_low}
@@ -46,7 +45,3 @@ module _ (s : Shape) (table : List ℕ) (x : Listing) (v b : ℕ) where
   pub leaf_one : adds_to s table x.kind v b ≡ true → block_records s table x (leaf_at v) b ≡ order_bytes (leaf_record s x v b)
   unfolding block_records opened flat_map block placed order_record
   leaf_one e = rw e (append-nil _)
-
--- a node of height 0 is a leaf
-pub leaf_at_lem : (y : Subtree) → y.height ≡ 0 → y ≡ leaf_at y.node
-leaf_at_lem y e = ap (λ (h : ℕ). record { node = y.node; height = h }) e

@@ -1,5 +1,4 @@
 pub mod Holding
-pub mod Firsts
 pub mod Words
 pub mod HeldBelow
 pub mod NumbersUp

@@ -28,8 +28,3 @@ pub record Plays (s : Shape) (ps : List Process) (heads table : List ℕ) (k : �
   pub own : (o : Operation) (n : Step) → q.status ≡ Busy o n
       → let m = memory_of table heads in Present s m (leaf_of s k) q.begun
       → IsBlockOf o (block s m (leaf_of s k) (q.begun - 1)) (block s m (leaf_of s k) q.begun)
-
--- it does so with some processes
-pub record Playing (s : Shape) (heads table : List ℕ) (k : ℕ) (q : Process) : Type 0 where
-  pub others : List Process
-  pub plays : Plays s others heads table k q

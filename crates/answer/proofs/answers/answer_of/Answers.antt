@@ -1,42 +1,40 @@
 -- `answers::answer_of` meets its contract.
+use Prim.Native.Nat.{ℕ, ◌<◌}
 use native.Mathlib.Omega.{arith}
 use mathlib.Core.Path.{◌∙◌}
+use mathlib.Core.List.{List}
+use Rattle.tree.specs.Shape.{Shape}
+use Rattle.steps.specs.declared.Process.{Process}
+use Rattle.answer.specs.Clauses.Playing.{Plays}
 use Rattle.answer.proofs.PlaysLaws.{steps_small, begun_small}
-use Rattle.answer.proofs.AtQ.{answer_small, stands_as, put_answer, taken_as, take_answer, take_stands}
+use Rattle.answer.proofs.AtQ.{answer_small, put_answer, take_answer, take_stands}
 use Rattle.answer.proofs.answers.answer_of.Goals as goal
 
-pub serial-serial-requires : goal.serial-serial-requires
-serial-serial-requires c = omega (arith, begun_small _ _ _ _ _ _ c.requires.0.plays)
-
-pub root_block-block-requires : goal.root_block-block-requires
-root_block-block-requires c = stands_as c.requires.0.plays c.requires.1 c.serial-serial.ensures
+-- its own steps and its serial fit their fields
+answer_fits : {s : Shape} {ps : List Process} {heads table : List ℕ} {k : ℕ} {q : Process} → Plays s ps heads table k q → (q.steps < 65535) × (q.begun < 65536)
+answer_fits plays = (omega (arith, steps_small _ _ _ _ _ _ plays), omega (arith, begun_small _ _ _ _ _ _ plays))
 
 pub answer-requires : goal.answer-requires
-answer-requires c =
-    let plays = c.requires.0.plays in (omega (arith, steps_small _ _ _ _ _ _ plays), omega (arith, begun_small _ _ _ _ _ _ plays))
+answer-requires c = answer_fits c.requires.0.holds
 
 pub standing-at-requires : goal.standing-at-requires
-standing-at-requires c = take_stands c.requires.0.plays c.requires.1 c.serial-serial.ensures c.in-Take.is
-
-pub take_reply-reply-requires : goal.take_reply-reply-requires
-take_reply-reply-requires c =
-    record { one = c.args.heads.now; holds = taken_as c.requires.0.plays c.requires.1 c.serial-serial.ensures c.in-Take.is c.standing-at.ensures }
+standing-at-requires c = let p = c.requires in take_stands p.0.holds p.1 c.serial-serial.ensures c.in-Take.is
 
 pub answer-requires-in-Take : goal.answer-requires-in-Take
-answer-requires-in-Take c =
-    let plays = c.requires.0.plays in (omega (arith, steps_small _ _ _ _ _ _ plays), omega (arith, begun_small _ _ _ _ _ _ plays))
+answer-requires-in-Take c = answer_fits c.requires.0.holds
 
 pub returns-in-Put : goal.returns-in-Put
 returns-in-Put c =
     let p = c.requires in record {
       «record» = λ ps plays. c.answer.ensures ∙ put_answer plays p.1 c.serial-serial.ensures c.in-Put.is c.root_block-block.ensures;
-      bounds = answer_small p.0.plays c.answer.ensures;
+      bounds = answer_small p.0.holds c.answer.ensures;
     }
 
 pub returns-in-Take : goal.returns-in-Take
 returns-in-Take c =
     let p = c.requires in record {
       «record» = λ ps plays.
-          c.answer-in-Take.ensures ∙ take_answer plays p.1 c.serial-serial.ensures c.in-Take.is c.standing-at.ensures c.take_reply-reply.ensures;
-      bounds = answer_small p.0.plays c.answer-in-Take.ensures;
+          c.answer-in-Take.ensures
+          ∙ take_answer plays p.1 c.serial-serial.ensures c.in-Take.is c.standing-at.ensures c.take_reply-reply.ensures;
+      bounds = answer_small p.0.holds c.answer-in-Take.ensures;
     }

@@ -11,8 +11,7 @@ pub block_at-here-requires : goal.block_at-here-requires
 block_at-here-requires c = place_here c.requires.holds
 
 pub overflow_sub-here : goal.overflow_sub-here
-overflow_sub-here c =
-    puts_rise_lem c.requires.holds c.block_at-before.ensures c.block_at-here.ensures
+overflow_sub-here c = puts_rise_lem c.requires.holds c.block_at-before.ensures c.block_at-here.ensures
 
 pub returns-then-margin-lt0 : goal.returns-then-margin-lt0
 returns-then-margin-lt0 c =
@@ -26,17 +25,16 @@ overflow_add-number c =
     )
 
 pub overflow_sub-number : goal.overflow_sub-number
-overflow_sub-number c =
-    number_low c.requires.holds c.block_at-before.ensures c.block_at-here.ensures
+overflow_sub-number c = number_low c.requires.holds c.block_at-before.ensures c.block_at-here.ensures
 
 pub put_value-value-requires : goal.put_value-value-requires
 put_value-value-requires c =
-    record { one = c.requires.one; holds = take_numbered c.requires.holds c.block_at-before.ensures c.block_at-here.ensures c.margin.ensures (search rules) c.if-margin-lt0.false }
+    let p = c.requires in
+    let x = c.block_at-before.ensures in
+    let y = c.block_at-here.ensures in
+    record { one = p.one; holds = take_numbered p.holds x y c.margin.ensures (search rules) c.if-margin-lt0.false }
 
 pub returns : goal.returns
 returns c =
-    let h = c.requires.holds in
-    let x = c.block_at-before.ensures in
-    let y = c.block_at-here.ensures in
     let e = c.if-margin-lt0.false in
-    take_some h x y c.margin.ensures (search rules) e c.put_value-value.ensures
+    take_some c.requires.holds c.block_at-before.ensures c.block_at-here.ensures c.margin.ensures (search rules) e c.put_value-value.ensures

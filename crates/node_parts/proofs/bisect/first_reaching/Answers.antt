@@ -1,27 +1,23 @@
--- `bisect::first_reaching` meets its contract. The loop's invariant: places up to low are below x, and high reaches it.
--- The measure is the distance between the two.
-use native.Mathlib.Omega.{arith}
-use native.Mathlib.Nat.{lt_of_le_of_lt}
-use Rattle.tree.specs.Blocks.{word_in}
+-- `bisect::first_reaching` meets its contract.
+use mathlib.Core.List.{List}
+use lib.ListN.{get_or}
+use lib.Dec.{ltb}
+use Prim.Native.Nat.{ℕ}
+use borrow.Author.Rules.{rules}
+use Rattle.std.proofs.lemmas.List.Sorted.{IsPartitionPoint-from_clause, IsPartitionedBy-ltb}
+use Rattle.node_parts.proofs.PlaceSearch.{rises, place_first, place_reaches}
 use Rattle.node_parts.proofs.bisect.first_reaching.Goals as goal
-
-pub loop-low-init : goal.loop-low-init
-loop-low-init c = (omega arith, omega arith, c.requires.reached.3, λ i a b. omega arith)
-
-pub loop-low-preserved-then-part-middle : goal.loop-low-preserved-then-part-middle
-unfolding word_in
-loop-low-preserved-then-part-middle c = (
-  omega arith,
-  omega arith,
-  c.loop-low.invariant.2,
-  λ i a b. lt_of_le_of_lt (c.requires.rising i _ a b (omega arith)) c.if-part-middle.true,
-)
-
-pub loop-low-preserved : goal.loop-low-preserved
-unfolding word_in
-loop-low-preserved c = (omega arith, omega arith, c.if-part-middle.false, c.loop-low.invariant.3)
 
 pub returns : goal.returns
 returns c =
-    let i = c.loop-low.invariant in
-    record { reaches = (omega arith, omega arith, i.2); first = λ k a b. i.3 k a (omega arith) }
+    let a = c.args in
+    let q = c.requires.reached in
+    let front = c.as_chunks.ensures in
+    let up = rises a.part.now a.word a.last a.x q.0 q.1 q.2 c.as_chunks.result.0.now front.front front.front_len c.requires.rising in
+    let point = IsPartitionPoint-from_clause (λ (b : List ℕ). ltb (get_or b a.word 0) a.x) _ _ c.partition_point.ensures.partitioned
+    (IsPartitionedBy-ltb (λ (b : List ℕ). get_or b a.word 0) _ a.x up) (λ d r f k. search rules) in
+    let bound = c.partition_point.ensures.bound in
+    record {
+      reaches = place_reaches a.part.now a.word a.last a.x q.0 q.1 q.2 c.as_chunks.result.0.now front.front front.front_len _ bound point q.3;
+      first = place_first a.part.now a.word a.last a.x q.0 q.1 q.2 c.as_chunks.result.0.now front.front front.front_len _ bound point;
+    }

@@ -1,27 +1,19 @@
 -- `list::list_block` and `list::list_range` meet their contracts.
 use Prim.Native.Nat.{ℕ}
 use native.Mathlib.Omega.{arith}
-use mathlib.Core.Path.{◌≡◌, refl, ap}
+use mathlib.Core.Path.{refl, ap}
 use Rattle.tree.specs.Shape.{left_of, right_of}
 use Rattle.order.specs.declared.Subtree.{Subtree}
 use Rattle.base.proofs.Gather.{gather_none}
 use Rattle.base.proofs.Stored.{stored_none}
 use Rattle.order.proofs.Storing.{room_first, room_second, stored_both, gathered_room, gathered_more}
-use Rattle.order.proofs.Subblocks.{subtree_low, block_first, block_place, range_block, block_parts}
-use Rattle.order.proofs.LeafRecords.{leaf_at_lem}
+use Rattle.order.proofs.Subblocks.{block_first, block_place, range_block, block_parts}
 use Rattle.order.proofs.list.+list_block_list_range.Goals as goal
 
 abbrev height : Subtree → ℕ
 height y = y.height
 
--- ---- list_block: a leaf
-pub list_block-list_leaf-requires : goal.list_block-list_leaf-requires
-list_block-list_leaf-requires t c = rw (← leaf_at_lem c.args.top c.if-top-eq0.true) c.requires
-
-pub list_block-returns-then-top-eq0 : goal.list_block-returns-then-top-eq0
-list_block-returns-then-top-eq0 t c = rw (← leaf_at_lem c.args.top c.if-top-eq0.true) at c.list_leaf.ensures
-
--- ---- list_block: a node above the leaves
+-- ---- list_block
 pub list_block-overflow_sub-b : goal.list_block-overflow_sub-b
 list_block-overflow_sub-b t c = block_first c.requires.holds
 
@@ -30,21 +22,6 @@ list_block-block_at-old-requires t c = block_place c.requires.holds _ (omega ari
 
 pub list_block-block_at-new-requires : goal.list_block-block_at-new-requires
 list_block-block_at-new-requires t c = block_place c.requires.holds _ (omega arith)
-
-pub list_block-overflow_mul-top : goal.list_block-overflow_mul-top
-list_block-overflow_mul-top t c = omega (arith, subtree_low c.requires.holds.within)
-
-pub list_block-child-left-requires : goal.list_block-child-left-requires
-list_block-child-left-requires t c = let n = c.if-top-eq0.false in omega arith
-
-pub list_block-overflow_mul-top-2 : goal.list_block-overflow_mul-top-2
-list_block-overflow_mul-top-2 t c = omega (arith, subtree_low c.requires.holds.within)
-
-pub list_block-overflow_add-top : goal.list_block-overflow_add-top
-list_block-overflow_add-top t c = omega (arith, subtree_low c.requires.holds.within)
-
-pub list_block-child-right-requires : goal.list_block-child-right-requires
-list_block-child-right-requires t c = let n = c.if-top-eq0.false in omega arith
 
 pub list_block-list_range-next-requires : goal.list_block-list_range-next-requires
 unfolding left_of right_of
@@ -82,8 +59,3 @@ pub list_range-loop-b-preserved : goal.list_range-loop-b-preserved
 list_range-loop-b-preserved t c =
     let l = c.loop-b-test.true in
     gathered_more _ (omega arith) l (range_block _ l) c.requires c.loop-b.invariant c.list_block-end.ensures
-
-pub list_range-returns : goal.list_range-returns
-list_range-returns t c =
-    let e : c.loop-b.b ≡ c.args.to = omega (arith, c.requires.holds.rises) in
-    rw e at c.loop-b.invariant

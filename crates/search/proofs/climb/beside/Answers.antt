@@ -4,15 +4,9 @@ use Rattle.tree.specs.Order.{total}
 use Rattle.search.specs.Clauses.Climbing.{beside_of}
 use Rattle.search.proofs.climb.beside.Goals as goal
 
-pub block_at-requires : goal.block_at-requires
-block_at-requires c = rw c.block_at-end.ensures (c.requires.right c.if-v-eq0.true)
-
 pub returns-then-v-eq0 : goal.returns-then-v-eq0
 unfolding beside_of total
 returns-then-v-eq0 c = rw (eq-eqb _ _ c.if-v-eq0.true, ← c.block_at-end.ensures, ← c.block_at.ensures)
-
-pub block_at-requires-2 : goal.block_at-requires-2
-block_at-requires-2 c = rw c.block_at-end-2.ensures (c.requires.left c.if-v-eq0.false)
 
 pub returns : goal.returns
 unfolding beside_of total
