@@ -7,6 +7,7 @@ use mathlib.Core.Path.{◌≡◌, refl, ap, sym, ◌∙◌, subst}
 use mathlib.Core.Bool.{false}
 use mathlib.Core.List.{List, []}
 use lib.ListN.{length, take, drop, get_or}
+use Rattle.base.specs.Clauses.Some.{Some}
 use Rattle.record.specs.declared.AnswerRecord.{AnswerRecord}
 use Rattle.encoding.specs.Bytes.{number_of}
 use Rattle.record.specs.AnswerRecords.{answer_size}
@@ -30,7 +31,7 @@ use Rattle.answer_log.specs.Clauses.Leading.{with_answer, count_after}
 use Rattle.answer_log.proofs.Counted.{count_after_lem}
 use Rattle.answer_log.proofs.Written.{written_after}
 use Rattle.answer.proofs.PlaysLaws.{plays_ready}
-use Rattle.answer.specs.Clauses.Playing.{machine_of, Plays, Playing}
+use Rattle.answer.specs.Clauses.Playing.{machine_of, Plays}
 use Rattle.decode.proofs.StepWords.{step_of, step_formed, words_step}
 use Rattle.player.proofs.LoopStates.{Call, State, shape_of, list_of, count_of, played_to, memory_at, processes_of, after_move, after_answer, PlaysAs, Gives, EndsWith}
 use Rattle.player.proofs.RecordResults.{Moved}
@@ -68,8 +69,8 @@ module _ {c : Call} {t : State} {i first : ℕ} (w : StepAt c t i first) where
   pub step_plays : PlaysAs c t first q
   step_plays = loop_plays w.inv first w.low
 
-  pub step_playing : Playing s t.heads t.table first q
-  step_playing = record { others = processes_of c t; plays = step_plays }
+  pub step_playing : Some (λ (ps : List Process). Plays s ps t.heads t.table first q)
+  step_playing = record { one = processes_of c t; holds = step_plays }
 
   -- modulo p, which it is below, the process is itself
   pub step_same : first % c.p ≡ first

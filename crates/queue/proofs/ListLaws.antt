@@ -33,6 +33,7 @@ use Rattle.queue.proofs.PlayAll.{all_left}
 -- ---- the list of a played table
 
 pub listing_tree : (p l : ℕ) (heads table : List ℕ) → ListingCall p l heads table → SoundTree (shape_for p l) heads table
+unfolding shape_for
 listing_tree p l heads table k =
     record { inner = tall_for p l; tall = short_for p l; few = (allowed_most l k.operations).1; sized = k.sized; sound = k.sound }
 
