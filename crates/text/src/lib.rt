@@ -1,7 +1,7 @@
-// Numbers in decimal, at the end of a text of bounded length.
+// Numbers in decimal, appended to a page: a text in an array, with room for N bytes.
 //
-// A line is no `impl Display` that `write!` prints: by its contract `write!` may fail at any writer, also at one whose
-// `write_str` never does, and what is written here must not fail. A page has room by a `requires`, and `push_str` writes.
+// What prints here is no `impl Display`: by its contract `write!` may fail at any writer, also at one whose `write_str`
+// never does, and these functions do not fail. A `requires` says that the page has room, and `push_str` appends.
 #![tactic(auto)]
 
 ghost use Rattle.std.specs.Prelude.{◌≡◌, ◌+◌, ◌++◌, ◌≤◌, length};

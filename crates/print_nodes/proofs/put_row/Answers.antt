@@ -16,7 +16,8 @@ pub put_spaced-requires : goal.put_spaced-requires
 put_spaced-requires g c = omega (arith, line_length c.args.row.now)
 
 pub push_str-requires : goal.push_str-requires
-push_str-requires g c = omega (arith, length-append {A = ℕ}, ap length c.put_spaced.ensures, line_length c.args.row.now)
+push_str-requires g c =
+    omega (arith, length-append {A = ℕ}, ap length c.put_spaced.ensures, line_length c.args.row.now)
 
 pub returns : goal.returns
 unfolding row_line ascii

@@ -14,7 +14,8 @@ use Rattle.print_nodes.proofs.put_spaced.Goals as goal
 
 pub put_decimal-requires : goal.put_decimal-requires
 unfolding spaced
-put_decimal-requires g c = omega (arith, length-append {A = ℕ}, ap (λ (xs : List ℕ). length (spaced xs)) c.in-Some.ensures.cases.0)
+put_decimal-requires g c =
+    omega (arith, length-append {A = ℕ}, ap (λ (xs : List ℕ). length (spaced xs)) c.in-Some.ensures.cases.0)
 
 pub put_number-requires : goal.put_number-requires
 unfolding spaced

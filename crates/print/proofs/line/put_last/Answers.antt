@@ -31,4 +31,7 @@ push_str-requires-2 g c =
 
 pub returns : goal.returns
 unfolding last_line ascii
-returns g c = simp (c.push_str-2.ensures.bytes, c.put_number-2.ensures, c.put_number.ensures, c.push_str.ensures.bytes, append_assoc) refl
+returns g c =
+    simp
+    (c.push_str-2.ensures.bytes, c.put_number-2.ensures, c.put_number.ensures, c.push_str.ensures.bytes, append_assoc)
+    refl

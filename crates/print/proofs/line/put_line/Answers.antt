@@ -17,7 +17,13 @@ put_numbers-requires g c = omega (arith, line_length c.args.a, ap length c.opera
 
 pub put_reply-requires : goal.put_reply-requires
 put_reply-requires g c =
-    omega (arith, length-append {A = ℕ}, line_length c.args.a, ap length c.operation_name.ensures, ap length c.put_numbers.ensures)
+    omega (
+      arith,
+      length-append {A = ℕ},
+      line_length c.args.a,
+      ap length c.operation_name.ensures,
+      ap length c.put_numbers.ensures,
+    )
 
 pub push_str-requires-2 : goal.push_str-requires-2
 push_str-requires-2 g c =
@@ -32,4 +38,13 @@ push_str-requires-2 g c =
 
 pub returns : goal.returns
 unfolding answer_line ascii
-returns g c = simp (c.push_str-2.ensures.bytes, c.put_reply.ensures, c.put_numbers.ensures, c.push_str.ensures.bytes, c.operation_name.ensures, append_assoc) refl
+returns g c =
+    simp (
+      c.push_str-2.ensures.bytes,
+      c.put_reply.ensures,
+      c.put_numbers.ensures,
+      c.push_str.ensures.bytes,
+      c.operation_name.ensures,
+      append_assoc,
+    )
+    refl

@@ -12,11 +12,18 @@ pub put_number-requires : goal.put_number-requires
 put_number-requires g c = omega (arith, numbers_length c.args.a)
 
 pub put_number-requires-2 : goal.put_number-requires-2
-put_number-requires-2 g c = omega (arith, length-append {A = ℕ}, numbers_length c.args.a, ap length c.put_number.ensures)
+put_number-requires-2 g c =
+    omega (arith, length-append {A = ℕ}, numbers_length c.args.a, ap length c.put_number.ensures)
 
 pub put_number-requires-3 : goal.put_number-requires-3
 put_number-requires-3 g c =
-    omega (arith, length-append {A = ℕ}, numbers_length c.args.a, ap length c.put_number.ensures, ap length c.put_number-2.ensures)
+    omega (
+      arith,
+      length-append {A = ℕ},
+      numbers_length c.args.a,
+      ap length c.put_number.ensures,
+      ap length c.put_number-2.ensures,
+    )
 
 pub put_number-requires-4 : goal.put_number-requires-4
 put_number-requires-4 g c =
@@ -43,4 +50,13 @@ put_number-requires-5 g c =
 
 pub returns : goal.returns
 unfolding number_fields
-returns g c = simp (c.put_number-5.ensures, c.put_number-4.ensures, c.put_number-3.ensures, c.put_number-2.ensures, c.put_number.ensures, append_assoc) refl
+returns g c =
+    simp (
+      c.put_number-5.ensures,
+      c.put_number-4.ensures,
+      c.put_number-3.ensures,
+      c.put_number-2.ensures,
+      c.put_number.ensures,
+      append_assoc,
+    )
+    refl

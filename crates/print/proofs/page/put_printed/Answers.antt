@@ -15,7 +15,7 @@ put_last-requires g c =
       arith,
       length-append {A = ℕ},
       ap length c.put_lines.ensures,
-      text_most start.answers.now c.type_inv.answers start.n start.refusal start.taken c.ranges.refusal.fits c.ranges.taken.fits,
+      text_most start.answers.now c.type_inv.answers start.n start.refusal start.taken (omega arith) (omega arith),
     )
 
 pub returns-clause-stored : goal.returns-clause-stored
@@ -30,5 +30,5 @@ returns-clause-upper_bound g c =
       length-append {A = ℕ},
       ap length c.put_lines.ensures,
       ap length c.put_last.ensures,
-      text_most start.answers.now c.type_inv.answers start.n start.refusal start.taken c.ranges.refusal.fits c.ranges.taken.fits,
+      text_most start.answers.now c.type_inv.answers start.n start.refusal start.taken (omega arith) (omega arith),
     )
