@@ -1,14 +1,12 @@
 -- What is printed of an input, from what is read of it.
-use Prim.Native.Nat.{ℕ, ◌+◌, ◌-◌, ◌≤◌, ◌<◌, min}
+use Prim.Native.Nat.{ℕ, ◌-◌, ◌≤◌, ◌<◌, min}
 use native.Mathlib.Decide.{dec_lt}
 use native.Mathlib.Omega.{arith}
 use mathlib.Core.Path.{◌≡◌, ap, sym, ◌∙◌}
 use mathlib.Core.List.{List, [], ◌∷◌, ◌++◌, append-nil}
-use lib.ListN.{length, take, drop, replicate, length-take, length-drop, drop_of_length-le}
-use lib.Seq.{sets-eq, take_all, take_at, drop_at}
+use lib.ListN.{length, replicate, length-take, length-drop, drop_of_length-le}
+use lib.Seq.{take_all, take_at, drop_at}
 use borrow.Author.Tests.{lt-ltb, le-ltb}
-use Rattle.base.specs.Clauses.Stored.{Stored}
-use Rattle.base.proofs.Stored.{stored_length}
 use Rattle.calls.specs.Run.{run}
 use Rattle.print.specs.Lines.{long_line}
 use Rattle.print.specs.Printed.{ReadFrom, run_text, print_run}
@@ -45,9 +43,3 @@ module _ (records : List ℕ) (most : length records ≤ 65536) where
             first = sym (take_at records (b ∷ bs) 65536 full);
             after = rw (drop_at records (b ∷ bs) 65536 full) (sym (take_all 1 (b ∷ bs) one));
           }
-
--- text that is stored from the start on is what the buffer begins with
-pub text_stored : {before xs after : List ℕ} {next : ℕ} → Stored before 0 xs after next → next ≤ length after → take next after ≡ xs
-text_stored {before} {xs} {after} {next} s fits =
-    ap (take next) (s.bytes ∙ sets-eq xs before 0 (omega (arith, s.end, stored_length s)))
-    ∙ take_at xs (drop (0 + length xs) before) next (omega (arith, s.end))

@@ -13,7 +13,7 @@ use Rattle.encoding.specs.Bytes.{number_of}
 use Rattle.encoding.proofs.ByteNumbers.{Bytes, drop_bytes, bytes_below}
 use Rattle.text.specs.Characters.{ascii}
 use Rattle.text.specs.Decimal.{number_field}
-use Rattle.text.proofs.Digits.{number_most}
+use Rattle.text.proofs.Digits.{byte_most, word_most, index_most}
 use Rattle.record.specs.ReadAnswers.{reply_for, answer_record}
 use Rattle.print.specs.Lines.{operation_name, number_fields, reply_field, answer_line, last_line}
 
@@ -43,10 +43,10 @@ reply_most : (kind value : ℕ) → value < 2 ^ 32 → length (reply_field (repl
 unfolding reply_for reply_field ascii
 reply_most kind value h =
     both (λ x. length (reply_field x) ≤ 11) (eqb kind 1) (omega arith)
-    (both (λ x. length (reply_field x) ≤ 11) (eqb kind 2) (number_most 9 value (omega arith)) (omega arith))
+    (both (λ x. length (reply_field x) ≤ 11) (eqb kind 2) (word_most value h) (omega arith))
 
 pub last_most : (refusal taken : ℕ) → refusal < 2 ^ 32 → taken < 2 ^ 64 → length (last_line refusal taken) ≤ 36
-last_most refusal taken h k = omega (arith, last_length refusal taken, number_most 9 refusal (omega arith), number_most 19 taken (omega arith))
+last_most refusal taken h k = omega (arith, last_length refusal taken, word_most refusal h, index_most taken k)
 
 -- the line of an answer record in bytes
 module _ (bs : List ℕ) (bytes : Bytes bs) where
@@ -62,10 +62,10 @@ module _ (bs : List ℕ) (bytes : Bytes bs) where
         line_length a,
         operation_most a.reply,
         numbers_length a,
-        number_most 2 a.process (omega (arith, bytes_below 1 bs bytes)),
-        number_most 9 a.serial (omega (arith, field_below 8 4)),
-        number_most 2 a.steps (omega (arith, field_below 2 1)),
-        number_most 2 a.helps (omega (arith, field_below 3 1)),
-        number_most 9 a.block (omega (arith, field_below 12 4)),
+        byte_most a.process (omega (arith, bytes_below 1 bs bytes)),
+        word_most a.serial (omega (arith, field_below 8 4)),
+        byte_most a.steps (omega (arith, field_below 2 1)),
+        byte_most a.helps (omega (arith, field_below 3 1)),
+        word_most a.block (omega (arith, field_below 12 4)),
         reply_most (number_of (take 1 (drop 1 bs))) (number_of (take 4 (drop 4 bs))) (field_below 4 4),
       )

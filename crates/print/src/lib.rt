@@ -1,5 +1,4 @@
-// The text of a run, written to bytes: a line for each answer record, and the last line. Each function that writes
-// returns the index after what it wrote.
+// The text of a run, appended to a page: a line for each answer record, and the last line.
 #![tactic(auto)]
 
 pub mod line;

@@ -1,2 +1,1 @@
-pub mod RowText
 pub mod TableText

@@ -1,32 +1,30 @@
--- The three lines of the table: how long they are, and that they make its text.
-use Prim.Native.Nat.{ℕ, ◌≤◌, ◌<◌}
+-- The table's text has 153 bytes, so that each row has room after the rows before it; and the rows are the text.
+use Prim.Native.Nat.{ℕ, ◌+◌, ◌≤◌, ◌<◌}
 use native.Mathlib.Omega.{arith}
-use mathlib.Core.Path.{◌≡◌, refl}
-use mathlib.Core.List.{List, [], ◌∷◌, ◌++◌, flat_map, append-nil, append_assoc}
-use lib.ListN.{length, get_or, length-append}
+use mathlib.Core.Path.{◌≡◌, refl, ap}
+use mathlib.Core.List.{List, []}
+use lib.ListN.{length, get_or, take}
+use lib.Seq.{take_all}
+use Rattle.std.specs.List.{flat_map}
+use Rattle.std.proofs.lemmas.List.Folds.{length-flat_map-take}
 use Rattle.text.specs.Characters.{ascii}
 use Rattle.text.specs.Decimal.{digit, last_digits, decimal, number_field}
-use Rattle.node_starts.specs.NodeStarts.{table_processes, row_nodes, node_starts}
+use Rattle.node_starts.specs.NodeStarts.{node_starts}
 use Rattle.node_starts.specs.All.{node_start_rules}
-use Rattle.node_starts.proofs.RuleHolds.{table_rule}
 use Rattle.print_nodes.specs.NodesText.{spaced, row_line, table_text}
 
-three_lines : (a b c : List ℕ) → table_text (a ∷ b ∷ c ∷ []) ≡ row_line a ++ row_line b ++ row_line c
-unfolding table_text flat_map
-three_lines a b c = simp (append-nil, append_assoc)
+text_length : length (flat_map row_line node_starts) ≡ 153
+unfolding node_start_rules spaced row_line ascii digit last_digits decimal number_field
+text_length = refl
 
-module _ {table : List (List ℕ)} (e : table ≡ node_starts) where
-  pub row_some : (i : ℕ) → i < 3 → 1 ≤ length (get_or table i [])
-  unfolding table_processes row_nodes
-  row_some i h = rw e (omega (arith, (table_rule.row i h).entries))
+rows : length node_starts ≡ 3
+unfolding node_start_rules
+rows = refl
 
-  pub line_lengths : (length (row_line (get_or table 0 [])) ≡ 34) × (length (row_line (get_or table 1 [])) ≡ 47) × (length (row_line (get_or table 2 [])) ≡ 72)
-  unfolding node_start_rules flat_map spaced row_line ascii digit last_digits decimal number_field
-  line_lengths = rw e (refl, refl, refl)
+module _ {table : List (List ℕ)} (e : table ≡ node_starts) (i : ℕ) where
+  pub row_room : i < 3 → length (flat_map row_line (take i table)) + length (row_line (get_or table i [])) ≤ 153
+  row_room h = rw e (omega (arith, text_length, length-flat_map-take row_line node_starts i [] (omega (arith, rows))))
 
-  pub text_of_lines : table_text node_starts ≡ row_line (get_or table 0 []) ++ row_line (get_or table 1 []) ++ row_line (get_or table 2 [])
-  unfolding node_start_rules
-  text_of_lines = rw e (three_lines (get_or node_starts 0 []) (get_or node_starts 1 []) (get_or node_starts 2 []))
-
-  pub text_length : length (row_line (get_or table 0 []) ++ row_line (get_or table 1 []) ++ row_line (get_or table 2 [])) ≡ 153
-  text_length = simp length-append (omega (arith, line_lengths.0, line_lengths.1, line_lengths.2))
+  pub text_whole : 3 ≤ i → flat_map row_line (take i table) ≡ table_text node_starts
+  unfolding table_text
+  text_whole h = rw e (ap (flat_map row_line) (take_all i node_starts (omega (arith, rows))))

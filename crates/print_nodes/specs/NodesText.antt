@@ -1,6 +1,6 @@
 -- What the generator prints: a table of numbers as text.
-use Rattle.std.specs.Prelude.{ℕ}
-use mathlib.Core.List.{List, [], ◌∷◌, ◌++◌, flat_map}
+use Rattle.std.specs.Prelude.{ℕ, List, [], ◌∷◌, ◌++◌}
+use Rattle.std.specs.List.{flat_map}
 use Rattle.text.specs.Characters.{ascii}
 use Rattle.text.specs.Decimal.{decimal, number_field}
 

@@ -2,57 +2,53 @@
 // computes no start.
 #![tactic(auto)]
 
-ghost use Rattle.std.specs.Prelude.{◌≡◌, ◌+◌, ◌≤◌, length};
-ghost use mathlib.Core.List.{flat_map};
-ghost use Rattle.base.specs.Clauses.Stored.{Stored};
-ghost use Rattle.text.specs.Decimal.{number_field};
+ghost use Rattle.std.specs.Prelude.{◌≡◌, ◌+◌, ◌++◌, ◌≤◌, length};
 ghost use Rattle.node_starts.specs.NodeStarts.{node_starts};
-ghost use Rattle.print_nodes.specs.NodesText.{row_line, table_text};
+ghost use Rattle.print_nodes.specs.NodesText.{spaced, row_line, table_text};
 
+use arrayvec::ArrayString;
 use node_starts::node_starts;
 use std::io;
 use std::io::Write;
-use text::{put_decimal, put_number, put_text};
+use text::{put_decimal, put_number};
 
-// Numbers, one space before each. Returns the index after them.
-fn put_numbers(numbers: &[u32], out: &mut [u8], at: usize) -> usize
-    requires { at + length (flat_map number_field numbers.now) ≤ length out.old }
-    ensures { Stored out.old at (flat_map number_field numbers.now) out.new result }
+// Numbers, one space between two.
+fn put_spaced<const N: usize>(numbers: &[u32], page: &mut ArrayString<N>)
+    requires { length page.old.bytes + length (spaced numbers.now) ≤ N }
+    ensures { page.new.bytes ≡ page.old.bytes ++ spaced numbers.now }
 {
-    let mut next = at;
-    let mut i = 0;
-    while i < numbers.len() {
-        next = put_number(numbers[i] as usize, out, next);
-        i += 1;
+    let Some((first, others)) = numbers.split_first() else {
+        return;
+    };
+    put_decimal(*first as usize, page);
+    for x in others {
+        put_number(*x as usize, page);
     }
-    next
 }
 
-// A row's line. Returns the index after it.
-fn put_row(row: &[u32], out: &mut [u8], at: usize) -> usize
-    requires { (1 ≤ length row.now) × (at + length (row_line row.now) ≤ length out.old) }
-    ensures { Stored out.old at (row_line row.now) out.new result }
+// A row's line.
+fn put_row<const N: usize>(row: &[u32], page: &mut ArrayString<N>)
+    requires { length page.old.bytes + length (row_line row.now) ≤ N }
+    ensures { page.new.bytes ≡ page.old.bytes ++ row_line row.now }
 {
-    let after_first = put_decimal(row[0] as usize, out, at);
-    let after_all = put_numbers(&row[1..], out, after_first);
-    put_text(b"\n", out, after_all)
+    put_spaced(row, page);
+    page.push_str("\n");
 }
 
 // The text of the table.
-fn table_text() -> [u8; 153]
-    ensures { result ≡ table_text node_starts }
+fn table_text() -> ArrayString<153>
+    ensures { result.bytes ≡ table_text node_starts }
 {
     let table = node_starts();
-    let mut out = [0u8; 153];
-    let after_two = put_row(&table[0], &mut out, 0);
-    let after_four = put_row(&table[1], &mut out, after_two);
-    put_row(&table[2], &mut out, after_four);
-    out
+    let mut page = ArrayString::new();
+    for row in &table {
+        put_row(row, &mut page);
+    }
+    page
 }
 
 // Only writes; the text is made by table_text. No contract of the library says which bytes reach standard output, so
 // main promises nothing of them. A write that fails ends it with the error.
 fn main(rt: HostRuntime) -> io::Result<()> {
-    let text = table_text();
-    rt.stdout().write_all(&text)
+    rt.stdout().write_all(table_text().as_bytes())
 }

@@ -1,38 +1,45 @@
 // Prints a run: step records from standard input, the answers and how the run ended to standard output.
 #![tactic(auto)]
 
-ghost use Rattle.std.specs.Prelude.{◌≡◌, List, ◌++◌, ℕ, ◌<◌, take};
+ghost use Rattle.std.specs.Prelude.{◌≡◌, List, [], ◌++◌, ℕ, ◌<◌, ◌≤◌, length};
 ghost use Rattle.print.specs.Printed.{print_run, ReadFrom};
-ghost use Rattle.print_run.specs.Counts.{IsPrefixLen};
 
+use arrayvec::ArrayString;
 use print::page::put_printed;
 use queue::run::run;
 use refusals::numbers::number;
 use std::io;
 use std::io::{Read, Stdin, Write};
-use text::put_text;
 
-// Writes the text of every input of which this was read: `records`, the bytes that the record buffer holds, and `next`,
-// the byte after them, if there is one. The longest text has room: 96 lines of at most 50 bytes each, and a last line
-// of at most 36.
-fn print_input(records: &[u8], next: &[u8], out: &mut [u8; 4836]) -> usize
+// The text of every input of which this was read: `records`, the bytes that the record buffer holds, and `next`, the
+// byte after them, if there is one. The longest text has room: 96 lines of at most 50 bytes each, and a last line of at
+// most 36.
+fn print_input(records: &[u8], next: &[u8]) -> ArrayString<4836>
     requires { ReadFrom (records.now ++ next.now) records.now next.now }
-    ensures prefix_len { IsPrefixLen result out.new }
-    ensures by_index { (input : List ℕ) → ReadFrom input records.now next.now → take result out.new ≡ print_run input }
+    ensures { (input : List ℕ) → ReadFrom input records.now next.now → result.bytes ≡ print_run input }
 {
+    let mut page = ArrayString::new();
     if next.len() != 0 {
-        return put_text(b"long\n", out, 0);
+        page.push_str("long\n");
+        return page;
     }
     let mut table = [0u32; 2065];
     let mut answers = [0u8; 1536];
     let ran = run(4, 24, records, &mut table, &mut answers);
-    let why = ran.refusal;
-    put_printed(&answers, ran.answers, number(why), ran.taken, out)
+    put_printed(
+        &answers,
+        ran.answers,
+        number(ran.refusal),
+        ran.taken,
+        &mut page,
+    );
+    page
 }
 
-// Reads until `buf` is full, the input ends or a read fails. Returns how many bytes it put at the start of `buf`.
-fn read_full(input: &mut Stdin, buf: &mut [u8]) -> usize
-    ensures { IsPrefixLen result buf.new }
+// Reads until `buf` is full, the input ends or a read fails, and returns what was read. Of std's methods `read_to_end`
+// allocates, and `read_exact` does not tell how much there was of an input that ends first.
+fn read_full<'a>(input: &mut Stdin, buf: &'a mut [u8]) -> &'a [u8]
+    ensures { length result.now ≤ length buf.old }
 {
     let mut done = 0;
     while done < buf.len() {
@@ -42,16 +49,16 @@ fn read_full(input: &mut Stdin, buf: &mut [u8]) -> usize
         }
         done += n;
     }
-    done
+    &buf[..done]
 }
 
 // Reads the byte after the record buffer, where that is full: one byte more is enough to know that the input is longer.
-fn read_next(got: usize, input: &mut Stdin, next: &mut [u8]) -> usize
-    ensures prefix_len { IsPrefixLen result next.new }
-    ensures value { got < 65536 → (result ≡ 0) × (next.new ≡ next.old) }
+fn read_next<'a>(got: usize, input: &mut Stdin, next: &'a mut [u8]) -> &'a [u8]
+    ensures upper_bound { length result.now ≤ length next.old }
+    ensures value { got < 65536 → result.now ≡ [] }
 {
     if got < 65536 {
-        return 0;
+        return &[];
     }
     read_full(input, next)
 }
@@ -62,10 +69,9 @@ fn read_next(got: usize, input: &mut Stdin, next: &mut [u8]) -> usize
 fn main(rt: HostRuntime) -> io::Result<()> {
     let mut records = [0u8; 65536];
     let mut next = [0u8; 1];
-    let mut out = [0u8; 4836];
     let mut input = rt.stdin();
-    let got = read_full(&mut input, &mut records);
-    let more = read_next(got, &mut input, &mut next);
-    let end = print_input(&records[..got], &next[..more], &mut out);
-    rt.stdout().write_all(&out[..end])
+    let first = read_full(&mut input, &mut records);
+    let after = read_next(first.len(), &mut input, &mut next);
+    let text = print_input(first, after);
+    rt.stdout().write_all(text.as_bytes())
 }

@@ -1,49 +1,29 @@
-// Text and numbers as bytes, written from an index on. Each function returns the index after what it wrote.
+// Numbers in decimal, appended to a page: a text in an array, with room for N bytes.
+//
+// What prints here is no `impl Display`: by its contract `write!` may fail at any writer, also at one whose `write_str`
+// never does, and these functions do not fail. A `requires` says that the page has room, and `push_str` appends.
 #![tactic(auto)]
 
-ghost use Rattle.std.specs.Prelude.{[], ◌∷◌, ◌+◌, ◌≤◌, ◌<◌, length};
-ghost use Rattle.base.specs.Clauses.Stored.{Stored};
-ghost use Rattle.text.specs.Decimal.{digit, decimal, number_field};
+ghost use Rattle.std.specs.Prelude.{◌≡◌, ◌+◌, ◌++◌, ◌≤◌, length};
+ghost use Rattle.text.specs.Decimal.{decimal, number_field};
 
-// The bytes of a text.
-pub fn put_text(text: &[u8], out: &mut [u8], at: usize) -> usize
-    requires { at + length text.now ≤ length out.old }
-    ensures { Stored out.old at text.now out.new result }
-{
-    let mut i = 0;
-    while i < text.len() {
-        out[at + i] = text[i];
-        i += 1;
-    }
-    at + i
-}
+use arrayvec::ArrayString;
+use itoa::Buffer;
 
-// The character of a digit.
-fn put_digit(d: usize, out: &mut [u8], at: usize) -> usize
-    requires { (d < 10) × (at < length out.old) }
-    ensures { Stored out.old at (digit d ∷ []) out.new result }
+// A number in decimal.
+pub fn put_decimal<const N: usize>(x: usize, page: &mut ArrayString<N>)
+    requires { length page.old.bytes + length (decimal x) ≤ N }
+    ensures { page.new.bytes ≡ page.old.bytes ++ decimal x }
 {
-    out[at] = 48 + d as u8;
-    at + 1
-}
-
-// A number in decimal: its digits but the last are those of a tenth of it, which is smaller, so this ends.
-pub fn put_decimal(x: usize, out: &mut [u8], at: usize) -> usize
-    requires { at + length (decimal x) ≤ length out.old }
-    ensures { Stored out.old at (decimal x) out.new result }
-{
-    if x < 10 {
-        return put_digit(x, out, at);
-    }
-    let last = put_decimal(x / 10, out, at);
-    put_digit(x % 10, out, last)
+    let mut digits = Buffer::new();
+    page.push_str(digits.format(x));
 }
 
 // A space and a number.
-pub fn put_number(x: usize, out: &mut [u8], at: usize) -> usize
-    requires { at + length (number_field x) ≤ length out.old }
-    ensures { Stored out.old at (number_field x) out.new result }
+pub fn put_number<const N: usize>(x: usize, page: &mut ArrayString<N>)
+    requires { length page.old.bytes + length (number_field x) ≤ N }
+    ensures { page.new.bytes ≡ page.old.bytes ++ number_field x }
 {
-    let digits = put_text(b" ", out, at);
-    put_decimal(x, out, digits)
+    page.push_str(" ");
+    put_decimal(x, page);
 }

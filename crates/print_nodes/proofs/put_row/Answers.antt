@@ -1,29 +1,24 @@
 -- `put_row` meets its contract.
+use Prim.Native.Nat.{ℕ, ◌+◌}
 use native.Mathlib.Omega.{arith}
-use Rattle.base.proofs.Stored.{stored_length, stored_then}
+use mathlib.Core.Path.{◌≡◌, refl, ap}
+use mathlib.Core.List.{List, append_assoc}
+use lib.ListN.{length, length-append}
 use Rattle.text.specs.Characters.{ascii}
-use Rattle.print_nodes.proofs.RowText.{row_line_lem, line_length}
+use Rattle.print_nodes.specs.NodesText.{spaced, row_line}
 use Rattle.print_nodes.proofs.put_row.Goals as goal
 
-pub overflow_cast-row : goal.overflow_cast-row
-overflow_cast-row c = omega (arith, c.type_inv.row 0)
+line_length : (row : List ℕ) → length (row_line row) ≡ length (spaced row) + 1
+unfolding row_line ascii
+line_length row = simp length-append refl
 
-pub put_decimal-after_first-requires : goal.put_decimal-after_first-requires
-put_decimal-after_first-requires c = omega (arith, line_length c.args.row.now c.requires.0)
+pub put_spaced-requires : goal.put_spaced-requires
+put_spaced-requires g c = omega (arith, line_length c.args.row.now)
 
-pub put_numbers-after_all-requires : goal.put_numbers-after_all-requires
-put_numbers-after_all-requires c =
-    let first = c.put_decimal-after_first.ensures in
-    omega (arith, line_length c.args.row.now c.requires.0, stored_length first, first.end)
-
-pub put_text-requires : goal.put_text-requires
-put_text-requires c =
-    let first = c.put_decimal-after_first.ensures in
-    let others = c.put_numbers-after_all.ensures in
-    omega (arith, line_length c.args.row.now c.requires.0, stored_length first, first.end, stored_length others, others.end)
+pub push_str-requires : goal.push_str-requires
+push_str-requires g c =
+    omega (arith, length-append {A = ℕ}, ap length c.put_spaced.ensures, line_length c.args.row.now)
 
 pub returns : goal.returns
-unfolding ascii
-returns c =
-    rw (row_line_lem c.args.row.now c.requires.0)
-    (stored_then (stored_then c.put_decimal-after_first.ensures c.put_numbers-after_all.ensures) c.put_text.ensures)
+unfolding row_line ascii
+returns g c = simp (c.push_str.ensures.bytes, c.put_spaced.ensures, append_assoc) refl

@@ -1,10 +1,10 @@
 -- `print_input` meets its contract.
 use Prim.Native.Nat.{ℕ, ◌*◌, ◌≤◌}
 use native.Mathlib.Omega.{arith}
-use mathlib.Core.Path.{◌≡◌, ap, sym}
+use borrow.Author.Rules.{rules}
+use mathlib.Core.Path.{◌≡◌, refl, ap}
 use mathlib.Core.List.{List}
 use lib.ListN.{length, replicate}
-use lib.Seq.{length-take-le}
 use Rattle.base.proofs.Cases.{both}
 use Rattle.record.specs.AnswerRecords.{answer_size}
 use Rattle.record.specs.StepRecords.{step_records}
@@ -12,18 +12,13 @@ use Rattle.calls.specs.Refusals.{accepted, call_refusal}
 use Rattle.tree.specs.Shape.{shape_for}
 use Rattle.calls.specs.Run.{RunResult, run_turned_down, run_played, run}
 use Rattle.calls.proofs.Played.{played_room}
-use Rattle.base.proofs.Stored.{stored_length}
 use Rattle.queue.specs.declared.Ran.{Ran}
 use Rattle.queue.specs.Left.{run_left}
 use Rattle.text.specs.Characters.{ascii}
 use Rattle.print.specs.Lines.{long_line}
 use Rattle.print.specs.Printed.{run_text}
-use Rattle.print.proofs.Inputs.{printed_long, printed_run, text_stored}
-use Rattle.print_run.specs.Counts.{IsPrefixLen}
+use Rattle.print.proofs.Inputs.{printed_long, printed_run}
 use Rattle.print_run.proofs.print_input.Goals as goal
-
-prefix_len_of_le : (n : ℕ) (xs : List ℕ) → n ≤ length xs → IsPrefixLen n xs
-prefix_len_of_le n xs h = (h, sym (length-take-le n xs h))
 
 -- the answers that Run writes have room
 run_room : (p l : ℕ) (records table answers : List ℕ) → 16 * (run p l records table answers).answered ≤ length answers
@@ -39,24 +34,13 @@ few r records table answers e =
 
 pub returns-then-next-ne0 : goal.returns-then-next-ne0
 unfolding long_line ascii
-returns-then-next-ne0 c =
-    let stored = c.put_text.ensures in
-    record {
-      prefix_len = prefix_len_of_le _ _ (omega (arith, stored_length stored));
-      by_index = λ input read. rw (printed_long read c.if-next-ne0.true) (text_stored stored (omega (arith, stored_length stored)));
-    }
+returns-then-next-ne0 c = λ input read. rw (printed_long read c.if-next-ne0.true) (search rules)
 
 pub put_printed-requires : goal.put_printed-requires
-put_printed-requires c = omega (arith, few _ _ _ _ c.run-ran.ensures.rules)
+put_printed-requires c = omega (arith, ap length c.new-page.ensures, few _ _ _ _ c.run-ran.ensures.rules)
 
 pub returns : goal.returns
 unfolding run_text run_left
-returns c =
-    let ran = c.run-ran in
-    let stored = c.put_printed.ensures.stored in
-    record {
-      prefix_len = prefix_len_of_le _ _ (omega (arith, stored_length stored, few _ _ _ _ ran.ensures.rules));
-      by_index = λ input read.
-          rw (printed_run read c.if-next-ne0.false, ← ran.ensures.rules, ← c.number.ensures)
-          (text_stored stored (omega (arith, stored_length stored, few _ _ _ _ ran.ensures.rules)));
-    }
+returns c = λ input read.
+    rw (printed_run read c.if-next-ne0.false, ← c.run-ran.ensures.rules, ← c.number.ensures)
+    (simp (c.put_printed.ensures.stored, c.new-page.ensures) refl)

@@ -1,48 +1,62 @@
 -- `line::put_numbers` meets its contract.
+use Prim.Native.Nat.{ℕ}
 use native.Mathlib.Omega.{arith}
-use Rattle.base.proofs.Stored.{stored_then}
+use mathlib.Core.Path.{refl, ap}
+use mathlib.Core.List.{append_assoc}
+use lib.ListN.{length, length-append}
 use Rattle.print.specs.Lines.{number_fields}
 use Rattle.print.proofs.Lengths.{numbers_length}
 use Rattle.print.proofs.line.put_numbers.Goals as goal
 
-pub put_number-after_process-requires : goal.put_number-after_process-requires
-put_number-after_process-requires c =
-    let a = c.args in
-    omega (arith, numbers_length a.a)
-
-pub put_number-after_serial-requires : goal.put_number-after_serial-requires
-put_number-after_serial-requires c =
-    let a = c.args in
-    omega (arith, numbers_length a.a)
-
-pub put_number-after_steps-requires : goal.put_number-after_steps-requires
-put_number-after_steps-requires c =
-    let a = c.args in
-    omega (arith, numbers_length a.a)
-
-pub put_number-after_helps-requires : goal.put_number-after_helps-requires
-put_number-after_helps-requires c =
-    let a = c.args in
-    omega (arith, numbers_length a.a)
-
 pub put_number-requires : goal.put_number-requires
-put_number-requires c =
+put_number-requires g c = omega (arith, numbers_length c.args.a)
+
+pub put_number-requires-2 : goal.put_number-requires-2
+put_number-requires-2 g c =
+    omega (arith, length-append {A = ℕ}, numbers_length c.args.a, ap length c.put_number.ensures)
+
+pub put_number-requires-3 : goal.put_number-requires-3
+put_number-requires-3 g c =
     omega (
       arith,
+      length-append {A = ℕ},
       numbers_length c.args.a,
-      c.requires,
-      c.put_number-after_process.ensures.end,
-      c.put_number-after_process.auto,
-      c.put_number-after_serial.ensures.end,
-      c.put_number-after_serial.auto,
-      c.put_number-after_steps.ensures.end,
+      ap length c.put_number.ensures,
+      ap length c.put_number-2.ensures,
+    )
+
+pub put_number-requires-4 : goal.put_number-requires-4
+put_number-requires-4 g c =
+    omega (
+      arith,
+      length-append {A = ℕ},
+      numbers_length c.args.a,
+      ap length c.put_number.ensures,
+      ap length c.put_number-2.ensures,
+      ap length c.put_number-3.ensures,
+    )
+
+pub put_number-requires-5 : goal.put_number-requires-5
+put_number-requires-5 g c =
+    omega (
+      arith,
+      length-append {A = ℕ},
+      numbers_length c.args.a,
+      ap length c.put_number.ensures,
+      ap length c.put_number-2.ensures,
+      ap length c.put_number-3.ensures,
+      ap length c.put_number-4.ensures,
     )
 
 pub returns : goal.returns
 unfolding number_fields
-returns c =
-    stored_then
-    (stored_then
-    (stored_then (stored_then c.put_number-after_process.ensures c.put_number-after_serial.ensures) c.put_number-after_steps.ensures)
-    c.put_number-after_helps.ensures)
-    c.put_number.ensures
+returns g c =
+    simp (
+      c.put_number-5.ensures,
+      c.put_number-4.ensures,
+      c.put_number-3.ensures,
+      c.put_number-2.ensures,
+      c.put_number.ensures,
+      append_assoc,
+    )
+    refl
