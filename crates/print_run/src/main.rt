@@ -7,7 +7,6 @@ ghost use Rattle.print_run.specs.Counts.{IsPrefixLen};
 
 use print::page::put_printed;
 use queue::run::run;
-use refusals::numbers::number;
 use std::io;
 use std::io::{Read, Stdin, Write};
 use text::put_text;
@@ -26,8 +25,7 @@ fn print_input(records: &[u8], next: &[u8], out: &mut [u8; 4836]) -> usize
     let mut table = [0u32; 2065];
     let mut answers = [0u8; 1536];
     let ran = run(4, 24, records, &mut table, &mut answers);
-    let why = ran.refusal;
-    put_printed(&answers, ran.answers, number(why), ran.taken, out)
+    put_printed(&answers, ran.answers, ran.refusal_number(), ran.taken, out)
 }
 
 // Reads until `buf` is full, the input ends or a read fails. Returns how many bytes it put at the start of `buf`.

@@ -57,6 +57,6 @@ returns c =
     record {
       prefix_len = prefix_len_of_le _ _ (omega (arith, stored_length stored, few _ _ _ _ ran.ensures.rules));
       by_index = λ input read.
-          rw (printed_run read c.if-next-ne0.false, ← ran.ensures.rules, ← c.number.ensures)
+          rw (printed_run read c.if-next-ne0.false, ← ran.ensures.rules, ← c.refusal_number.ensures)
           (text_stored stored (omega (arith, stored_length stored, few _ _ _ _ ran.ensures.rules)));
     }
