@@ -6,8 +6,7 @@ use mathlib.Core.Bool.{Bool, true, false}
 use mathlib.Core.List.{List, []}
 use Rattle.record.specs.StepRecords.{step_size, step_records}
 use Rattle.encoding.specs.Bytes.{cut}
-use Rattle.calls.specs.declared.Refusal.{Refusal}
-use Rattle.calls.specs.Refusals.{refusal_number, accepted, torn, first_refusal, settings_refusal, bytes_refusal}
+use Rattle.calls.specs.Refusals.{Acceptance, refusal_number, accepted, torn, first_refusal, settings_refusal, bytes_refusal}
 use Rattle.calls.specs.Forecast.{ForecastResult, begins_refusal, forecast_refusal, foreseen, forecast}
 use Rattle.calls.proofs.Acceptance.{accepted_zero, zero_accepted, nonzero_refused}
 use Rattle.queue.specs.declared.OtqForecast.{OtqForecast}
@@ -22,7 +21,7 @@ use Rattle.desk.specs.Clauses.Deliverable.{Allowed}
 use Rattle.desk.proofs.Listing.{left_refused}
 
 module _ (p l : ℕ) where
-  abbrev n : Refusal
+  abbrev n : Acceptance
   n = settings_refusal p l
 
   none_begun : (forecast p l []).refusal ≡ refusal_number (settings_refusal p l)

@@ -16,8 +16,7 @@ use Rattle.record.proofs.Cuts.{records_append}
 use Rattle.tree.specs.Shape.{Shape, shape_for}
 use Rattle.tree.specs.Layout.{words_needed}
 use Rattle.tree.specs.Memory.{Memory}
-use Rattle.calls.specs.declared.Refusal.{Refusal}
-use Rattle.calls.specs.Refusals.{refusal_number, accepted, torn, first_refusal, settings_refusal, bytes_refusal, buffer_refusal, call_refusal}
+use Rattle.calls.specs.Refusals.{Acceptance, refusal_number, accepted, torn, first_refusal, settings_refusal, bytes_refusal, buffer_refusal, call_refusal}
 use Rattle.calls.specs.Run.{Played}
 use Rattle.calls.specs.ListOrder.{play_all, ListResult, listed, list_order}
 use Rattle.calls.proofs.Acceptance.{nonzero_refused}
@@ -51,7 +50,7 @@ unfolding first_desk_refusal
 first_passed a b e = rw e
 
 -- refused by the queue, with nothing sent
-queue_sent : (n : Refusal) (ts table output : List ℕ) → accepted n ≡ false → sent (by_queue n) ts table output ≡ turned_down (refusal_number n) table output
+queue_sent : (n : Acceptance) (ts table output : List ℕ) → accepted n ≡ false → sent (by_queue n) ts table output ≡ turned_down (refusal_number n) table output
 queue_sent n ts table output e = sent_none (by_queue n) ts table output (queue_delivers n ∙ e) ∙ ap (λ (k : ℕ). turned_down k table output) (queue_number n)
 
 -- a list that the queue refuses, at the desk
@@ -90,7 +89,7 @@ module _ (p l licensed : ℕ) (records table output : List ℕ) where
     abbrev s : Shape
     s = shape_for p l
 
-    abbrev n : Refusal
+    abbrev n : Acceptance
     n = call_refusal p l (length table) (length records)
 
     call_is : tested ≡ by_queue n
@@ -145,7 +144,7 @@ module _ (p l licensed : ℕ) (xs ys table output : List ℕ) (settings : accept
     abbrev shape : Shape
     shape = shape_for p l
 
-    abbrev n' : Refusal
+    abbrev n' : Acceptance
     n' = call_refusal p l (length table) (length xs)
 
     same_call : call_refusal p l (length table) (length (xs ++ ys)) ≡ n'
@@ -187,7 +186,7 @@ module _ (p l licensed : ℕ) (xs ys table output : List ℕ) (settings : accept
             → desk p l licensed (xs ++ ys) table output ≡ turned_down (list_order p l xs table order).refusal (list_order p l xs table order).table output
         on false e =
             desk_down p l licensed (xs ++ ys) table output settings low (ap accepted same_call ∙ e)
-            ∙ ap (λ (k : Refusal). turned_down (refusal_number k) table output) same_call
+            ∙ ap (λ (k : Acceptance). turned_down (refusal_number k) table output) same_call
             ∙ ap left (sym (list_down p l xs table order e))
         on true e =
             let is = list_is p l xs table order e long in

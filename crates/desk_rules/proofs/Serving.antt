@@ -1,6 +1,8 @@
 -- A list at the desk is a run of the queue up to the first foreign entry.
-use Rattle.std.specs.Prelude.{if◌then◌else◌}
+use Rattle.std.specs.Prelude.{Ok, Err, if◌then◌else◌}
 use Prim.Native.Nat.{ℕ}
+use native.Mathlib.Omega.{arith}
+use borrow.Author.Tests.{ne_eqb}
 use mathlib.Core.Path.{◌≡◌, refl, ap, sym, ◌∙◌}
 use mathlib.Core.Bool.{Bool, true, false, and-true, and-false}
 use mathlib.Core.List.{List, [], ◌∷◌, foldl}
@@ -9,10 +11,9 @@ use Rattle.base.specs.Members.{All}
 use Rattle.base.proofs.Cases.{cases}
 use Rattle.record.specs.declared.StepRecord.{StepRecord}
 use Rattle.tree.specs.Shape.{Shape}
-use Rattle.calls.specs.declared.Refusal.{Refusal}
-use Rattle.calls.specs.Refusals.{refusal_number, accepted}
+use Rattle.calls.specs.Refusals.{Acceptance, paper_number, refusal_number, accepted}
 use Rattle.calls.specs.Run.{Played, play_record}
-use Rattle.calls.proofs.Acceptance.{zero_accepted}
+use Rattle.calls.proofs.Acceptance.{paper_number_above, zero_accepted}
 use Rattle.calls.proofs.Played.{over_stays}
 use Rattle.desk_rules.specs.declared.DeskRefusal.{DeskRefusal}
 use Rattle.desk_rules.specs.declared.DeskRefusal.TheVariants.{ForeignEntry}
@@ -21,13 +22,14 @@ use Rattle.desk_rules.specs.DeskRefusals.{desk_number, delivers, by_queue}
 use Rattle.desk_rules.specs.Desk.{Served, served, serve_record}
 
 -- a refusal of the queue, or none, keeps its number
-pub queue_number : (n : Refusal) → desk_number (by_queue n) ≡ refusal_number n
+pub queue_number : (n : Acceptance) → desk_number (by_queue n) ≡ refusal_number n
 unfolding desk_number by_queue
 queue_number n = cases (λ (d : DeskRefusal). desk_number d ≡ refusal_number n) (accepted n) (λ e. sym (zero_accepted n e)) (λ e. refl)
 
-pub queue_delivers : (n : Refusal) → delivers (by_queue n) ≡ accepted n
-unfolding delivers accepted
-queue_delivers n = ap (λ (k : ℕ). eqb k 0) (queue_number n)
+pub queue_delivers : (n : Acceptance) → delivers (by_queue n) ≡ accepted n
+unfolding delivers desk_number by_queue accepted refusal_number
+queue_delivers (Ok x) = refl
+queue_delivers (Err n) = ne_eqb (paper_number n) 0 (λ z. omega (arith, z, paper_number_above n))
 
 -- what the queue makes of its records delivers if they are not refused
 pub served_delivers : (g : Played) → delivers (served g).refusal ≡ accepted g.refusal

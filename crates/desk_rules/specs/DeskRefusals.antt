@@ -1,8 +1,7 @@
 -- What the desk turns down: its refusals, their numbers, and the tests of a call before its first record.
 use Rattle.std.specs.Prelude.{ℕ, Bool, leb, eqb, if◌then◌else◌}
 use Rattle.tree.specs.Shape.{shape_for}
-use Rattle.calls.specs.declared.Refusal.{Refusal}
-use Rattle.calls.specs.Refusals.{refusal_number, accepted, settings_refusal, buffer_refusal}
+use Rattle.calls.specs.Refusals.{Acceptance, refusal_number, accepted, settings_refusal, buffer_refusal}
 use Rattle.desk_rules.specs.declared.DeskRefusal.{DeskRefusal}
 use Rattle.desk_rules.specs.declared.DeskRefusal.TheVariants.{None, Queue, Licence, ForeignEntry, OutputShort}
 
@@ -19,7 +18,7 @@ unfoldable pub delivers : DeskRefusal → Bool
 delivers n = eqb (desk_number n) 0
 
 -- a refusal of the queue, or none
-unfoldable pub by_queue : Refusal → DeskRefusal
+unfoldable pub by_queue : Acceptance → DeskRefusal
 by_queue n = if accepted n then None else Queue (refusal_number n)
 
 -- of two tests, the first that refuses

@@ -7,7 +7,6 @@ ghost use Rattle.print.specs.Printed.{print_run, ReadFrom};
 use arrayvec::ArrayString;
 use print::page::put_printed;
 use queue::run::run;
-use refusals::numbers::number;
 use std::io;
 use std::io::{Read, Stdin, Write};
 
@@ -26,13 +25,8 @@ fn print_input(records: &[u8], next: &[u8]) -> ArrayString<4836>
     let mut table = [0u32; 2065];
     let mut answers = [0u8; 1536];
     let ran = run(4, 24, records, &mut table, &mut answers);
-    put_printed(
-        &answers,
-        ran.answers,
-        number(ran.refusal),
-        ran.taken,
-        &mut page,
-    );
+    let number = ran.refusal_number();
+    put_printed(&answers, ran.answers, number, ran.taken, &mut page);
     page
 }
 

@@ -29,13 +29,10 @@ use forecast::call::forecast;
 impl From<Ran> for OtqRun {
     ghost from_gives = { λ r x. (table answers : List ℕ) → run_exported x table answers ≡ run_left r table answers };
 
-    #[tactic(auto, unfolding(crate::specs::Exported::run_exported, crate::specs::Left::run_left, calls::specs::Refusals::refusal_number))]
+    #[tactic(auto, unfolding(crate::specs::Exported::run_exported, crate::specs::Left::run_left))]
     fn from(r: Ran) -> OtqRun {
         OtqRun {
-            refusal: match r.ended {
-                Ok(()) => 0,
-                Err(why) => u32::from(why),
-            },
+            refusal: r.refusal_number(),
             taken: r.taken as u64,
             answers: r.answers as u64,
         }

@@ -8,6 +8,9 @@ pub mod list_order;
 mod play_all;
 pub mod run;
 
+ghost use Rattle.std.specs.Prelude.{◌≡◌};
+ghost use Rattle.calls.specs.Refusals.{refusal_number};
+
 use calls::Refusal;
 
 // What Run returns: the refusal that ended it, if any did, the records taken and the answers written.
@@ -16,6 +19,19 @@ pub struct Ran {
     pub ended: Result<(), Refusal>,
     pub taken: usize,
     pub answers: usize,
+}
+
+impl Ran {
+    // The paper's number of the refusal, 0 for none.
+    #[tactic(auto, unfolding(calls::specs::Refusals::refusal_number))]
+    pub fn refusal_number(self) -> u32
+        ensures { result ≡ refusal_number self.ended }
+    {
+        match self.ended {
+            Ok(()) => 0,
+            Err(why) => u32::from(why),
+        }
+    }
 }
 
 // The same for C: a refusal is its number, 0 for none.

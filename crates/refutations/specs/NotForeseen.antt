@@ -7,7 +7,7 @@ use Rattle.record.specs.StepRecords.{step_records}
 use Rattle.record.specs.AnswerRecords.{answer_size}
 use Rattle.tree.specs.Shape.{shape_for}
 use Rattle.steps.specs.declared.Operation.TheVariants.{Take}
-use Rattle.calls.specs.Refusals.{refusal_number}
+use Rattle.calls.specs.Refusals.{paper_number}
 use Rattle.calls.specs.Numbered.{numbered}
 use Rattle.calls.specs.Run.{RunResult, run}
 use Rattle.calls.specs.History.{Event, opens, finishes, history}
@@ -80,7 +80,7 @@ module _ (p l : ℕ) (bytes : List ℕ) (f : ForecastResult) (none : f.refusal �
     says_exact = (claim none records table answers these).exact
 
     pub says_enough : f.words ≤ length table → f.answer_bytes ≤ length answers → (e.refusal ≢ 3) × (e.refusal ≢ 9)
-    unfolding refusal_number
+    unfolding paper_number
     says_enough = (claim none records table answers these).enough
 
 -- the steps of a list are not among its begins

@@ -42,5 +42,5 @@ put_printed-requires c = omega (arith, ap length c.new-page.ensures, few _ _ _ _
 pub returns : goal.returns
 unfolding run_text run_left
 returns c = λ input read.
-    rw (printed_run read c.if-next-ne0.false, ← c.run-ran.ensures.rules, ← c.number.ensures)
+    rw (printed_run read c.if-next-ne0.false, ← c.run-ran.ensures.rules, ← c.refusal_number-number.ensures)
     (simp (c.put_printed.ensures.stored, c.new-page.ensures) refl)
