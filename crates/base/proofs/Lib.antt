@@ -7,5 +7,4 @@ pub mod Repeats
 pub mod Beginnings
 pub mod Stored
 pub mod Entries
-pub mod Somes
 pub mod Sums
