@@ -1,11 +1,12 @@
 -- The bands of a sheet by their numbers.
 use Prim.Native.Nat.{ℕ, zero, suc, ◌/◌, ◌<◌}
-use mathlib.Core.Path.{◌≡◌, refl, ap, ◌∙◌}
+use mathlib.Core.Path.{◌≡◌, refl, ap}
 use mathlib.Core.List.{List, ◌∷◌, map}
 use lib.ListN.{length, take, drop}
 use lib.Seq.{drop-cons}
 use Rattle.std.specs.Simd.{first_chunks}
 use Rattle.encoding.specs.Bytes.{cut}
+use Rattle.encoding.proofs.Cuts.{read_length}
 use Rattle.price.specs.declared.Band.{Band}
 use Rattle.price.specs.Sheet.{band_size, band, bands, band_of}
 
@@ -15,9 +16,13 @@ chunks_cut size zero bytes = refl
 chunks_cut size (suc n) bytes = ap (λ rest. take size bytes ∷ rest) (chunks_cut size n (drop size bytes))
 
 -- as the code reads them
-pub bands_are : (sheet : List ℕ) (bytes : List (List ℕ)) → bytes ≡ first_chunks 8 (length sheet / 8) sheet → map band bytes ≡ bands sheet
+pub chunks_bands : (sheet : List ℕ) → map band (first_chunks 8 (length sheet / 8) sheet) ≡ bands sheet
 unfolding bands band_size
-bands_are sheet bytes e = ap (map band) (e ∙ chunks_cut 8 (length sheet / 8) sheet)
+chunks_bands sheet = ap (map band) (chunks_cut 8 (length sheet / 8) sheet)
+
+pub bands_length : (sheet : List ℕ) → length (bands sheet) ≡ length sheet / 8
+unfolding bands band_size
+bands_length sheet = read_length band 8 (length sheet / 8) sheet
 
 -- the bands from number i on
 pub from_band : (bs : List Band) (i : ℕ) → i < length bs → drop i bs ≡ band_of bs i ∷ drop (suc i) bs

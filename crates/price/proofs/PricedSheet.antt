@@ -11,7 +11,7 @@ use Rattle.std.proofs.lemmas.List.{get_or-map}
 use Rattle.price.specs.declared.Band.{Band}
 use Rattle.price.specs.Sheet.{band, bands, band_of}
 use Rattle.price.specs.Price.{total_price}
-use Rattle.price.proofs.Bands.{bands_are}
+use Rattle.price.proofs.Bands.{chunks_bands}
 use Rattle.price.proofs.SheetTests.{Accepted}
 use Rattle.price.proofs.Priced.{total_most, Priced, priced_before, priced_band, priced_next, priced_last}
 
@@ -21,7 +21,7 @@ pub record Read (sheet : List ℕ) (others : List (List ℕ)) (last : List ℕ) 
 
 pub read : (sheet : List ℕ) (bytes others : List (List ℕ)) (last : List ℕ) → bytes ≡ first_chunks 8 (length sheet / 8) sheet → bytes ≡ others ++ (last ∷ []) → Read sheet others last
 read sheet bytes others last all split =
-    record { are = sym (bands_are sheet bytes all) ∙ ap (map band) split ∙ map-append band others (last ∷ []) }
+    record { are = sym (ap (map band) all ∙ chunks_bands sheet) ∙ ap (map band) split ∙ map-append band others (last ∷ []) }
 
 -- a band that is not the last, with the last delivery that it prices
 pub record Next (count : ℕ) (sheet : List ℕ) (i priced total : ℕ) (b : Band) (last : ℕ) : Type 0 where

@@ -12,6 +12,7 @@ use Rattle.price.specs.Exact.{Exact}
 use Rattle.price.proofs.SheetTests.{accepted}
 use Rattle.price.proofs.ExactPrice.{exact}
 
+-- no refusal's is 0
 pub number_above : (why : PriceRefusal) → price_number why ≡ 0 → ⊥
 unfolding price_number
 number_above Count e = omega arith

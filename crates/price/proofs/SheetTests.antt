@@ -1,12 +1,12 @@
 -- The tests of a sheet, band after band; and what a sheet that passes them is.
-use Prim.Native.Nat.{ℕ, zero, suc, ◌+◌, ◌/◌, ◌%◌, ◌≤◌, ◌<◌}
+use Prim.Native.Nat.{ℕ, zero, suc, ◌+◌, ◌%◌, ◌≤◌, ◌<◌}
 use native.Mathlib.Omega.{arith}
 use mathlib.Core.Path.{◌≡◌, refl, ap, sym}
 use mathlib.Core.Bool.{Bool, true, false, not, ◌&&◌, and-false}
 use mathlib.Core.List.{List, [], ◌∷◌, map}
 use lib.ListN.{length, length-map}
 use lib.Dec.{ltb, leb, eqb}
-use borrow.Author.Tests.{eq-eqb, ltb-true, ltb-false, leb-true, le-ltb, lt-leb, le-leb}
+use borrow.Author.Tests.{ltb-true, ltb-false, leb-true, lt-leb, le-leb}
 use Rattle.std.specs.Prelude.{if◌then◌else◌, Result, Ok, Err}
 use Rattle.std.specs.List.{list_all, IsAllAdjacentAnswer}
 use Rattle.price.specs.declared.PriceRefusal.{PriceRefusal}
@@ -15,8 +15,6 @@ use Rattle.base.proofs.Cases.{and-true}
 use Rattle.price.specs.declared.Band.{Band}
 use Rattle.price.specs.Sheet.{band_size, band, bands, band_of, rising, most_bands, bands_allowed, highest_price, prices_allowed}
 use Rattle.price.specs.Price.{most_deliveries, price_refusal}
-use Rattle.std.specs.Simd.{first_chunks}
-use Rattle.price.proofs.Bands.{bands_are}
 
 -- ---- ends
 
@@ -59,16 +57,6 @@ pub each_allowed : (bands : List (List ℕ)) → list_all (λ bytes. leb (band b
 unfolding prices_allowed highest_price
 each_allowed [] = refl
 each_allowed (b ∷ bs) = ap (λ t. leb (band b).price 1000000 && t) (each_allowed bs)
-
--- ---- a call, by the bytes of each band
-
-module _ (count : ℕ) (sheet : List ℕ) (bytes : List (List ℕ)) (most : count ≤ 4000) (whole : length sheet % 8 ≡ 0)
-    (are : bytes ≡ first_chunks 8 (length sheet / 8) sheet)
-  where
-    pub by_bands : price_refusal count sheet
-        ≡ (if not (bands_allowed (map band bytes)) then Err Bands else if not (prices_allowed (map band bytes)) then Err PriceTooHigh else Ok tt)
-    unfolding price_refusal most_deliveries band_size
-    by_bands = rw (le-ltb 4000 count most, eq-eqb (length sheet % 8) 0 whole, bands_are sheet bytes are)
 
 -- ---- a call that is not refused
 

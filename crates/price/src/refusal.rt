@@ -21,7 +21,7 @@ impl From<PriceRefusal> for u32 {
 }
 
 // The first test that fails, if one does.
-#[tactic(auto, unfolding(crate::specs::Price::price_refusal, crate::specs::Price::most_deliveries, crate::specs::Sheet::band_size))]
+#[tactic(auto, using(crate::proofs::Bands::chunks_bands), unfolding(crate::specs::Price::price_refusal, crate::specs::Price::most_deliveries, crate::specs::Sheet::band_size))]
 pub fn price_refusal(count: u32, sheet: &[u8]) -> Result<(), PriceRefusal>
     ensures { result ≡ price_refusal count sheet.now }
 {

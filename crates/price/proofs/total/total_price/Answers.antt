@@ -1,10 +1,7 @@
 -- `total::total_price` meets its contract.
-use Prim.Native.Nat.{◌<◌}
 use native.Mathlib.Omega.{arith}
-use mathlib.Core.Path.{ap, ◌∙◌}
-use lib.ListN.{length, length-map}
-use Rattle.price.specs.Sheet.{band}
-use Rattle.price.proofs.Bands.{bands_are}
+use mathlib.Core.Path.{◌∙◌}
+use Rattle.price.proofs.Bands.{bands_length}
 use Rattle.price.proofs.SheetTests.{accepted}
 use Rattle.price.proofs.Priced.{priced_none}
 use Rattle.price.proofs.PricedSheet.{Read, Next, Final, read, next, final}
@@ -13,10 +10,7 @@ use Rattle.price.proofs.total.total_price.Goals as goal
 
 -- there is a band
 pub unwrap-requires : goal.unwrap-requires
-unwrap-requires c =
-    let bytes = c.as_chunks.result.0.now in
-    let some : 0 < length bytes = omega (arith, (accepted _ _ c.requires).some, ap length (bands_are _ _ c.as_chunks.ensures.front), length-map bytes band) in
-    c.split_last.ensures.variant.1 some
+unwrap-requires c = c.split_last.ensures.variant.1 (omega (arith, (accepted _ _ c.requires).some, bands_length c.args.sheet.now))
 
 abbrev IsRead : After-unwrap → Type 0
 IsRead c = Read c.args.sheet.now c.unwrap.result.1.now c.unwrap.result.0.now
