@@ -18,8 +18,7 @@ collect-count-requires c =
 
 pub returns-then-output-count : goal.returns-then-output-count
 returns-then-output-count c =
-    listed_short c.requires c.receive_all.ensures c.collect-count.result _ c.collect-count.ensures.0 c.collect-count.ensures.1 _ c.refused.ensures _
-    c.if-output-count.true
+    listed_short c.requires c.receive_all.ensures c.collect-count.result _ c.collect-count.ensures.0 c.collect-count.ensures.1 _ c.if-output-count.true
 
 pub slice_bounds-terms-end : goal.slice_bounds-terms-end
 slice_bounds-terms-end c = c.collect-count.ensures.0
