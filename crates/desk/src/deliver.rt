@@ -23,7 +23,8 @@ fn accepted(number: u32) -> Result<(), DeskRefusal>
     Ok(())
 }
 
-// Plays a list without foreign entries and delivers its terms.
+// Plays a list without foreign entries and delivers its terms. The order list, of at most 4,000 operations, has a fixed
+// buffer: the library has no heap.
 fn deliver_plain(
     p: u32,
     l: u32,
@@ -44,8 +45,14 @@ fn deliver_plain(
 
 // Plays a list whose last record is a foreign entry: 14, unless the queue refuses it or one before it. Whatever follows
 // it in the whole list plays no part. List the order plays without answers, so that none is refused for want of room,
-// and its list always fits.
-fn refuse_foreign(p: u32, l: u32, licensed: u32, records: &[u8], table: &mut [u32]) -> Result<usize, DeskRefusal>
+// and its list always fits. A function for this call and that of deliver_plain would be longer than either.
+fn refuse_foreign(
+    p: u32,
+    l: u32,
+    licensed: u32,
+    records: &[u8],
+    table: &mut [u32],
+) -> Result<usize, DeskRefusal>
     requires { Allowed p l licensed × EndsForeign licensed records.now }
     ensures { (more output : List ℕ) → torn step_size (length (records.now ++ more)) ≡ false
         → desk_left result table.new output ≡ desk p l licensed (records.now ++ more) table.old output }
