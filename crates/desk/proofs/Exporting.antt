@@ -1,6 +1,6 @@
 -- What the exported call returns and leaves, from what `deliver` does; and the order of delivery on it.
 use Prim.Native.Nat.{ℕ, ◌^◌, ◌<◌}
-use mathlib.Core.Path.{◌≡◌, ap, sym, ◌∙◌, subst}
+use mathlib.Core.Path.{◌≡◌, refl, ap, sym, ◌∙◌, subst}
 use mathlib.Core.List.{List}
 use lib.ListN.{get_or}
 use Rattle.record.specs.StepRecords.{step_records}
@@ -8,15 +8,19 @@ use Rattle.desk_rules.specs.DeskRefusals.{desk_number}
 use Rattle.desk_rules.specs.Desk.{DeskResult, desk}
 use Rattle.desk_rules.specs.Deliveries.{DeliversInOrder}
 use Rattle.desk_rules.proofs.DeskOrder.{desk_order}
-use Rattle.desk_listed.specs.declared.Delivered.{Delivered}
+use Rattle.std.specs.Prelude.{Ok, Err}
+use Rattle.desk_rules.specs.declared.DeskRefusal.{DeskRefusal}
 use Rattle.desk.specs.declared.DeskDelivery.{DeskDelivery}
 use Rattle.desk_listed.specs.Left.{desk_left}
 use Rattle.desk.specs.Exported.{desk_exported}
 
-pub exported : (d : Delivered) (n : ℕ) (table output : List ℕ) (e : DeskResult) → n ≡ desk_number d.refusal → desk_left d table output ≡ e
-    → desk_exported (record { refusal = n; count = d.count }) table output ≡ e
+pub exported_count : (count : ℕ) (table output : List ℕ) → desk_exported (record { refusal = 0; count = count }) table output ≡ desk_left (Ok count) table output
 unfolding desk_left desk_exported
-exported d n table output e number is = (λ i. record { refusal = number i; count = d.count; table = table; output = output }) ∙ is
+exported_count count table output = refl
+
+pub exported_refusal : (why : DeskRefusal) (n : ℕ) (table output : List ℕ) → n ≡ desk_number why → desk_exported (record { refusal = n; count = 0 }) table output ≡ desk_left (Err why) table output
+unfolding desk_left desk_exported
+exported_refusal why n table output e = rw e
 
 module _ (p l licensed : ℕ) (records table output : List ℕ) (r : DeskDelivery) (table' output' : List ℕ)
     (is : desk_exported r table' output' ≡ desk p l licensed records table output)

@@ -1,7 +1,6 @@
 -- The first foreign entry of a list: where there is none the list is plain, else it is cut behind that entry.
 use Prim.Native.Nat.{ℕ, suc, ◌+◌, ◌*◌, ◌/◌, ◌%◌, ◌≤◌, ◌<◌}
 use native.Mathlib.Omega.{arith}
-use native.Mathlib.Decide.{dec_lt}
 use mathlib.Core.Path.{◌≡◌, refl, ap, sym, ◌∙◌}
 use mathlib.Core.Logic.{◌≢◌, ◌⊎◌, inl, inr}
 use mathlib.Core.Bool.{Bool, true, false}
@@ -9,7 +8,7 @@ use mathlib.Core.List.{List, [], ◌∷◌, ◌++◌}
 use lib.ListN.{length, take, drop, length-append, take-append-drop}
 use lib.Seq.{append_snoc, take_at, length-take-le}
 use lib.Dec.{eqb}
-use borrow.Author.Tests.{eqb-true, eqb-false, eq-eqb}
+use borrow.Author.Tests.{eqb-true, eq-eqb}
 use Rattle.std.specs.Prelude.{if◌then◌else◌}
 use Rattle.base.specs.Members.{All}
 use Rattle.record.specs.declared.StepRecord.{StepRecord}
@@ -80,14 +79,10 @@ module _ (licensed : ℕ) where
     none_foreign (inl a) f g whole = absurd (f a (whole_records (length records) whole))
     none_foreign (inr b) f g whole = before_all (step_records records) (sym is ∙ eqb-true n (length records / 8) (g b) ∙ sym (records_length records))
 
-    pub some_foreign : eqb n (length records / 8) ≡ false → n < length records / 8
-    some_foreign ne = on (dec_lt n (length records / 8))
-      where
-        on : Dec (n < length records / 8) → n < length records / 8
-        on (yes h) = h
-        on (no h) = absurd (eqb-false n (length records / 8) ne (omega (arith, is, before_most (step_records records), records_length records)))
+    module _ (whole : length records % 8 ≡ 0) (not_all : n ≢ length records / 8) where
+      some : n < length records / 8
+      some = omega (arith, is, not_all, before_most (step_records records), records_length records)
 
-    module _ (whole : length records % 8 ≡ 0) (some : n < length records / 8) where
       abbrev end : ℕ
       end = 8 * n + 8
 

@@ -1,7 +1,7 @@
 -- What list the order left, called with an output of 32,000 bytes, tells of the desk.
 use Prim.Native.Nat.{ℕ, ◌*◌, ◌≤◌}
 use native.Mathlib.Omega.{arith}
-use mathlib.Core.Path.{◌≡◌, ap, sym, ◌∙◌}
+use mathlib.Core.Path.{◌≡◌, refl, ap, sym, ◌∙◌}
 use mathlib.Core.Logic.{◌≢◌}
 use mathlib.Core.Bool.{false}
 use mathlib.Core.List.{List, ◌++◌}
@@ -22,20 +22,20 @@ use Rattle.calls.proofs.ListLimits.{list_is}
 use Rattle.calls.proofs.Unrefused.{list_accepted, list_played_lem, list_bytes}
 use Rattle.queue.specs.declared.OtqList.{OtqList}
 use Rattle.queue.specs.Exported.{list_exported}
+use Rattle.std.specs.Prelude.{Err}
 use Rattle.desk_rules.specs.declared.DeskRefusal.{DeskRefusal}
 use Rattle.desk_rules.specs.declared.DeskRefusal.TheVariants.{Queue, ForeignEntry}
 use Rattle.desk_rules.specs.DeskRefusals.{desk_number}
 use Rattle.desk_rules.specs.Desk.{DeskResult, served, desk_served, desk}
 use Rattle.desk_rules.proofs.Calls.{turned_down, plain_refused, plain_delivers, foreign_refused, foreign_found}
-use Rattle.desk_listed.specs.declared.Delivered.{Delivered}
 use Rattle.desk_listed.specs.Left.{desk_left}
 use Rattle.desk_listed.specs.Clauses.Deliverable.{Listed}
 use Rattle.desk.specs.Clauses.Deliverable.{Allowed, Plain, EndsForeign}
 
 -- a list that is refused delivers nothing
-pub left_refused : (d : Delivered) (why : DeskRefusal) (table output : List ℕ) → d ≡ record { refusal = why; count = 0 } → desk_left d table output ≡ turned_down (desk_number why) table output
+pub left_refused : (why : DeskRefusal) (table output : List ℕ) → desk_left (Err why) table output ≡ turned_down (desk_number why) table output
 unfolding desk_left
-left_refused d why table output e = rw e
+left_refused why table output = refl
 
 -- such a call
 pub record ListedBy (p l licensed : ℕ) (records table order : List ℕ) (r : OtqList) (table' order' : List ℕ) : Type 0 where
@@ -70,19 +70,19 @@ module _ {p l licensed : ℕ} {records table order : List ℕ} {r : OtqList} {ta
   as_left : (output : List ℕ) → turned_down r.refusal table' output ≡ turned_down e.refusal e.table output
   as_left output = rw (told, words_left)
 
-  module _ (no : r.refusal ≢ 0) (d : Delivered) (is : d ≡ record { refusal = Queue r.refusal; count = 0 }) where
+  module _ (no : r.refusal ≢ 0) where
     no_list : e.refusal ≢ 0
     no_list z = no (told ∙ z)
 
-    start : (output : List ℕ) → desk_left d table' output ≡ turned_down e.refusal e.table output
+    start : (output : List ℕ) → desk_left (Err (Queue r.refusal)) table' output ≡ turned_down e.refusal e.table output
     unfolding desk_number
-    start output = left_refused d (Queue r.refusal) table' output is ∙ as_left output
+    start output = left_refused (Queue r.refusal) table' output ∙ as_left output
 
-    pub plain_down : Plain licensed records → (output : List ℕ) → desk_left d table' output ≡ desk p l licensed records table output
+    pub plain_down : Plain licensed records → (output : List ℕ) → desk_left (Err (Queue r.refusal)) table' output ≡ desk p l licensed records table output
     plain_down plain output = start output ∙ sym (plain_refused p l licensed records table output by.allowed.settings by.allowed.licence order long plain no_list)
 
     pub foreign_down : EndsForeign licensed records → (more output : List ℕ) → torn step_size (length (records ++ more)) ≡ false
-        → desk_left d table' output ≡ desk p l licensed (records ++ more) table output
+        → desk_left (Err (Queue r.refusal)) table' output ≡ desk p l licensed (records ++ more) table output
     foreign_down f more output whole =
         start output
         ∙ sym (foreign_refused p l licensed records more table output by.allowed.settings by.allowed.licence order long whole f.whole f.before f.last f.cut
@@ -92,11 +92,11 @@ module _ {p l licensed : ℕ} {records table order : List ℕ} {r : OtqList} {ta
     none_list : e.refusal ≡ 0
     none_list = sym (told) ∙ none
 
-    pub foreign_14 : (d : Delivered) → d ≡ record { refusal = ForeignEntry; count = 0 } → EndsForeign licensed records → (more output : List ℕ) → torn step_size (length (records ++ more)) ≡ false
-        → desk_left d table' output ≡ desk p l licensed (records ++ more) table output
+    pub foreign_14 : EndsForeign licensed records → (more output : List ℕ) → torn step_size (length (records ++ more)) ≡ false
+        → desk_left (Err ForeignEntry) table' output ≡ desk p l licensed (records ++ more) table output
     unfolding desk_number
-    foreign_14 d is f more output whole =
-        left_refused d ForeignEntry table' output is
+    foreign_14 f more output whole =
+        left_refused ForeignEntry table' output
         ∙ ap (λ (t : List ℕ). turned_down 14 t output) (words_left)
         ∙ sym (foreign_found p l licensed records more table output by.allowed.settings by.allowed.licence order long whole f.whole f.before f.last f.cut
         f.plain f.foreign none_list)

@@ -11,11 +11,11 @@ use Rattle.calls.specs.Forecast.{ForecastResult, begins_refusal, forecast_refusa
 use Rattle.calls.proofs.Acceptance.{accepted_zero, zero_accepted, nonzero_refused}
 use Rattle.queue.specs.declared.OtqForecast.{OtqForecast}
 use Rattle.queue.specs.Exported.{forecast_exported}
+use Rattle.std.specs.Prelude.{Err}
 use Rattle.desk_rules.specs.declared.DeskRefusal.TheVariants.{Queue, Licence}
 use Rattle.desk_rules.specs.DeskRefusals.{desk_number}
 use Rattle.desk_rules.specs.Desk.{desk}
 use Rattle.desk_rules.proofs.Calls.{turned_down, desk_settings, desk_licence}
-use Rattle.desk_listed.specs.declared.Delivered.{Delivered}
 use Rattle.desk_listed.specs.Left.{desk_left}
 use Rattle.desk.specs.Clauses.Deliverable.{Allowed}
 use Rattle.desk.proofs.Listing.{left_refused}
@@ -44,14 +44,14 @@ module _ (p l : ℕ) where
     pub all_allowed : (licensed : ℕ) → r.refusal ≡ 0 → licensed < p → Allowed p l licensed
     all_allowed licensed z low = record { settings = settings_passed z; licence = low }
 
-    module _ (licensed : ℕ) (records table output : List ℕ) (d : Delivered) where
-      pub settings_down : r.refusal ≢ 0 → d ≡ record { refusal = Queue r.refusal; count = 0 } → desk_left d table output ≡ desk p l licensed records table output
+    module _ (licensed : ℕ) (records table output : List ℕ) where
+      pub settings_down : r.refusal ≢ 0 → desk_left (Err (Queue r.refusal)) table output ≡ desk p l licensed records table output
       unfolding desk_number
-      settings_down refused is =
-          left_refused d (Queue r.refusal) table output is
+      settings_down refused =
+          left_refused (Queue r.refusal) table output
           ∙ ap (λ (k : ℕ). turned_down k table output) number_is
           ∙ sym (desk_settings p l licensed records table output (nonzero_refused n (λ z. refused (number_is ∙ z))))
 
-      pub licence_down : r.refusal ≡ 0 → p ≤ licensed → d ≡ record { refusal = Licence; count = 0 } → desk_left d table output ≡ desk p l licensed records table output
+      pub licence_down : r.refusal ≡ 0 → p ≤ licensed → desk_left (Err Licence) table output ≡ desk p l licensed records table output
       unfolding desk_number
-      licence_down z h is = left_refused d Licence table output is ∙ sym (desk_licence p l licensed records table output (settings_passed z) h)
+      licence_down z h = left_refused Licence table output ∙ sym (desk_licence p l licensed records table output (settings_passed z) h)

@@ -1,27 +1,12 @@
 // The call as programs in C and Rust have it: crate desk_c exports it.
 ghost use Rattle.std.specs.Prelude.{◌≡◌};
 ghost use Rattle.record.specs.StepRecords.{step_records};
-ghost use Rattle.desk_rules.specs.DeskRefusals.{desk_number};
 ghost use Rattle.desk_rules.specs.Desk.{desk};
 ghost use Rattle.desk_rules.specs.Deliveries.{DeliversInOrder};
 ghost use Rattle.desk.specs.Exported.{desk_exported};
 
 use crate::DeskDelivery;
 use crate::deliver::deliver;
-use desk_rules::DeskRefusal;
-
-// The paper's number of a refusal.
-fn number(x: DeskRefusal) -> u32
-    ensures { result ≡ desk_number x }
-{
-    match x {
-        DeskRefusal::None => 0,
-        DeskRefusal::Queue(n) => n,
-        DeskRefusal::Licence => 13,
-        DeskRefusal::ForeignEntry => 14,
-        DeskRefusal::OutputShort => 10,
-    }
-}
 
 // The delivery of the terms that the finished takes of a list received.
 pub fn desk_deliver(
@@ -35,10 +20,14 @@ pub fn desk_deliver(
     ensures rules { desk_exported result table.new output.new ≡ desk p l licensed records.now table.old output.old }
     ensures order { result.refusal ≡ 0 → DeliversInOrder p l (step_records records.now) table.new result.count output.new }
 {
-    let r = deliver(p, l, licensed, records, table, output);
-    let why = r.refusal;
-    DeskDelivery {
-        refusal: number(why),
-        count: r.count as u64,
+    match deliver(p, l, licensed, records, table, output) {
+        Ok(count) => DeskDelivery {
+            refusal: 0,
+            count: count as u64,
+        },
+        Err(why) => DeskDelivery {
+            refusal: why.into(),
+            count: 0,
+        },
     }
 }

@@ -18,14 +18,14 @@ use Rattle.calls.specs.Run.{Played}
 use Rattle.calls.specs.ListOrder.{play_all}
 use Rattle.calls.proofs.CallAccepted.{accepted_operations}
 use Rattle.calls.proofs.ListLimits.{list_fits}
-use Rattle.desk_rules.specs.declared.DeskRefusal.TheVariants.{None, OutputShort}
+use Rattle.std.specs.Prelude.{Ok, Err}
+use Rattle.desk_rules.specs.declared.DeskRefusal.TheVariants.{OutputShort}
 use Rattle.desk_rules.specs.Entries.{term_size, term_bytes}
 use Rattle.desk_rules.specs.DeskRefusals.{desk_number, delivers, first_desk_refusal}
 use Rattle.desk_rules.specs.Desk.{served, terms, sent, output_refusal, desk_served}
 use Rattle.desk_rules.proofs.Serving.{queue_delivers}
 use Rattle.desk_terms.specs.Clauses.Slots.{orders_in, HasSlot, entered, collected}
 use Rattle.desk_terms.proofs.Entered.{entered_length}
-use Rattle.desk_listed.specs.declared.Delivered.{Delivered}
 use Rattle.desk_listed.specs.Left.{desk_left}
 use Rattle.desk_listed.specs.Clauses.Deliverable.{ReceivedAll, Listed}
 use Rattle.desk_listed.proofs.Received.{all_few, orders_read, order_slots, all_collected}
@@ -76,15 +76,15 @@ module _ {p l : ℕ} {records : List ℕ} {words : ℕ} {order : List ℕ} (k : 
       unfolding desk_served served first_desk_refusal
       served_is output = rw (queue_delivers g.refusal, k.taken)
 
-      pub listed_short : (r : Delivered) → r ≡ record { refusal = OutputShort; count = 0 } → (output : List ℕ) → length output < 4 * count
-          → desk_left r table' output ≡ desk_served (shape_for p l) (served (play_all (shape_for p l) (step_records records))) table output
+      pub listed_short : (output : List ℕ) → length output < 4 * count
+          → desk_left (Err OutputShort) table' output ≡ desk_served (shape_for p l) (served (play_all (shape_for p l) (step_records records))) table output
       unfolding desk_left sent output_refusal delivers desk_number term_size
-      listed_short r e output h =
-          rw (e, all.words, served_is output, lt-ltb (length output) (4 * length ts) (omega (arith, many)))
+      listed_short output h =
+          rw (all.words, served_is output, lt-ltb (length output) (4 * length ts) (omega (arith, many)))
 
       pub listed_sent : (output output' : List ℕ) → 4 * count ≤ length output
           → output' ≡ term_bytes (take count words') ++ drop (term_size * length (take count words')) output
-          → desk_left (record { refusal = None; count = count }) table' output' ≡ desk_served (shape_for p l) (served (play_all (shape_for p l) (step_records records))) table output
+          → desk_left (Ok count) table' output' ≡ desk_served (shape_for p l) (served (play_all (shape_for p l) (step_records records))) table output
       unfolding desk_left sent output_refusal delivers desk_number term_size
       listed_sent output output' h e =
           rw (all.words, served_is output, le-ltb (length output) (4 * length ts) (omega (arith, many)), e, are, many)

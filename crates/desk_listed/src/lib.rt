@@ -3,12 +3,3 @@
 #![tactic(auto)]
 
 pub mod listed;
-
-use desk_rules::DeskRefusal;
-
-// What the desk returns: a refusal, or none and the number of terms.
-#[derive(Clone, Copy)]
-pub struct Delivered {
-    pub refusal: DeskRefusal,
-    pub count: usize,
-}

@@ -8,25 +8,14 @@ ghost use Rattle.desk_rules.specs.Desk.{served, desk_served};
 ghost use Rattle.desk_listed.specs.Left.{desk_left};
 ghost use Rattle.desk_listed.specs.Clauses.Deliverable.{ReceivedAll, Listed};
 
-use crate::Delivered;
 use desk_rules::DeskRefusal;
 use desk_terms::collect::collect;
 use desk_terms::receive::receive;
 use desk_terms::send::send;
 use queue::exports::otq_run;
 
-// A call or a list that is refused delivers nothing.
-pub fn refused(why: DeskRefusal) -> Delivered
-    ensures { result ≡ record { refusal = why; count = 0 } }
-{
-    Delivered {
-        refusal: why,
-        count: 0,
-    }
-}
-
 // Runs a list for its answers, and stores in the slot of each operation the value that it received. There are at most
-// 4,000 operations.
+// 4,000 operations, so fixed buffers hold what they leave: the library has no heap.
 fn receive_all(p: u32, l: u32, records: &[u8], table: &mut [u32], received: &mut [u32])
     requires call { is_accepted (call_refusal p l (length table.old) (length records.now)) ≡ true }
     requires zeros { received.old ≡ replicate 4000 0 }
@@ -37,7 +26,7 @@ fn receive_all(p: u32, l: u32, records: &[u8], table: &mut [u32], received: &mut
     receive(&answers, ran.answers as usize, l, received);
 }
 
-// Delivers the terms of a list of which the queue refuses nothing; `order` is its root order.
+// Delivers the terms of a list of which the queue refuses nothing, and returns how many; `order` is its root order.
 pub fn deliver_listed(
     p: u32,
     l: u32,
@@ -45,7 +34,7 @@ pub fn deliver_listed(
     table: &mut [u32],
     order: &[u8],
     output: &mut [u8],
-) -> Delivered
+) -> Result<usize, DeskRefusal>
     requires { Listed p l records.now (length table.old) order.now }
     ensures { desk_left result table.new output.new
         ≡ desk_served (shape_for p l) (served (play_all (shape_for p l) (step_records records.now))) table.old output.old }
@@ -55,11 +44,8 @@ pub fn deliver_listed(
     let mut terms = [0u32; 4000];
     let count = collect(order, order.len() / 8, l, &received, &mut terms);
     if output.len() < 4 * count {
-        return refused(DeskRefusal::OutputShort);
+        return Err(DeskRefusal::OutputShort);
     }
     send(&terms[..count], output);
-    Delivered {
-        refusal: DeskRefusal::None,
-        count: count,
-    }
+    Ok(count)
 }

@@ -1,6 +1,6 @@
 -- What the desk leaves, told by what list the order leaves: of the whole list where it has no foreign entry, else of
 -- the list up to and with the first. `order` is an output as long as any list.
-use Rattle.std.specs.Prelude.{if◌then◌else◌}
+use Rattle.std.specs.Prelude.{if◌then◌else◌, Err}
 use Prim.Native.Nat.{ℕ, ◌*◌, ◌≤◌, ◌<◌}
 use mathlib.Core.Path.{◌≡◌, refl, ap, sym, ◌∙◌}
 use mathlib.Core.Logic.{◌≢◌}
@@ -24,34 +24,30 @@ use Rattle.calls.proofs.CallAccepted.{accepted_whole, whole_records}
 use Rattle.calls.proofs.Theorem.{tall_for}
 use Rattle.calls.proofs.ListLimits.{list_down, list_is}
 use Rattle.calls.proofs.Unrefused.{list_accepted, list_played_lem}
-use Rattle.desk_rules.specs.declared.DeskRefusal.{DeskRefusal}
 use Rattle.desk_rules.specs.declared.DeskRefusal.TheVariants.{Licence, ForeignEntry}
 use Rattle.desk_rules.specs.Entries.{is_foreign}
-use Rattle.desk_rules.specs.DeskRefusals.{desk_number, delivers, by_queue, first_desk_refusal, licence_refusal, desk_call_refusal}
+use Rattle.desk_rules.specs.DeskRefusals.{desk_number, DeskAcceptance, delivers, by_queue, first_desk_refusal, licence_refusal, desk_call_refusal}
 use Rattle.desk_rules.specs.Desk.{Served, served, serve, DeskResult, sent, desk_served, desk}
-use Rattle.desk_rules.proofs.Serving.{queue_number, queue_delivers}
+use Rattle.desk_rules.proofs.Serving.{queue_delivers}
 use Rattle.desk_rules.proofs.Lists.{serve_all, foreign_memory, serve_at}
 
 -- a refusal by its number, where nothing is sent
 abbrev pub turned_down : ℕ → List ℕ → List ℕ → DeskResult
 turned_down n table output = record { refusal = n; count = 0; table = table; output = output }
 
-sent_none : (n : DeskRefusal) (ts table output : List ℕ) → delivers n ≡ false → sent n ts table output ≡ turned_down (desk_number n) table output
-unfolding sent
-sent_none n ts table output e = rw e
-
 -- of two tests
-first_refused : (a b : DeskRefusal) → delivers a ≡ false → first_desk_refusal a b ≡ a
+first_refused : (a b : DeskAcceptance) → delivers a ≡ false → first_desk_refusal a b ≡ a
 unfolding first_desk_refusal
 first_refused a b e = rw e
 
-first_passed : (a b : DeskRefusal) → delivers a ≡ true → first_desk_refusal a b ≡ b
+first_passed : (a b : DeskAcceptance) → delivers a ≡ true → first_desk_refusal a b ≡ b
 unfolding first_desk_refusal
 first_passed a b e = rw e
 
 -- refused by the queue, with nothing sent
 queue_sent : (n : Acceptance) (ts table output : List ℕ) → accepted n ≡ false → sent (by_queue n) ts table output ≡ turned_down (refusal_number n) table output
-queue_sent n ts table output e = sent_none (by_queue n) ts table output (queue_delivers n ∙ e) ∙ ap (λ (k : ℕ). turned_down k table output) (queue_number n)
+unfolding sent by_queue desk_number
+queue_sent n ts table output e = rw e
 
 -- a list that the queue refuses, at the desk
 served_refused : (s : Shape) (g : Played) (table output : List ℕ) → accepted g.refusal ≡ false
@@ -60,20 +56,20 @@ unfolding desk_served served
 served_refused s g table output e = rw (first_refused (by_queue g.refusal) _ (queue_delivers g.refusal ∙ e)) (queue_sent g.refusal _ _ output e)
 
 module _ (p l licensed : ℕ) (records table output : List ℕ) where
-  abbrev tested : DeskRefusal
+  abbrev tested : DeskAcceptance
   tested = desk_call_refusal p l licensed (length table) (length records)
 
-  desk_refused : (n : DeskRefusal) → tested ≡ n → delivers n ≡ false → desk p l licensed records table output ≡ turned_down (desk_number n) table output
+  desk_refused : (n : DeskAcceptance) → tested ≡ n → delivers n ≡ false → desk p l licensed records table output ≡ sent n [] table output
   unfolding desk
-  desk_refused n is e = rw (is, e) (sent_none n [] table output e)
+  desk_refused n is e = rw (is, e)
 
   -- ---- before the table is lent
   pub desk_settings : accepted (settings_refusal p l) ≡ false → desk p l licensed records table output ≡ turned_down (refusal_number (settings_refusal p l)) table output
   unfolding desk_call_refusal
   desk_settings e =
-      let n : DeskRefusal = by_queue (settings_refusal p l) in
+      let n : DeskAcceptance = by_queue (settings_refusal p l) in
       let down : delivers n ≡ false = queue_delivers (settings_refusal p l) ∙ e in
-      desk_refused n (first_refused n _ down) down ∙ ap (λ (k : ℕ). turned_down k table output) (queue_number (settings_refusal p l))
+      desk_refused n (first_refused n _ down) down ∙ queue_sent (settings_refusal p l) [] table output e
 
   module _ (settings : accepted (settings_refusal p l) ≡ true) where
     next_test : tested ≡ first_desk_refusal (licence_refusal p licensed) (by_queue (buffer_refusal (shape_for p l) (length table) (length records)))
@@ -81,8 +77,8 @@ module _ (p l licensed : ℕ) (records table output : List ℕ) where
     next_test = first_passed (by_queue (settings_refusal p l)) _ (queue_delivers (settings_refusal p l) ∙ settings)
 
     pub desk_licence : p ≤ licensed → desk p l licensed records table output ≡ turned_down 13 table output
-    unfolding first_desk_refusal licence_refusal delivers desk_number
-    desk_licence h = desk_refused Licence (next_test ∙ rw (le-leb p licensed h)) refl
+    unfolding first_desk_refusal licence_refusal delivers desk_number sent
+    desk_licence h = desk_refused (Err Licence) (next_test ∙ rw (le-leb p licensed h)) refl
 
   -- ---- then it is the queue's
   module _ (settings : accepted (settings_refusal p l) ≡ true) (low : licensed < p) where
@@ -93,11 +89,11 @@ module _ (p l licensed : ℕ) (records table output : List ℕ) where
     n = call_refusal p l (length table) (length records)
 
     call_is : tested ≡ by_queue n
-    unfolding first_desk_refusal licence_refusal delivers desk_number call_refusal first_refusal
+    unfolding first_desk_refusal licence_refusal delivers call_refusal first_refusal
     call_is = next_test settings ∙ rw (lt-leb p licensed low, settings)
 
     desk_down : accepted n ≡ false → desk p l licensed records table output ≡ turned_down (refusal_number n) table output
-    desk_down e = desk_refused (by_queue n) call_is (queue_delivers n ∙ e) ∙ ap (λ (k : ℕ). turned_down k table output) (queue_number n)
+    desk_down e = desk_refused (by_queue n) call_is (queue_delivers n ∙ e) ∙ queue_sent n [] table output e
 
     desk_on : accepted n ≡ true → desk p l licensed records table output ≡ desk_served s (serve s licensed (step_records records)) table output
     unfolding desk
@@ -162,7 +158,7 @@ module _ (p l licensed : ℕ) (xs ys table output : List ℕ) (settings : accept
 
     -- what it leaves, by the run of the records up to and with the entry
     abbrev ended_by : Played → Served
-    ended_by x = if accepted x.refusal then record { run = play_all shape us; refusal = ForeignEntry } else served x
+    ended_by x = if accepted x.refusal then record { run = play_all shape us; refusal = Err ForeignEntry } else served x
 
     abbrev ended : Served
     ended = ended_by g'
@@ -201,7 +197,7 @@ module _ (p l licensed : ℕ) (xs ys table output : List ℕ) (settings : accept
     foreign_found z =
         let e = list_accepted p l xs table order z in
         let is = list_is p l xs table order e long in
-        let found : ended ≡ record { run = play_all shape us; refusal = ForeignEntry } = rw (list_played_lem p l xs table order z) in
+        let found : ended ≡ record { run = play_all shape us; refusal = Err ForeignEntry } = rw (list_played_lem p l xs table order z) in
         let memory = foreign_memory shape (tall_for p l) licensed us r (step_records ys) plain foreign in
         desk_at e
         ∙ ap (λ (d : Served). desk_served shape d table output) found

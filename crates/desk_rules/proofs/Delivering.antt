@@ -12,7 +12,7 @@ use Rattle.calls.specs.Refusals.{accepted}
 use Rattle.calls.specs.Run.{Played, at_start, play_record, play}
 use Rattle.calls.specs.ListOrder.{play_all}
 use Rattle.desk_rules.specs.Entries.{is_foreign}
-use Rattle.desk_rules.specs.DeskRefusals.{desk_number, delivers}
+use Rattle.desk_rules.specs.DeskRefusals.{delivers}
 use Rattle.desk_rules.specs.Desk.{Served, served, serve_record, serve}
 use Rattle.desk_rules.proofs.Serving.{served_delivers, serve_plain, serve_foreign, over}
 
@@ -26,7 +26,7 @@ module _ (s : Shape) (room licensed : ℕ) where
 
   -- a foreign entry ends the list, whatever the queue makes of it
   foreign_over : (g : Played) (r : StepRecord) → is_foreign licensed r ≡ true → delivers (serve_record s room licensed (served g) r).refusal ≡ false
-  unfolding delivers desk_number
+  unfolding delivers
   foreign_over g r f =
       let g' : Played = play_record s room g r in
       ap (λ (x : Served). delivers x.refusal) (serve_foreign s room licensed g r f)

@@ -1,17 +1,17 @@
 -- What the desk sends of a list that is not refused is in the order of the puts: of every p, L, licensed process, list
 -- of bytes, table and output, where the words left fit 32 bits.
-use Rattle.std.specs.Prelude.{if◌then◌else◌}
+use Rattle.std.specs.Prelude.{if◌then◌else◌, Ok, Err}
 use Prim.Native.Nat.{ℕ, ◌*◌, ◌^◌, ◌≤◌, ◌<◌}
 use native.Mathlib.Omega.{arith}
 use mathlib.Core.Path.{◌≡◌, refl, ap, sym, ◌∙◌, subst}
-use mathlib.Core.Bool.{Bool, true, false}
-use mathlib.Core.List.{List, [], ◌∷◌, ◌++◌, map, flat_map}
+use mathlib.Core.Bool.{Bool, true, false, true≢false, not, ◌&&◌}
+use mathlib.Core.List.{List, [], ◌∷◌, ◌++◌, map, flat_map, foldl}
 use lib.ListN.{length, get_or, take, drop}
 use lib.Seq.{take_at}
-use borrow.Author.Tests.{eqb-true, eq-eqb}
 use Rattle.base.specs.Members.{All}
 use Rattle.base.proofs.Members.{all_map, all_append}
-use Rattle.base.proofs.Cases.{both, contradiction}
+use lib.Dec.{ltb, leb}
+use Rattle.base.proofs.Cases.{both, cases, contradiction}
 use Rattle.record.specs.declared.StepRecord.{StepRecord}
 use Rattle.record.specs.declared.Reply.{Reply}
 use Rattle.record.specs.declared.Reply.TheVariants.{Done, Value, Nothing}
@@ -28,7 +28,9 @@ use Rattle.tree.specs.Standing.{same}
 use Rattle.steps.proofs.Limits.{allowed_most, short_for}
 use Rattle.calls.specs.Refusals.{accepted, settings_refusal}
 use Rattle.calls.specs.Numbered.{numbered}
-use Rattle.calls.specs.Run.{Played, play}
+use Rattle.calls.specs.declared.Refusal.{Refusal}
+use Rattle.calls.specs.Run.{Played, at_start, play_record, play}
+use Rattle.calls.proofs.Acceptance.{accepted_zero}
 use Rattle.calls.specs.ListOrder.{play_all}
 use Rattle.calls.specs.History.{operation, history}
 use Rattle.calls.specs.Linearizable.{response}
@@ -37,10 +39,9 @@ use Rattle.calls.proofs.CallAccepted.{settings_operations}
 use Rattle.calls.proofs.Theorem.{tall_for, played_words}
 use Rattle.calls.proofs.RecordsFit.{first_below}
 use Rattle.calls.proofs.PlayedRecords.{played_answered, played_unanswered, played_once, played_answers_fit}
-use Rattle.desk_rules.specs.Entries.{is_entry, term_of, term_size, term_bytes}
-use Rattle.desk_rules.specs.declared.DeskRefusal.{DeskRefusal}
-use Rattle.desk_rules.specs.DeskRefusals.{desk_number, delivers, by_queue, first_desk_refusal, desk_call_refusal}
-use Rattle.desk_rules.specs.Desk.{Served, served, serve, term_in, terms, DeskResult, sent, desk_served, desk}
+use Rattle.desk_rules.specs.Entries.{is_entry, is_foreign, term_of, term_size, term_bytes}
+use Rattle.desk_rules.specs.DeskRefusals.{desk_number, DeskAcceptance, delivers, by_queue, first_desk_refusal, licence_refusal, desk_call_refusal}
+use Rattle.desk_rules.specs.Desk.{Served, served, serve_record, serve, term_in, terms, DeskResult, sent, output_refusal, desk_served, desk}
 use Rattle.desk_rules.specs.Deliveries.{InPutOrder, DeliversInOrder}
 use Rattle.desk_rules.proofs.Serving.{queue_delivers, served_delivers}
 use Rattle.desk_rules.proofs.Delivering.{serve_delivers}
@@ -73,7 +74,7 @@ sent_back ts rest f = list_back 4 (bytes_of 4) number_of (bytes_length 4) ts res
 
 -- ---- a call that is not refused
 -- its tests passed, one after the other
-passed_all : (a b : DeskRefusal) → delivers (first_desk_refusal a b) ≡ true → (delivers a ≡ true) × (delivers b ≡ true)
+passed_all : (a b : DeskAcceptance) → delivers (first_desk_refusal a b) ≡ true → (delivers a ≡ true) × (delivers b ≡ true)
 unfolding first_desk_refusal
 passed_all a b h = on (delivers a) refl h
   where
@@ -81,14 +82,47 @@ passed_all a b h = on (delivers a) refl h
     on true z h = (z, h)
     on false z h = contradiction (delivers a) h z
 
-sent_delivers : (n : DeskRefusal) (ts table output : List ℕ) → (sent n ts table output).refusal ≡ 0 → delivers n ≡ true
-unfolding sent delivers
-sent_delivers n ts table output z = eq-eqb (desk_number n) 0 z
+-- a refusal has a number: of those of the queue, that by which the queue refuses
+abbrev Told : DeskAcceptance → Type 0
+Told n = (ts table output : List ℕ) → (sent n ts table output).refusal ≡ 0 → delivers n ≡ true
 
-sent_all : (n : DeskRefusal) (ts table output : List ℕ) → delivers n ≡ true
+told_queue : (n : Refusal) → Told (by_queue n)
+unfolding sent delivers by_queue desk_number
+told_queue n = cases Told (accepted n) (λ e ts table output z. refl) (λ e ts table output z. absurd (true≢false (sym (accepted_zero n z) ∙ e)))
+
+told_licence : (p licensed : ℕ) → Told (licence_refusal p licensed)
+unfolding sent delivers licence_refusal desk_number
+told_licence p licensed = both Told (leb p licensed) (λ ts table output z. absurd (omega arith)) (λ ts table output z. refl)
+
+told_output : (ts : List ℕ) (output : ℕ) → Told (output_refusal ts output)
+unfolding sent delivers output_refusal desk_number
+told_output ts output = both Told (ltb output (term_size * length ts)) (λ ts table output z. absurd (omega arith)) (λ ts table output z. refl)
+
+told_first : (a b : DeskAcceptance) → Told a → Told b → Told (first_desk_refusal a b)
+unfolding first_desk_refusal
+told_first a b f g = both Told (delivers a) g f
+
+module _ (s : Shape) (room licensed : ℕ) where
+  told_record : (d : Served) (r : StepRecord) → Told d.refusal → Told (serve_record s room licensed d r).refusal
+  unfolding sent delivers serve_record served desk_number
+  told_record d r f =
+      let g : Played = play_record s room d.run r in
+      both (λ (x : Served). Told x.refusal) (not (delivers d.refusal)) f
+      (both (λ (x : Served). Told x.refusal) (accepted g.refusal && is_foreign licensed r) (λ ts table output z. absurd (omega arith)) (told_queue g.refusal))
+
+  told_list : (d : Served) (rs : List StepRecord) → Told d.refusal → Told (foldl (serve_record s room licensed) d rs).refusal
+  told_list d [] f = f
+  told_list d (r ∷ rs) f = told_list (serve_record s room licensed d r) rs (told_record d r f)
+
+told_served : (s : Shape) (licensed : ℕ) (rs : List StepRecord) → Told (serve s licensed rs).refusal
+unfolding serve served
+told_served s licensed rs = told_list s (answer_size * length rs) licensed (served (at_start s)) rs (told_queue (at_start s).refusal)
+
+sent_all : (n : DeskAcceptance) (ts table output : List ℕ) → delivers n ≡ true
     → sent n ts table output ≡ record { refusal = 0; count = length ts; table = table; output = term_bytes ts ++ drop (term_size * length ts) output }
 unfolding sent delivers
-sent_all n ts table output e = rw (e, eqb-true (desk_number n) 0 e)
+sent_all (Ok passed) ts table output e = refl
+sent_all (Err why) ts table output e = cc
 
 module _ (p l licensed : ℕ) (records table output : List ℕ) (none : (desk p l licensed records table output).refusal ≡ 0) where
   abbrev s : Shape
@@ -97,8 +131,12 @@ module _ (p l licensed : ℕ) (records table output : List ℕ) (none : (desk p 
   abbrev rs : List StepRecord
   rs = step_records records
 
-  abbrev n : DeskRefusal
+  abbrev n : DeskAcceptance
   n = desk_call_refusal p l licensed (length table) (length records)
+
+  call_told : Told n
+  unfolding desk_call_refusal
+  call_told = told_first _ _ (told_queue _) (told_first _ _ (told_licence p licensed) (told_queue _))
 
   call_delivers : delivers n ≡ true
   unfolding desk
@@ -106,7 +144,7 @@ module _ (p l licensed : ℕ) (records table output : List ℕ) (none : (desk p 
     where
       on : (b : Bool) → delivers n ≡ b → (if b then desk_served s (serve s licensed rs) table output else sent n [] table output).refusal ≡ 0 → delivers n ≡ true
       on true z h = z
-      on false z h = sent_delivers n [] table output h
+      on false z h = call_told [] table output h
 
   settings : accepted (settings_refusal p l) ≡ true
   unfolding desk_call_refusal
@@ -118,7 +156,7 @@ module _ (p l licensed : ℕ) (records table output : List ℕ) (none : (desk p 
 
   list_delivers : delivers (serve s licensed rs).refusal ≡ true
   unfolding desk_served
-  list_delivers = (passed_all (serve s licensed rs).refusal _ (sent_delivers _ _ _ _ (ap (λ (x : DeskResult). x.refusal) (sym desk_is) ∙ none))).0
+  list_delivers = (passed_all (serve s licensed rs).refusal _ (told_first _ _ (told_served s licensed rs) (told_output _ _) _ _ _ (ap (λ (x : DeskResult). x.refusal) (sym desk_is) ∙ none))).0
 
   abbrev g : Played
   g = play_all s rs
@@ -140,7 +178,7 @@ module _ (p l licensed : ℕ) (records table output : List ℕ) (none : (desk p 
   unfolding desk_served served
   all_sent =
       let is : desk p l licensed records table output ≡ desk_served s (served g) table output = desk_is ∙ ap (λ (d : Served). desk_served s d table output) list_is in
-      is ∙ sent_all _ ts (t ++ drop (words_needed s) table) output (sent_delivers _ ts (t ++ drop (words_needed s) table) output (ap (λ (x : DeskResult). x.refusal) (sym is) ∙ none))
+      is ∙ sent_all _ ts (t ++ drop (words_needed s) table) output (told_first _ _ (told_queue g.refusal) (told_output _ _) ts (t ++ drop (words_needed s) table) output (ap (λ (x : DeskResult). x.refusal) (sym is) ∙ none))
 
   -- ---- its terms are in order
   abbrev room : ℕ

@@ -1,5 +1,5 @@
 -- What a list leaves at the desk, by whether it has a foreign entry. For general H.
-use Rattle.std.specs.Prelude.{if◌then◌else◌}
+use Rattle.std.specs.Prelude.{if◌then◌else◌, Err}
 use Prim.Native.Nat.{ℕ, ◌*◌, ◌≤◌}
 use native.Mathlib.Omega.{arith}
 use mathlib.Core.Path.{◌≡◌, refl, ap, sym, ◌∙◌}
@@ -21,7 +21,7 @@ use Rattle.calls.proofs.Played.{begin_memory, play_append}
 use Rattle.calls.proofs.Rooms.{more_room}
 use Rattle.desk_rules.specs.declared.DeskRefusal.TheVariants.{ForeignEntry}
 use Rattle.desk_rules.specs.Entries.{is_entry, is_foreign}
-use Rattle.desk_rules.specs.DeskRefusals.{desk_number, delivers}
+use Rattle.desk_rules.specs.DeskRefusals.{delivers}
 use Rattle.desk_rules.specs.Desk.{Served, served, serve_record, serve}
 use Rattle.desk_rules.proofs.Serving.{served_delivers, serve_foreign, served_on, over}
 
@@ -65,15 +65,15 @@ module _ (s : Shape) (tall : 1 ≤ s.height) (licensed : ℕ) where
 
     -- what it leaves
     abbrev ended : Served
-    ended = if accepted g'.refusal then record { run = g; refusal = ForeignEntry } else served g'
+    ended = if accepted g'.refusal then record { run = g; refusal = Err ForeignEntry } else served g'
 
     ended_over : delivers ended.refusal ≡ false
-    unfolding delivers desk_number
+    unfolding delivers
     ended_over =
         cases (λ (d : Served). delivers d.refusal ≡ false) (accepted g'.refusal) (λ e. refl) (λ e. served_delivers g' ∙ e)
 
     pub serve_at : serve s licensed (us ++ (r ∷ vs))
-        ≡ (if accepted (play_all s (us ++ (r ∷ []))).refusal then record { run = play_all s us; refusal = ForeignEntry } else served (play_all s (us ++ (r ∷ []))))
+        ≡ (if accepted (play_all s (us ++ (r ∷ []))).refusal then record { run = play_all s us; refusal = Err ForeignEntry } else served (play_all s (us ++ (r ∷ []))))
     unfolding serve play
     serve_at =
         foldl-append (serve_record s room licensed) (served (at_start s)) us (r ∷ vs)
@@ -85,4 +85,4 @@ module _ (s : Shape) (tall : 1 ≤ s.height) (licensed : ℕ) where
         first = before
 
         next : Played → Served
-        next x = if accepted x.refusal then record { run = g; refusal = ForeignEntry } else served x
+        next x = if accepted x.refusal then record { run = g; refusal = Err ForeignEntry } else served x

@@ -1,35 +1,24 @@
 -- A list at the desk is a run of the queue up to the first foreign entry.
-use Rattle.std.specs.Prelude.{Ok, Err, if◌then◌else◌}
+use Rattle.std.specs.Prelude.{if◌then◌else◌, Err}
 use Prim.Native.Nat.{ℕ}
-use native.Mathlib.Omega.{arith}
-use borrow.Author.Tests.{ne_eqb}
 use mathlib.Core.Path.{◌≡◌, refl, ap, sym, ◌∙◌}
 use mathlib.Core.Bool.{Bool, true, false, and-true, and-false}
 use mathlib.Core.List.{List, [], ◌∷◌, foldl}
-use lib.Dec.{eqb}
 use Rattle.base.specs.Members.{All}
 use Rattle.base.proofs.Cases.{cases}
 use Rattle.record.specs.declared.StepRecord.{StepRecord}
 use Rattle.tree.specs.Shape.{Shape}
-use Rattle.calls.specs.Refusals.{Acceptance, paper_number, refusal_number, accepted}
+use Rattle.calls.specs.Refusals.{Acceptance, accepted}
 use Rattle.calls.specs.Run.{Played, play_record}
-use Rattle.calls.proofs.Acceptance.{paper_number_above, zero_accepted}
 use Rattle.calls.proofs.Played.{over_stays}
-use Rattle.desk_rules.specs.declared.DeskRefusal.{DeskRefusal}
 use Rattle.desk_rules.specs.declared.DeskRefusal.TheVariants.{ForeignEntry}
 use Rattle.desk_rules.specs.Entries.{is_foreign}
-use Rattle.desk_rules.specs.DeskRefusals.{desk_number, delivers, by_queue}
+use Rattle.desk_rules.specs.DeskRefusals.{DeskAcceptance, delivers, by_queue}
 use Rattle.desk_rules.specs.Desk.{Served, served, serve_record}
 
--- a refusal of the queue, or none, keeps its number
-pub queue_number : (n : Acceptance) → desk_number (by_queue n) ≡ refusal_number n
-unfolding desk_number by_queue
-queue_number n = cases (λ (d : DeskRefusal). desk_number d ≡ refusal_number n) (accepted n) (λ e. sym (zero_accepted n e)) (λ e. refl)
-
 pub queue_delivers : (n : Acceptance) → delivers (by_queue n) ≡ accepted n
-unfolding delivers desk_number by_queue accepted refusal_number
-queue_delivers (Ok x) = refl
-queue_delivers (Err n) = ne_eqb (paper_number n) 0 (λ z. omega (arith, z, paper_number_above n))
+unfolding delivers by_queue
+queue_delivers n = cases (λ (d : DeskAcceptance). delivers d ≡ accepted n) (accepted n) (λ e. sym e) (λ e. sym e)
 
 -- what the queue makes of its records delivers if they are not refused
 pub served_delivers : (g : Played) → delivers (served g).refusal ≡ accepted g.refusal
@@ -52,13 +41,13 @@ module _ (s : Shape) (room licensed : ℕ) where
   -- a foreign entry that the queue would take is refused, and one that it refuses is refused as it does
   pub serve_foreign : (g : Played) (r : StepRecord) → is_foreign licensed r ≡ true
       → serve_record s room licensed (served g) r
-      ≡ (if accepted (play_record s room g r).refusal then record { run = g; refusal = ForeignEntry } else served (play_record s room g r))
+      ≡ (if accepted (play_record s room g r).refusal then record { run = g; refusal = Err ForeignEntry } else served (play_record s room g r))
   unfolding serve_record served
   serve_foreign g r e = on (accepted g.refusal) refl
     where
       on : (b : Bool) → accepted g.refusal ≡ b
           → serve_record s room licensed (served g) r
-          ≡ (if accepted (play_record s room g r).refusal then record { run = g; refusal = ForeignEntry } else served (play_record s room g r))
+          ≡ (if accepted (play_record s room g r).refusal then record { run = g; refusal = Err ForeignEntry } else served (play_record s room g r))
       on true z = rw (served_delivers g, z, e, and-true (accepted (play_record s room g r).refusal))
       on false z = rw (served_delivers g, z, play_over g r z, z)
 

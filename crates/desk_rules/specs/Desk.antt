@@ -1,5 +1,5 @@
 -- The delivery desk: the terms received by finished takes, in root order of the takes.
-use Rattle.std.specs.Prelude.{ℕ, ◌*◌, not, ◌&&◌, length, drop, ltb, if◌then◌else◌}
+use Rattle.std.specs.Prelude.{ℕ, ◌*◌, not, ◌&&◌, length, drop, ltb, if◌then◌else◌, Ok, Err}
 use mathlib.Core.List.{List, [], ◌∷◌, ◌++◌, foldl, flat_map}
 use Rattle.record.specs.declared.StepRecord.{StepRecord}
 use Rattle.record.specs.declared.Reply.{Reply}
@@ -13,17 +13,16 @@ use Rattle.tree.specs.Order.{root_operations}
 use Rattle.calls.specs.Refusals.{accepted}
 use Rattle.calls.specs.Run.{Played, at_start, play_record}
 use Rattle.calls.specs.Linearizable.{response}
-use Rattle.desk_rules.specs.declared.DeskRefusal.{DeskRefusal}
-use Rattle.desk_rules.specs.declared.DeskRefusal.TheVariants.{None, ForeignEntry, OutputShort}
+use Rattle.desk_rules.specs.declared.DeskRefusal.TheVariants.{ForeignEntry, OutputShort}
 use Rattle.desk_rules.specs.Entries.{is_entry, term_of, is_foreign, term_size, term_bytes}
-use Rattle.desk_rules.specs.DeskRefusals.{desk_number, delivers, by_queue, first_desk_refusal, desk_call_refusal}
+use Rattle.desk_rules.specs.DeskRefusals.{desk_number, DeskAcceptance, delivers, by_queue, first_desk_refusal, desk_call_refusal}
 
 -- ---- the list
 
--- a list at the desk so far: the run of the records taken, and the refusal that ended it
+-- a list at the desk so far: the run of the records taken, and the refusal that ended it, if one did
 pub record Served : Type 0 where
   pub run : Played
-  pub refusal : DeskRefusal
+  pub refusal : DeskAcceptance
 
 -- what the queue makes of its records
 unfoldable pub served : Played → Served
@@ -35,7 +34,7 @@ unfoldable pub serve_record : Shape → ℕ → ℕ → Served → StepRecord �
 serve_record s room licensed d r =
     let g = play_record s room d.run r in
     if not (delivers d.refusal) then d
-    else (if accepted g.refusal && is_foreign licensed r then record { run = d.run; refusal = ForeignEntry }
+    else (if accepted g.refusal && is_foreign licensed r then record { run = d.run; refusal = Err ForeignEntry }
     else served g)
 
 -- with room for the answer of each record, as in listing the order: never 9
@@ -66,18 +65,14 @@ pub record DeskResult : Type 0 where
   pub output : List ℕ
 
 -- a refused list sends no terms; output bytes past the terms keep their content
-unfoldable pub sent : DeskRefusal → List ℕ → List ℕ → List ℕ → DeskResult
-sent n ts table output =
-    record {
-      refusal = desk_number n;
-      count = if delivers n then length ts else 0;
-      table = table;
-      output = if delivers n then term_bytes ts ++ drop (term_size * length ts) output else output;
-    }
+unfoldable pub sent : DeskAcceptance → List ℕ → List ℕ → List ℕ → DeskResult
+sent (Ok passed) ts table output =
+    record { refusal = 0; count = length ts; table = table; output = term_bytes ts ++ drop (term_size * length ts) output }
+sent (Err why) ts table output = record { refusal = desk_number why; count = 0; table = table; output = output }
 
 -- 10 if the terms exceed the output
-unfoldable pub output_refusal : List ℕ → ℕ → DeskRefusal
-output_refusal ts output = if ltb output (term_size * length ts) then OutputShort else None
+unfoldable pub output_refusal : List ℕ → ℕ → DeskAcceptance
+output_refusal ts output = if ltb output (term_size * length ts) then Err OutputShort else Ok tt
 
 -- the work table is as Run leaves it
 unfoldable pub desk_served : Shape → Served → List ℕ → List ℕ → DeskResult

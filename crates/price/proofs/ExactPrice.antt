@@ -8,7 +8,6 @@ use lib.ListN.{length}
 use lib.Dec.{leb}
 use borrow.Author.Tests.{leb-true, leb-false}
 use Rattle.std.specs.Prelude.{if◌then◌else◌}
-use Rattle.base.specs.Sums.{sum}
 use Rattle.base.proofs.Cases.{both, cases}
 use Rattle.base.proofs.Sums.{sum_same}
 use Rattle.price.specs.declared.Band.{Band}

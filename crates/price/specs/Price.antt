@@ -1,7 +1,9 @@
 -- What deliveries cost by a price sheet, and what is refused.
-use Rattle.std.specs.Prelude.{ℕ, suc, ◌/◌, ◌%◌, not, List, [], ◌∷◌, length, ltb, leb, eqb, if◌then◌else◌}
+use Rattle.std.specs.Prelude.{ℕ, suc, ◌/◌, ◌%◌, not, List, [], ◌∷◌, length, ltb, leb, eqb, if◌then◌else◌, Result, Ok, Err}
 use Rattle.base.specs.Sums.{sum}
 use Rattle.price.specs.declared.Band.{Band}
+use Rattle.price.specs.declared.PriceRefusal.{PriceRefusal}
+use Rattle.price.specs.declared.PriceRefusal.TheVariants.{Count, SheetTorn, Bands, PriceTooHigh}
 use Rattle.price.specs.Sheet.{band_size, bands, bands_allowed, prices_allowed}
 
 -- the price of delivery number n, in hundredths of a cent: that of the first band whose end is not below n, or of the
@@ -20,15 +22,24 @@ total_price bs count = sum (λ i. delivery_price bs (suc i)) count
 unfoldable pub most_deliveries : ℕ
 most_deliveries = 4000
 
--- the number of the first test that fails, 0 for none: 2 a count over 4,000; 4 not whole records; 15 no bands, more than
--- 8, or ends not strictly rising; 16 a price over 1,000,000
-unfoldable pub price_refusal : ℕ → List ℕ → ℕ
+-- the paper's number of a refusal
+unfoldable pub price_number : PriceRefusal → ℕ
+price_number Count = 2
+price_number SheetTorn = 4
+price_number Bands = 15
+price_number PriceTooHigh = 16
+
+-- the first test that fails, if one does: a count over 4,000; not whole records; no bands, more than 8, or ends not
+-- strictly rising; a price over 1,000,000
+unfoldable pub price_refusal : ℕ → List ℕ → Result (Unit {0}) PriceRefusal
 price_refusal count sheet =
     if ltb most_deliveries count
-    then 2
+    then Err Count
     else (if not (eqb (length sheet % band_size) 0)
-    then 4
-    else (if not (bands_allowed (bands sheet)) then 15 else (if not (prices_allowed (bands sheet)) then 16 else 0)))
+    then Err SheetTorn
+    else (if not (bands_allowed (bands sheet))
+    then Err Bands
+    else (if not (prices_allowed (bands sheet)) then Err PriceTooHigh else Ok tt)))
 
 -- what a call returns
 pub record PriceResult : Type 0 where
@@ -44,8 +55,11 @@ price_refused n = record { refusal = n; cents = 0; remainder = 0 }
 unfoldable pub price_is : ℕ → PriceResult
 price_is total = record { refusal = 0; cents = total / 100; remainder = total % 100 }
 
+-- by the tests of a call: a refusal, or the price
+unfoldable pub price_unless : Result (Unit {0}) PriceRefusal → ℕ → PriceResult
+price_unless (Ok passed) total = price_is total
+price_unless (Err why) total = price_refused (price_number why)
+
 -- the price of deliveries 1 to count by a sheet
 unfoldable pub price_deliveries : ℕ → List ℕ → PriceResult
-price_deliveries count sheet =
-    let refusal = price_refusal count sheet in
-    if eqb refusal 0 then price_is (total_price (bands sheet) count) else price_refused refusal
+price_deliveries count sheet = price_unless (price_refusal count sheet) (total_price (bands sheet) count)

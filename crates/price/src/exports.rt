@@ -14,10 +14,9 @@ pub fn price_deliveries(count: u32, sheet: &[u8]) -> PriceTotal
     ensures rules { price_returned result ≡ price_deliveries count sheet.now }
     ensures exact { result.refusal ≡ 0 → Exact (bands sheet.now) count result.cents result.remainder }
 {
-    let refusal = price_refusal(count, sheet);
-    if refusal != 0 {
+    if let Err(why) = price_refusal(count, sheet) {
         return PriceTotal {
-            refusal: refusal,
+            refusal: why.into(),
             cents: 0,
             remainder: 0,
         };

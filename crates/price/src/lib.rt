@@ -14,6 +14,15 @@ pub struct Band {
     pub price: u32,
 }
 
+// Why a call is refused.
+#[derive(Clone, Copy, Debug, PartialEq, Eq)]
+pub enum PriceRefusal {
+    Count,
+    SheetTorn,
+    Bands,
+    PriceTooHigh,
+}
+
 // What a call returns: a refusal's number, or 0 and a price in whole cents and hundredths of a cent.
 #[repr(C)]
 #[derive(Clone, Copy)]

@@ -1,25 +1,42 @@
 // The tests of a call, in their order.
 ghost use Rattle.std.specs.Prelude.{◌≡◌};
-ghost use Rattle.price.specs.Price.{price_refusal};
+ghost use Rattle.price.specs.Price.{price_number, price_refusal};
 
+use crate::PriceRefusal;
 use crate::sheet::{bands_allowed, prices_allowed};
 
-// The number of the first test that fails, 0 for none.
-#[tactic(auto, unfolding(crate::specs::Price::price_refusal, crate::specs::Price::most_deliveries, crate::specs::Sheet::band_size))]
-pub fn price_refusal(count: u32, sheet: &[u8]) -> u32
+// The paper's number of a refusal.
+impl From<PriceRefusal> for u32 {
+    ghost from_gives = { λ why n. n ≡ price_number why };
+
+    #[tactic(auto, unfolding(crate::specs::Price::price_number))]
+    fn from(why: PriceRefusal) -> u32 {
+        match why {
+            PriceRefusal::Count => 2,
+            PriceRefusal::SheetTorn => 4,
+            PriceRefusal::Bands => 15,
+            PriceRefusal::PriceTooHigh => 16,
+        }
+    }
+}
+
+// The first test that fails, if one does.
+#[tactic(auto, using(crate::proofs::Bands::chunks_bands), unfolding(crate::specs::Price::price_refusal, crate::specs::Price::most_deliveries, crate::specs::Sheet::band_size))]
+pub fn price_refusal(count: u32, sheet: &[u8]) -> Result<(), PriceRefusal>
     ensures { result ≡ price_refusal count sheet.now }
 {
     if 4000 < count {
-        return 2;
+        return Err(PriceRefusal::Count);
     }
-    if sheet.len() % 8 != 0 {
-        return 4;
+    let (bands, rest) = sheet.as_chunks();
+    if !rest.is_empty() {
+        return Err(PriceRefusal::SheetTorn);
     }
-    if !bands_allowed(sheet) {
-        return 15;
+    if !bands_allowed(bands) {
+        return Err(PriceRefusal::Bands);
     }
-    if !prices_allowed(sheet) {
-        return 16;
+    if !prices_allowed(bands) {
+        return Err(PriceRefusal::PriceTooHigh);
     }
-    0
+    Ok(())
 }

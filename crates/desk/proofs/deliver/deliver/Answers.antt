@@ -1,28 +1,29 @@
 -- `deliver::deliver` meets its contract.
-use Prim.Native.Nat.{ℕ, ◌+◌, ◌*◌, ◌/◌, ◌%◌, ◌≤◌, ◌<◌}
+use Prim.Native.Nat.{◌/◌, ◌%◌}
 use native.Mathlib.Omega.{arith}
 use mathlib.Core.Path.{◌≡◌, refl, sym}
 use mathlib.Core.Logic.{◌⊎◌, ◌≢◌, inl, inr}
-use mathlib.Core.List.{List}
 use lib.ListN.{length}
 use lib.Seq.{length-take-le}
 use borrow.Author.Rules.{rules}
-use borrow.Author.Tests.{eq-eqb, ne_eqb}
-use Rattle.desk.specs.Clauses.Deliverable.{Allowed}
+use borrow.Author.Tests.{eq-eqb}
+use Rattle.std.specs.Prelude.{Err}
+use Rattle.desk_rules.specs.declared.DeskRefusal.TheVariants.{Queue}
 use Rattle.desk.proofs.Tests.{all_allowed, settings_down, licence_down}
-use Rattle.desk.proofs.Foreign.{none_foreign, some_foreign, cut_within, ends_foreign, rejoined}
+use Rattle.desk.proofs.Foreign.{none_foreign, cut_within, ends_foreign, rejoined}
 use Rattle.desk.proofs.deliver.deliver.Goals.{then-records-ne0-via-then-records-ne0, then-records-ne0-via-else-records-ne0+then-before-records}
 use Rattle.desk.proofs.deliver.deliver.Goals as goal
 
-pub returns-then-settings-ne0 : goal.returns-then-settings-ne0
-returns-then-settings-ne0 c =
+pub returns-in_err-accepted : goal.returns-in_err-accepted
+returns-in_err-accepted c =
     let told = c.otq_forecast-settings in
-    settings_down _ _ told.result _ refl told.ensures.rules _ _ _ _ _ c.if-settings-ne0.true c.refused.ensures
+    let is : c.from_residual.result ≡ Err (Queue told.result.refusal) = search rules in
+    rw is (settings_down _ _ told.result _ refl told.ensures.rules _ _ _ _ c.in_err-accepted.ensures.0)
 
 pub returns-then-p-licensed : goal.returns-then-p-licensed
 returns-then-p-licensed c =
     let told = c.otq_forecast-settings in
-    licence_down _ _ told.result _ refl told.ensures.rules _ _ _ _ _ c.if-settings-ne0.false c.if-p-licensed.true c.refused-then-p-licensed.ensures
+    licence_down _ _ told.result _ refl told.ensures.rules _ _ _ _ c.in_ok-accepted.ensures c.if-p-licensed.true
 
 pub deliver_plain-requires : goal.deliver_plain-requires
 deliver_plain-requires c =
@@ -34,40 +35,26 @@ deliver_plain-requires c =
       | then-records-ne0-via-else-records-ne0+then-before-records w ↦ inr w.if-before-records.true
     ] in
     let told = c.otq_forecast-settings in (
-      all_allowed _ _ told.result _ refl told.ensures.rules _ c.if-settings-ne0.false (omega arith),
+      all_allowed _ _ told.result _ refl told.ensures.rules _ c.in_ok-accepted.ensures (omega arith),
       none_foreign _ _ n c.before_foreign-before.ensures either (λ torn. torn) (λ all. eq-eqb _ _ all),
     )
 
 -- the list has a foreign entry, and is cut behind the first
 pub overflow_mul-before : goal.overflow_mul-before
-overflow_mul-before c =
-    let n = c.before_foreign-before in
-    let some = some_foreign c.args.licensed c.args.records.now n.result n.ensures (ne_eqb _ _ c.if-before-records.false) in
-    omega (arith, cut_within c.args.licensed c.args.records.now n.result n.ensures (omega arith) some)
+overflow_mul-before c = omega (arith, cut_within _ _ _ c.before_foreign-before.ensures (omega arith) c.if-before-records.false)
 
 pub overflow_add-before : goal.overflow_add-before
-overflow_add-before c =
-    let n = c.before_foreign-before in
-    let some = some_foreign c.args.licensed c.args.records.now n.result n.ensures (ne_eqb _ _ c.if-before-records.false) in
-    omega (arith, cut_within c.args.licensed c.args.records.now n.result n.ensures (omega arith) some)
+overflow_add-before c = omega (arith, cut_within _ _ _ c.before_foreign-before.ensures (omega arith) c.if-before-records.false)
 
 pub slice_bounds-refuse_foreign-end : goal.slice_bounds-refuse_foreign-end
-slice_bounds-refuse_foreign-end c =
-    let n = c.before_foreign-before in
-    let some = some_foreign c.args.licensed c.args.records.now n.result n.ensures (ne_eqb _ _ c.if-before-records.false) in
-    sym (length-take-le _ _ (cut_within c.args.licensed c.args.records.now n.result n.ensures (omega arith) some))
+slice_bounds-refuse_foreign-end c = sym (length-take-le _ _ (cut_within _ _ _ c.before_foreign-before.ensures (omega arith) c.if-before-records.false))
 
 pub refuse_foreign-requires : goal.refuse_foreign-requires
 refuse_foreign-requires c =
-    let n = c.before_foreign-before in
-    let some = some_foreign c.args.licensed c.args.records.now n.result n.ensures (ne_eqb _ _ c.if-before-records.false) in
     let told = c.otq_forecast-settings in (
-      all_allowed _ _ told.result _ refl told.ensures.rules _ c.if-settings-ne0.false (omega arith),
-      ends_foreign c.args.licensed c.args.records.now n.result n.ensures (omega arith) some,
+      all_allowed _ _ told.result _ refl told.ensures.rules _ c.in_ok-accepted.ensures (omega arith),
+      ends_foreign _ _ _ c.before_foreign-before.ensures (omega arith) c.if-before-records.false,
     )
 
 pub returns : goal.returns
-returns c =
-    let n = c.before_foreign-before in
-    let some = some_foreign c.args.licensed c.args.records.now n.result n.ensures (ne_eqb _ _ c.if-before-records.false) in
-    rejoined c.args.licensed c.args.records.now n.result n.ensures (omega arith) some _ _ _ _ _ (λ more. c.refuse_foreign.ensures more _)
+returns c = rejoined _ _ _ c.before_foreign-before.ensures (omega arith) c.if-before-records.false _ _ _ _ _ (λ more. c.refuse_foreign.ensures more _)

@@ -1,11 +1,15 @@
 -- `exports::desk_deliver` meets its contract.
 use native.Mathlib.Omega.{arith}
-use borrow.Author.Rules.{rules}
-use Rattle.desk.proofs.Exporting.{exported, in_order_lem}
+use mathlib.Core.Path.{◌∙◌}
+use Rattle.desk.proofs.Exporting.{exported_count, exported_refusal, in_order_lem}
 use Rattle.desk.proofs.exports.desk_deliver.Goals as goal
 
-pub returns : goal.returns
-returns c =
-    let made = c.deliver-r in
-    let rules = exported made.result _ _ _ _ c.number.ensures made.ensures in
+pub returns-in-Ok : goal.returns-in-Ok
+returns-in-Ok c =
+    let rules = exported_count _ _ _ ∙ c.in-Ok.ensures in
+    record { rules = rules; order = in_order_lem _ _ _ _ _ _ _ _ _ rules (λ i. omega (arith, c.type_inv.table i)) }
+
+pub returns-in-Err : goal.returns-in-Err
+returns-in-Err c =
+    let rules = exported_refusal _ _ _ _ c.into.ensures ∙ c.in-Err.ensures in
     record { rules = rules; order = in_order_lem _ _ _ _ _ _ _ _ _ rules (λ i. omega (arith, c.type_inv.table i)) }

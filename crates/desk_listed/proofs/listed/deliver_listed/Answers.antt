@@ -1,16 +1,11 @@
 -- `listed::deliver_listed` meets its contract.
 use Prim.Native.Nat.{ℕ}
 use native.Mathlib.Omega.{arith}
-use mathlib.Core.Path.{refl, sym}
 use lib.ListN.{length-replicate}
 use lib.Seq.{length-take-le}
 use Rattle.desk_rules.specs.Entries.{term_size}
 use Rattle.desk_listed.proofs.ListedTerms.{listed_few, listed_room, listed_slots, received_length, listed_short, listed_sent}
 use Rattle.desk_listed.proofs.listed.deliver_listed.Goals as goal
-
-pub receive_all-requires : goal.receive_all-requires
-receive_all-requires c =
-    record { call = c.requires.call; zeros = refl }
 
 pub collect-count-requires : goal.collect-count-requires
 collect-count-requires c =
@@ -18,14 +13,7 @@ collect-count-requires c =
 
 pub returns-then-output-count : goal.returns-then-output-count
 returns-then-output-count c =
-    listed_short c.requires c.receive_all.ensures c.collect-count.result _ c.collect-count.ensures.0 c.collect-count.ensures.1 _ c.refused.ensures _
-    c.if-output-count.true
-
-pub slice_bounds-terms-end : goal.slice_bounds-terms-end
-slice_bounds-terms-end c = c.collect-count.ensures.0
-
-pub slice_bounds-send-end : goal.slice_bounds-send-end
-slice_bounds-send-end c = sym (length-take-le _ _ c.collect-count.ensures.0)
+    listed_short c.requires c.receive_all.ensures c.collect-count.result _ c.collect-count.ensures.0 c.collect-count.ensures.1 _ c.if-output-count.true
 
 pub send-requires : goal.send-requires
 unfolding term_size

@@ -3,7 +3,6 @@ use Prim.Native.Nat.{ℕ}
 use native.Mathlib.Omega.{arith}
 use mathlib.Core.Path.{ap, ◌∙◌}
 use lib.ListN.{length, replicate, length-replicate}
-use borrow.Author.Rules.{rules}
 use Rattle.steps.proofs.Limits.{allowed_most}
 use Rattle.calls.proofs.CallAccepted.{accepted_operations}
 use Rattle.desk_listed.proofs.RunAnswers.{Ran, ran_room, ran_slots, ran_received}
