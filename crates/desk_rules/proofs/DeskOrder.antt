@@ -26,9 +26,8 @@ use Rattle.tree.specs.Layout.{words_needed}
 use Rattle.tree.specs.Order.{OpId, root_operations}
 use Rattle.tree.specs.Standing.{same}
 use Rattle.steps.proofs.Limits.{allowed_most, short_for}
-use Rattle.calls.specs.Refusals.{accepted, settings_refusal}
+use Rattle.calls.specs.Refusals.{Acceptance, accepted, settings_refusal}
 use Rattle.calls.specs.Numbered.{numbered}
-use Rattle.calls.specs.declared.Refusal.{Refusal}
 use Rattle.calls.specs.Run.{Played, at_start, play_record, play}
 use Rattle.calls.proofs.Acceptance.{accepted_zero}
 use Rattle.calls.specs.ListOrder.{play_all}
@@ -86,7 +85,7 @@ passed_all a b h = on (delivers a) refl h
 abbrev Told : DeskAcceptance → Type 0
 Told n = (ts table output : List ℕ) → (sent n ts table output).refusal ≡ 0 → delivers n ≡ true
 
-told_queue : (n : Refusal) → Told (by_queue n)
+told_queue : (n : Acceptance) → Told (by_queue n)
 unfolding sent delivers by_queue desk_number
 told_queue n = cases Told (accepted n) (λ e ts table output z. refl) (λ e ts table output z. absurd (true≢false (sym (accepted_zero n z) ∙ e)))
 
