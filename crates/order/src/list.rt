@@ -116,7 +116,8 @@ fn list_range(
 ) -> usize
     requires { Room (RangeOf layout.now table.now top from to)
         (flat_map (block_records layout.now table.now list top) (between from to)) at (length out.old) }
-    ensures { Stored out.old at (flat_map (block_records layout.now table.now list top) (between from to)) out.new result }
+    ensures { Stored out.old at
+        (flat_map (block_records layout.now table.now list top) (between from to)) out.new result }
 {
     let mut end = at;
     for b in from..to {
