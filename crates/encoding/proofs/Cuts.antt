@@ -8,6 +8,7 @@ use lib.ListN.{length, get_or, take, drop, length-map, length-drop, get_or-map}
 use lib.Seq.{drop-drop, take-append-le, drop-append-le}
 use Rattle.base.specs.Members.{All}
 use Rattle.base.proofs.Members.{all_at_lem}
+use Rattle.std.specs.Simd.{first_chunks}
 use Rattle.encoding.specs.Bytes.{cut}
 
 pub cut_length_lem : (size n : ℕ) (bs : List ℕ) → length (cut size n bs) ≡ n
@@ -44,3 +45,16 @@ module _ {A : Type 0} (read : List ℕ → A) (size n : ℕ) (bs : List ℕ) whe
 
   pub read_member : (P : A → Type 0) → All P (map read (cut size n bs)) → (i : ℕ) → i < n → (x : A) → x ≡ read (take size (drop (size * i) bs)) → P x
   read_member P p i h x is = subst P (read_at i h ∙ sym is) (all_at_lem P (map read (cut size n bs)) i (read []) p (omega (arith, read_length)))
+
+-- the arrays that Rust cuts a slice into
+pub chunks_cut : (size n : ℕ) (bs : List ℕ) → first_chunks size n bs ≡ cut size n bs
+unfolding cut
+chunks_cut size zero bs = refl
+chunks_cut size (suc n) bs = ap (λ (l : List (List ℕ)). take size bs ∷ l) (chunks_cut size n (drop size bs))
+
+-- the first records of more
+pub cut_take : (size n m : ℕ) (bs : List ℕ) → n ≤ m → take n (cut size m bs) ≡ cut size n bs
+unfolding cut
+cut_take size zero m bs h = refl
+cut_take size (suc n) zero bs h = absurd (omega arith)
+cut_take size (suc n) (suc m) bs h = ap (λ (l : List (List ℕ)). take size bs ∷ l) (cut_take size n m (drop size bs) (omega arith))

@@ -19,11 +19,6 @@ use Rattle.order.specs.Clauses.Opens.{leaf_at, adds_to, BlockOf}
 use Rattle.order.specs.Clauses.Listed.{Room, Lists, block_records}
 use Rattle.order.proofs.Subblocks.{subtree_low, subtree_reads}
 
--- a kind fits in a byte
-pub kind_small : (κ : Kind) → kind_number κ < 256
-unfolding kind_number
-kind_small Puts = omega arith
-kind_small Takes = omega arith
 
 -- the record of the operation at place b of a leaf
 abbrev pub leaf_record : Listing → ℕ → ℕ → OrderRecord
