@@ -29,7 +29,7 @@ use Rattle.search.specs.declared.Standing.{Standing}
 use Rattle.search.specs.Clauses.Stands.{Stands, RootBlockIs, OfKind, StandsAt, StandsOf}
 use Rattle.answer.specs.Clauses.Playing.{machine_of, Plays}
 use Rattle.answer.specs.Clauses.Answering.{record_of, TakeAt}
-use Rattle.answer.proofs.PlaysLaws.{steps_small, helps_small, plays_tree}
+use Rattle.answer.proofs.PlaysLaws.{steps_small, helps_small, begun_small, plays_tree}
 
 -- the height of the tree for so many processes
 height_by : (H : ℕ) → 1 ≤ H → H ≤ 3 → height_for (2 ^ H) ≡ H
@@ -47,9 +47,10 @@ module _ {s : Shape} {ps : List Process} {starts heads table : List ℕ} {k : �
   pub leaf_small : p + k < 16
   leaf_small = omega (arith, plays.low, processes_most s plays.tall)
 
-  pub answer_small : {r : Reply} {b : ℕ} {x : AnswerRecord} → x ≡ record_of k q r b → (x.process < 256) × (x.steps < 256) × (x.helps < 256)
-  answer_small e =
-      rw e (omega (arith, leaf_small), omega (arith, steps_small s ps starts heads table k q plays), omega (arith, helps_small s ps starts heads table k q plays))
+  -- what its answer tells fits its bytes, and its serial
+  pub answer_fits : (k < 256) × (q.steps < 255) × (q.helps < 256) × (q.begun < 65536)
+  answer_fits =
+      (omega (arith, leaf_small), steps_small s ps starts heads table k q plays, omega (arith, helps_small s ps starts heads table k q plays), omega (arith, begun_small s ps starts heads table k q plays))
 
   height_is : height_for p ≡ s.height
   unfolding processes

@@ -1,6 +1,9 @@
--- `begins::begins_refusal` meets its contract. The loop's invariant: the records before the i-th are read. The measure
--- is what is left of them.
+-- `begins::begins_refusal` meets its contract. The loop's invariant: the records before the next are read.
 use native.Mathlib.Omega.{arith}
+use Prim.Native.Nat.{◌/◌, ◌<◌}
+use lib.ListN.{length}
+use Rattle.encoding.proofs.Cuts.{chunk_read}
+use Rattle.record.specs.StepRecords.{step_record}
 use mathlib.Core.Bool.{true}
 use mathlib.Core.Path.{◌≡◌, sym, ◌∙◌}
 use Rattle.tree.specs.Shape.{shape_for}
@@ -9,55 +12,53 @@ use Rattle.calls.specs.Refusals.{accepted}
 use Rattle.calls.proofs.CallAccepted.{settings_operations}
 use Rattle.forecast.proofs.Settings.{formed_slot}
 use Rattle.forecast.proofs.ReadSoFar.{Tested, read_none, read_all, read_refused, read_slot, read_fewer, read_more}
-use Rattle.forecast.proofs.begins.begins_refusal.Goals.{After-as_index-k, After-planned_refusal-refusal}
+use Rattle.forecast.proofs.begins.begins_refusal.Goals.{After-planned_refusal-refusal, Else-not-accepted}
 use Rattle.forecast.proofs.begins.begins_refusal.Goals as goal
 
 -- a record that was tested
 abbrev IsTested : After-planned_refusal-refusal → Type 0
 IsTested c = let start = c.args in
-    let at-loop = c.loop-i in
-    Tested (shape_for start.p start.l) start.begins.now at-loop.begun at-loop.i c.step_record-x.result c.planned_refusal-refusal.result
+    let at-loop = c.loop-bytes in
+    Tested (shape_for start.p start.l) start.begins.now at-loop.begun at-loop.bytes-index c.from-x.result c.planned_refusal-refusal.result
+
+-- the record's place is one of them
+more_at : (c : After-planned_refusal-refusal) → c.loop-bytes.bytes-index < length c.args.begins.now / 8
+more_at c = omega (arith, c.loop-bytes-test.true, c.as_chunks.ensures.front_len)
 
 tested_at : (c : After-planned_refusal-refusal) → IsTested c
 tested_at c = record {
-  so_far = c.loop-i.invariant;
-  more = c.loop-i-test.true;
-  is = c.step_record-x.ensures;
-  slot = formed_slot c.args.p c.args.l c.requires c.step_record-x.result;
+  so_far = c.loop-bytes.invariant;
+  more = more_at c;
+  is = chunk_read step_record 8 _ _ c.args.begins.now _ _ _ c.as_chunks.ensures.front (more_at c) c.from-x.ensures;
+  slot = formed_slot c.args.p c.args.l c.requires c.from-x.result;
   told = c.planned_refusal-refusal.ensures;
 }
 
-pub loop-i-init : goal.loop-i-init
-loop-i-init c = read_none _ _
-
-pub planned_refusal-refusal-requires : goal.planned_refusal-refusal-requires
-planned_refusal-refusal-requires c = (c.requires, c.loop-i.invariant.sized)
+pub loop-bytes-init : goal.loop-bytes-init
+loop-bytes-init c = read_none _ _
 
 pub returns-then-not-accepted : goal.returns-then-not-accepted
 returns-then-not-accepted c = read_refused (tested_at (goal.at.returns-then-not-accepted c).After-planned_refusal-refusal) (sym c.accepted.ensures ∙ c.if-not-accepted.true)
 
 -- one that is not refused
-taken_at : (c : After-as_index-k) → accepted c.planned_refusal-refusal.result ≡ true
+taken_at : (c : Else-not-accepted) → accepted c.planned_refusal-refusal.result ≡ true
 taken_at c = sym c.accepted.ensures ∙ c.if-not-accepted.false
 
 pub bounds-begun-k : goal.bounds-begun-k
 bounds-begun-k c =
-    let r = read_slot (tested_at (goal.at.bounds-begun-k c).After-planned_refusal-refusal) (taken_at (goal.at.bounds-begun-k c).After-as_index-k) in
-    omega (arith, c.as_index-k.ensures, r)
+    read_slot (tested_at (goal.at.bounds-begun-k c).After-planned_refusal-refusal) (taken_at (goal.at.bounds-begun-k c).Else-not-accepted)
 
 pub overflow_add-begun : goal.overflow_add-begun
 unfolding shape_for
 overflow_add-begun c =
-    rw c.as_index-k.ensures
-    (omega (arith, read_fewer (tested_at (goal.at.overflow_add-begun c).After-planned_refusal-refusal) (taken_at (goal.at.overflow_add-begun c).After-as_index-k), (allowed_most c.args.l (settings_operations c.args.p c.args.l c.requires)).1))
+    omega (arith, read_fewer (tested_at (goal.at.overflow_add-begun c).After-planned_refusal-refusal) (taken_at (goal.at.overflow_add-begun c).Else-not-accepted), (allowed_most c.args.l (settings_operations c.args.p c.args.l c.requires)).1)
 
-pub bounds-begun-k-in-loop-i : goal.bounds-begun-k-in-loop-i
-bounds-begun-k-in-loop-i c =
-    let r = read_slot (tested_at (goal.at.bounds-begun-k-in-loop-i c).After-planned_refusal-refusal) (taken_at (goal.at.bounds-begun-k-in-loop-i c).After-as_index-k) in
-    omega (arith, c.as_index-k.ensures, r)
+pub bounds-begun-k-in-loop-bytes : goal.bounds-begun-k-in-loop-bytes
+bounds-begun-k-in-loop-bytes c =
+    read_slot (tested_at (goal.at.bounds-begun-k-in-loop-bytes c).After-planned_refusal-refusal) (taken_at (goal.at.bounds-begun-k-in-loop-bytes c).Else-not-accepted)
 
-pub loop-i-preserved : goal.loop-i-preserved
-loop-i-preserved c = rw c.as_index-k.ensures (read_more (tested_at (goal.at.loop-i-preserved c).After-planned_refusal-refusal) (taken_at (goal.at.loop-i-preserved c).After-as_index-k))
+pub loop-bytes-preserved : goal.loop-bytes-preserved
+loop-bytes-preserved c = read_more (tested_at (goal.at.loop-bytes-preserved c).After-planned_refusal-refusal) (taken_at (goal.at.loop-bytes-preserved c).Else-not-accepted)
 
 pub returns : goal.returns
-returns c = read_all _ _ _ _ c.loop-i.invariant c.loop-i-test.false
+returns c = read_all _ _ _ _ c.loop-bytes.invariant (omega (arith, c.loop-bytes-test.false, c.as_chunks.ensures.front_len))
