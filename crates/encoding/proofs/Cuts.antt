@@ -43,9 +43,6 @@ module _ {A : Type 0} (read : List ℕ → A) (size n : ℕ) (bs : List ℕ) whe
   pub read_at : (i : ℕ) → i < n → get_or (map read (cut size n bs)) i (read []) ≡ read (take size (drop (size * i) bs))
   read_at i h = get_or-map read (cut size n bs) i [] ∙ ap read (cut_at size n i bs [] h)
 
-  pub read_member : (P : A → Type 0) → All P (map read (cut size n bs)) → (i : ℕ) → i < n → (x : A) → x ≡ read (take size (drop (size * i) bs)) → P x
-  read_member P p i h x is = subst P (read_at i h ∙ sym is) (all_at_lem P (map read (cut size n bs)) i (read []) p (omega (arith, read_length)))
-
 -- the arrays that Rust cuts a slice into
 pub chunks_cut : (size n : ℕ) (bs : List ℕ) → first_chunks size n bs ≡ cut size n bs
 unfolding cut
@@ -64,3 +61,9 @@ pub chunk_read : {A : Type 0} (read : List ℕ → A) (size n i : ℕ) (bs : Lis
     → chunks ≡ first_chunks size n bs → i < n → x ≡ read (get_or chunks i d) → x ≡ read (take size (drop (size * i) bs))
 chunk_read read size n i bs x chunks d cut_so h is =
     is ∙ ap (λ (l : List (List ℕ)). read (get_or l i d)) (cut_so ∙ chunks_cut size n bs) ∙ ap read (cut_at size n i bs d h)
+
+-- what holds of all of them, as read, holds of one
+pub read_member : {A : Type 0} (read : List ℕ → A) (chunks : List (List ℕ)) (P : A → Type 0) → All P (map read chunks)
+    → (i : ℕ) → i < length chunks → (d : List ℕ) (x : A) → x ≡ read (get_or chunks i d) → P x
+read_member read chunks P p i h d x is =
+    subst P (get_or-map read chunks i d ∙ sym is) (all_at_lem P (map read chunks) i (read d) p (omega (arith, length-map chunks read)))

@@ -47,11 +47,9 @@ pub fn put_line(a: AnswerRecord, out: &mut [u8], at: usize) -> usize
     requires { at + length (answer_line a) ≤ length out.old }
     ensures { Stored out.old at (answer_line a) out.new result }
 {
-    // A field that is an enum is copied before it is passed on.
-    let reply = a.reply;
-    let after_name = put_operation(reply, out, at);
+    let after_name = put_operation(a.reply, out, at);
     let after_numbers = put_numbers(a, out, after_name);
-    let after_reply = put_reply(reply, out, after_numbers);
+    let after_reply = put_reply(a.reply, out, after_numbers);
     put_text(b"\n", out, after_reply)
 }
 

@@ -1,21 +1,22 @@
 // The whole text.
-ghost use Rattle.std.specs.Prelude.{◌+◌, ◌*◌, ◌≤◌, length};
+ghost use Rattle.std.specs.Prelude.{◌+◌, ◌*◌, ◌≤◌, length, flat_map};
 ghost use Rattle.base.specs.Clauses.Stored.{Stored};
-ghost use Rattle.print.specs.Printed.{answer_lines, printed};
+ghost use Rattle.record.specs.ReadAnswers.{answer_record};
+ghost use Rattle.print.specs.Lines.{answer_line};
+ghost use Rattle.print.specs.Printed.{printed};
 
 use crate::line::{put_last, put_line};
-use answer_codec::answer_record;
+use record::AnswerRecord;
 
 // One line an answer. A line has at most 50 bytes.
-fn put_lines(answers: &[u8], n: usize, out: &mut [u8]) -> usize
-    requires { (16 * n ≤ length answers.now) × (50 * n ≤ length out.old) }
-    ensures { Stored out.old 0 (answer_lines answers.now n) out.new result }
+fn put_lines(answers: &[[u8; 16]], out: &mut [u8]) -> usize
+    requires { 50 * length answers.now ≤ length out.old }
+    ensures stored { Stored out.old 0 (flat_map (λ bytes. answer_line (answer_record bytes)) answers.now) out.new result }
+    ensures upper_bound { result ≤ 50 * length answers.now }
 {
     let mut next = 0;
-    let mut i = 0;
-    while i < n {
-        next = put_line(answer_record(answers, 16 * i), out, next);
-        i += 1;
+    for bytes in answers {
+        next = put_line(AnswerRecord::from(*bytes), out, next);
     }
     next
 }
@@ -26,6 +27,7 @@ pub fn put_printed(answers: &[u8], n: usize, refusal: u32, taken: usize, out: &m
     ensures stored { Stored out.old 0 (printed answers.now n refusal taken) out.new result }
     ensures upper_bound { result ≤ 50 * n + 36 }
 {
-    let end = put_lines(answers, n, out);
+    let (records, _) = answers.as_chunks::<16>();
+    let end = put_lines(&records[..n], out);
     put_last(refusal, taken, out, end)
 }
