@@ -12,9 +12,6 @@ use Rattle.base.proofs.Stores.{runs, part_stored}
 pub stored_none : (l : List ℕ) (at : ℕ) → Stored l at [] l at
 stored_none l at = record { end = omega arith; bytes = refl }
 
-pub stored_all : (l : List ℕ) (at n : ℕ) (xs : List ℕ) → length xs ≡ n → Stored l at xs (sets l at xs) (at + n)
-stored_all l at n xs e = record { end = omega arith; bytes = refl }
-
 -- a part overwritten with some bytes
 pub stored_part : (l ys : List ℕ) (at n : ℕ) (xs : List ℕ) → at + n ≤ length l → length xs ≡ n → ys ≡ xs
     → Stored l at xs (put_mid at (at + n - at) l ys) (at + n)

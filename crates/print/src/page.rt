@@ -1,5 +1,6 @@
 // The whole text.
-ghost use Rattle.std.specs.Prelude.{◌+◌, ◌*◌, ◌≤◌, length, flat_map};
+ghost use Rattle.std.specs.Prelude.{◌+◌, ◌*◌, ◌≤◌, length};
+ghost use mathlib.Core.List.{flat_map};
 ghost use Rattle.base.specs.Clauses.Stored.{Stored};
 ghost use Rattle.record.specs.ReadAnswers.{answer_record};
 ghost use Rattle.print.specs.Lines.{answer_line};

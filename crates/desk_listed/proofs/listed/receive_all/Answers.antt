@@ -1,9 +1,9 @@
 -- `listed::receive_all` meets its contract.
 use Prim.Native.Nat.{ℕ}
 use native.Mathlib.Omega.{arith}
-use mathlib.Core.Path.{ap, ◌∙◌}
+use mathlib.Core.Path.{ap, sym, ◌∙◌}
 use lib.ListN.{length, replicate, length-replicate}
-use borrow.Author.Rules.{rules}
+use lib.Seq.{length-take-le}
 use Rattle.steps.proofs.Limits.{allowed_most}
 use Rattle.calls.proofs.CallAccepted.{accepted_operations}
 use Rattle.desk_listed.proofs.RunAnswers.{Ran, ran_room, ran_slots, ran_received}
@@ -19,7 +19,9 @@ ran_at : (c : After-otq_run-ran) → IsRan c
 ran_at c = record { call = c.requires.call; room = length-replicate {A = ℕ} 64000 0; left = c.otq_run-ran.ensures.rules }
 
 pub slice_bounds-receive-end : goal.slice_bounds-receive-end
-slice_bounds-receive-end c = ?
+slice_bounds-receive-end c =
+    let ran = ran_at (goal.at.slice_bounds-receive-end c).After-otq_run-ran in
+    sym (length-take-le _ _ (omega (arith, ran_room ran, c.as_chunks.ensures.front_len)))
 
 pub receive-requires : goal.receive-requires
 receive-requires c =
