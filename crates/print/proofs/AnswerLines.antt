@@ -1,42 +1,65 @@
--- The lines of the first of some answers in their bytes: none, one more, and all.
-use Prim.Native.Nat.{ℕ, ◌+◌, ◌/◌, ◌≤◌, ◌<◌}
+-- The lines of the first answers in some answer bytes: none, one more, and how long they are.
+use Prim.Native.Nat.{ℕ, zero, suc, ◌+◌, ◌*◌, ◌/◌, ◌^◌, ◌≤◌, ◌<◌}
+use native.Mathlib.Nat.{mul-zero, add-zero}
 use native.Mathlib.Numerals.{add-one}
-use mathlib.Core.Path.{◌≡◌, refl, ap, ◌∙◌}
+use native.Mathlib.Omega.{arith}
+use mathlib.Core.Path.{◌≡◌, refl, ap, sym, ◌∙◌}
 use mathlib.Core.List.{List, [], ◌∷◌, ◌++◌, flat_map, append-nil}
-use lib.ListN.{length, get_or, take}
-use lib.Seq.{take-suc, take-length}
-use Rattle.std.specs.Simd.{first_chunks}
+use lib.ListN.{length, take, drop, length-append, take-append-drop}
+use lib.Seq.{drop-drop, length-take-le}
 use Rattle.base.proofs.Gather.{flat_map-append}
 use Rattle.encoding.specs.Bytes.{cut}
-use Rattle.encoding.proofs.Cuts.{chunks_cut, cut_take}
 use Rattle.record.specs.AnswerRecords.{answer_size}
 use Rattle.record.specs.ReadAnswers.{answer_record}
-use Rattle.print.specs.Lines.{answer_line}
+use Rattle.print.specs.Lines.{answer_line, last_line}
 use Rattle.print.specs.Printed.{answer_lines}
+use Rattle.encoding.proofs.Cuts.{cut_append}
+use Rattle.encoding.proofs.ByteNumbers.{Bytes, drop_bytes, take_bytes}
+use Rattle.print.proofs.Lengths.{line_most, last_most}
 
-abbrev pub line_in : List ℕ → List ℕ
-line_in bytes = answer_line (answer_record bytes)
+cut_more : (size n : ℕ) (bs : List ℕ) → cut size (suc n) bs ≡ cut size n bs ++ (take size (drop (size * n) bs) ∷ [])
+unfolding cut
+cut_more size zero bs = rw (mul-zero size)
+cut_more size (suc n) bs =
+    let e : size + size * n ≡ size * suc n = omega arith in
+    ap (λ l. take size bs ∷ l) (cut_more size n (drop size bs) ∙ rw (drop-drop (size * n) size bs, e))
 
-abbrev pub first_lines : List (List ℕ) → ℕ → List ℕ
-first_lines answers i = flat_map line_in (take i answers)
-
-pub lines_none : (answers : List (List ℕ)) → first_lines answers 0 ≡ []
-unfolding flat_map
+pub lines_none : (answers : List ℕ) → answer_lines answers 0 ≡ []
+unfolding answer_lines cut flat_map
 lines_none answers = refl
 
-pub lines_more : (answers : List (List ℕ)) (i : ℕ) (d : List ℕ) → i < length answers
-    → first_lines answers (i + 1) ≡ first_lines answers i ++ line_in (get_or answers i d)
-unfolding flat_map
-lines_more answers i d h =
-    rw (add-one i, take-suc answers i d h, flat_map-append line_in (take i answers) (get_or answers i d ∷ []), append-nil (line_in (get_or answers i d)))
+pub lines_more : (answers : List ℕ) (n : ℕ)
+    → answer_lines answers (n + 1) ≡ answer_lines answers n ++ answer_line (answer_record (take 16 (drop (16 * n) answers)))
+unfolding answer_lines answer_size flat_map
+lines_more answers n =
+    let part : List ℕ = take 16 (drop (16 * n) answers) in
+    let lines : List ℕ → List ℕ = λ bs. answer_line (answer_record bs) in
+    rw (add-one n, cut_more 16 n answers, flat_map-append lines (cut 16 n answers) (part ∷ []), append-nil (lines part))
 
-pub lines_all : (answers : List (List ℕ)) → first_lines answers (length answers) ≡ flat_map line_in answers
-lines_all answers = ap (flat_map line_in) (take-length answers)
+-- in bytes
+module _ (answers : List ℕ) (bytes : Bytes answers) where
+  pub next_most : (n : ℕ) → length (answer_line (answer_record (take 16 (drop n answers)))) ≤ 50
+  next_most n = line_most (take 16 (drop n answers)) (take_bytes 16 (drop n answers) (drop_bytes n answers bytes))
 
--- those of the arrays that Rust cuts some bytes into
-pub lines_chunked : (bytes : List ℕ) (n : ℕ) (chunks : List (List ℕ)) → n ≤ length bytes / 16 → chunks ≡ first_chunks 16 (length bytes / 16) bytes
-    → flat_map line_in (take n chunks) ≡ answer_lines bytes n
-unfolding answer_lines answer_size
-lines_chunked bytes n chunks h e =
-    ap (λ (l : List (List ℕ)). flat_map line_in (take n l)) (e ∙ chunks_cut 16 (length bytes / 16) bytes)
-    ∙ ap (flat_map line_in) (cut_take 16 n (length bytes / 16) bytes h)
+  pub lines_most : (n : ℕ) → length (answer_lines answers n) ≤ 50 * n
+  lines_most zero = rw lines_none (omega arith)
+  lines_most (suc n) =
+      rw (← add-one n, lines_more)
+      (omega (arith, length-append (answer_lines answers n) (answer_line (answer_record (take 16 (drop (16 * n) answers)))), lines_most n, next_most (16 * n)))
+
+  pub text_most : (n refusal taken : ℕ) → refusal < 2 ^ 32 → taken < 2 ^ 64 → length (answer_lines answers n) + length (last_line refusal taken) ≤ 50 * n + 36
+  text_most n refusal taken h k = omega (arith, lines_most n, last_most refusal taken h k)
+
+-- the first n answers are those of the bytes that they fill
+pub lines_front : (answers : List ℕ) (n : ℕ) → 16 * n ≤ length answers
+    → answer_lines (take (16 * n) answers) (length (take (16 * n) answers) / 16) ≡ answer_lines answers n
+unfolding answer_lines answer_size cut
+lines_front answers n h =
+    let bytes : List ℕ = take (16 * n) answers in
+    let long : length bytes ≡ 16 * n = length-take-le (16 * n) answers h in
+    let many : length bytes / 16 ≡ n = omega (arith, long) in
+    ap (λ (k : ℕ). answer_lines bytes k) many
+    ∙ ap (flat_map (λ (bs : List ℕ). answer_line (answer_record bs)))
+    (sym (append-nil (cut 16 n bytes))
+    ∙ sym (cut_append 16 n 0 bytes (drop (16 * n) answers) long)
+    ∙ rw (add-zero n, take-append-drop (16 * n) answers))
