@@ -5,7 +5,6 @@ use mathlib.Core.Path.{◌≡◌, refl, subst, ◌∙◌}
 use mathlib.Core.List.{List}
 use Rattle.record.specs.declared.Reply.{Reply}
 use Rattle.record.specs.declared.Reply.TheVariants.{Done}
-use Rattle.record.specs.declared.AnswerRecord.{AnswerRecord}
 use Rattle.tree.specs.declared.Kind.TheVariants.{Takes}
 use Rattle.tree.specs.Shape.{Shape, processes, root, leaf_of, height_for}
 use Rattle.tree.specs.Memory.{Memory, head_of, block, memory_of}

@@ -1,7 +1,7 @@
 -- The values that the last answers leave in the slots, and those that one answer more leaves there.
 use Prim.Native.Nat.{ℕ}
 use mathlib.Core.Path.{◌≡◌, refl, ap, sym, ◌∙◌, subst}
-use mathlib.Core.List.{List, [], ◌∷◌, ◌++◌, map, map-append, append-nil, append_assoc}
+use mathlib.Core.List.{List, [], ◌∷◌, ◌++◌, map, append-nil, append_assoc}
 use lib.ListN.{length, set, length-set}
 use Rattle.base.specs.Members.{All}
 use Rattle.record.specs.declared.AnswerRecord.{AnswerRecord}

@@ -6,8 +6,6 @@ use mathlib.Core.Bool.{true, false}
 use mathlib.Core.List.{List, [], flat_map, append-nil}
 use Rattle.record.specs.declared.OrderRecord.{OrderRecord}
 use Rattle.record.specs.OrderRecords.{order_bytes}
-use Rattle.tree.specs.declared.Kind.{Kind}
-use Rattle.tree.specs.declared.Kind.TheVariants.{Puts, Takes}
 use Rattle.tree.specs.Shape.{Shape, leaf_of}
 use Rattle.tree.specs.Memory.{block}
 use Rattle.tree.specs.Order.{opened, placed}
@@ -18,7 +16,6 @@ use Rattle.order.specs.declared.Subtree.{Subtree}
 use Rattle.order.specs.Clauses.Opens.{leaf_at, adds_to, BlockOf}
 use Rattle.order.specs.Clauses.Listed.{Room, Lists, block_records}
 use Rattle.order.proofs.Subblocks.{subtree_low, subtree_reads}
-
 
 -- the record of the operation at place b of a leaf
 abbrev pub leaf_record : Listing → ℕ → ℕ → OrderRecord

@@ -1,12 +1,7 @@
 -- `answers::answer_of` meets its contract.
-use Prim.Native.Nat.{ℕ, ◌<◌}
 use native.Mathlib.Omega.{arith}
 use mathlib.Core.Path.{◌∙◌}
-use mathlib.Core.List.{List}
 use Rattle.base.proofs.Somes.{some_two}
-use Rattle.tree.specs.Shape.{Shape}
-use Rattle.steps.specs.declared.Process.{Process}
-use Rattle.answer.specs.Clauses.Playing.{Plays}
 use Rattle.answer.proofs.PlaysLaws.{begun_small}
 use Rattle.answer.proofs.AtQ.{leaf_small, answer_fits, stands_as, put_answer, taken_as, take_answer, take_stands}
 use Rattle.answer.proofs.answers.answer_of.Goals as goal

@@ -1,11 +1,8 @@
 -- `receive::receive` meets its contract. The loop's invariant: the answers behind those that are left are entered.
 use native.Mathlib.Omega.{arith}
-use mathlib.Core.Path.{◌≡◌, ap, ◌∙◌, subst}
 use lib.ListN.{length}
-use Rattle.std.specs.Slice.Iter.{iter_rest}
-use Rattle.std.specs.Iterator.Adapters.{rev_source}
 use Rattle.desk_terms.specs.Clauses.Slots.{HasSlot}
-use Rattle.desk_terms.proofs.Entered.{EnteredBehind, entered_none, entered_more, entered_slot, entered_long}
+use Rattle.desk_terms.proofs.Entered.{entered_none, entered_more, entered_slot}
 use Rattle.desk_terms.proofs.receive.receive.Goals.{After-from-a}
 use Rattle.desk_terms.proofs.receive.receive.Goals as goal
 

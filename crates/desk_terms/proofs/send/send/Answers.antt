@@ -3,7 +3,7 @@ use Prim.Native.Nat.{◌*◌}
 use native.Mathlib.Omega.{arith}
 use mathlib.Core.Path.{◌≡◌, ◌∙◌}
 use lib.ListN.{length}
-use Rattle.base.proofs.Stored.{stored_length, stored_part}
+use Rattle.base.proofs.Stored.{stored_part}
 use Rattle.encoding.proofs.Lengths.{bytes_length}
 use Rattle.encoding.proofs.LittleEndian.{word_bytes}
 use Rattle.desk_rules.specs.Entries.{term_size}
@@ -21,7 +21,7 @@ pub loop-i-preserved : goal.loop-i-preserved
 unfolding term_size
 loop-i-preserved c =
     let stored = stored_part _ _ (4 * c.loop-i.i) 4 _ (omega (arith, c.requires, c.loop-i-test.true, c.loop-i.auto.output)) (bytes_length 4 _)
-        (c.copy_from_slice.ensures.after ∙ c.to_le_bytes.ensures ∙ word_bytes _) in
+    (c.copy_from_slice.ensures.after ∙ c.to_le_bytes.ensures ∙ word_bytes _) in
     sent_more _ _ _ c.loop-i-test.true c.loop-i.invariant stored.bytes
 
 pub returns : goal.returns

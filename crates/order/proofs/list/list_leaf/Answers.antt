@@ -1,11 +1,10 @@
 -- `list::list_leaf` meets its contract.
 use native.Mathlib.Omega.{arith}
-use mathlib.Core.Path.{◌≡◌, ap, ◌∙◌}
-use Rattle.record.specs.OrderRecords.{order_bytes}
+use mathlib.Core.Path.{◌∙◌}
 use Rattle.record.proofs.Lengths.{order_record_length}
 use Rattle.base.proofs.Stored.{stored_none, stored_part}
 use Rattle.order.proofs.Subblocks.{block_first, block_small, block_place}
-use Rattle.order.proofs.LeafRecords.{leaf_record, leaf_process, leaf_small, leaf_none, leaf_one}
+use Rattle.order.proofs.LeafRecords.{leaf_process, leaf_none, leaf_one}
 use Rattle.order.proofs.list.list_leaf.Goals as goal
 
 pub adds-requires : goal.adds-requires
