@@ -18,7 +18,8 @@ fn put_lines(answers: &[u8], out: &mut [u8]) -> usize
     next
 }
 
-// The text of n answers, a refusal number and the records taken. The last line has at most 36 bytes.
+// The text of n answers, which begin a longer buffer, a refusal number and the records taken. The last line has at most
+// 36 bytes.
 pub fn put_printed(answers: &[u8], n: usize, refusal: u32, taken: usize, out: &mut [u8]) -> usize
     requires { (16 * n ≤ length answers.now) × (50 * n + 36 ≤ length out.old) }
     ensures stored { Stored out.old 0 (printed answers.now n refusal taken) out.new result }
