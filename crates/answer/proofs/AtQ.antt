@@ -5,7 +5,6 @@ use mathlib.Core.Path.{◌≡◌, subst}
 use mathlib.Core.List.{List}
 use Rattle.record.specs.declared.Reply.{Reply}
 use Rattle.record.specs.declared.Reply.TheVariants.{Done}
-use Rattle.record.specs.declared.AnswerRecord.{AnswerRecord}
 use Rattle.tree.specs.declared.Kind.TheVariants.{Takes}
 use Rattle.tree.specs.Shape.{Shape, root}
 use Rattle.tree.specs.Memory.{Memory, head_of, block, memory_of}
@@ -29,19 +28,20 @@ use Rattle.search.specs.declared.Standing.{Standing}
 use Rattle.search.specs.Clauses.Stands.{Stands, RootBlockIs, OfKind, StandsAt, StandsOf}
 use Rattle.answer.specs.Clauses.Playing.{machine_of, Plays}
 use Rattle.answer.specs.Clauses.Answering.{record_of, TakeAt}
-use Rattle.answer.proofs.PlaysLaws.{steps_small, helps_small, plays_tree}
+use Rattle.answer.proofs.PlaysLaws.{steps_small, helps_small, begun_small, plays_tree}
 
 module _ {s : Shape} {ps : List Process} {heads table : List ℕ} {k : ℕ} {q : Process} (plays : Plays s ps heads table k q) where
   abbrev m : Memory
   m = memory_of table heads
 
-  pub answer_small : {r : Reply} {b : ℕ} {x : AnswerRecord} → x ≡ record_of k q r b → (x.process < 256) × (x.steps < 256) × (x.helps < 256)
-  answer_small e =
-      rw e (
-        omega (arith, plays.low, processes_most s plays.tall),
-        omega (arith, steps_small s ps heads table k q plays),
-        omega (arith, helps_small s ps heads table k q plays),
-      )
+  -- what its answer tells fits its bytes, and its serial
+  pub answer_fits : (k < 256) × (q.steps < 255) × (q.helps < 256) × (q.begun < 65536)
+  answer_fits = (
+    omega (arith, plays.low, processes_most s plays.tall),
+    steps_small s ps heads table k q plays,
+    omega (arith, helps_small s ps heads table k q plays),
+    omega (arith, begun_small s ps heads table k q plays),
+  )
 
   tree : SoundTree s heads table
   tree = plays_tree s ps heads table k q plays

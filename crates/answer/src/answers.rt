@@ -14,16 +14,17 @@ use search::climb::{root_block, standing};
 use steps::{Operation, Process};
 use table::layout::Layout;
 
-// The answer record of process k, which is q, with a reply and a root block. Q is one more own step.
+// The answer record of process k, which is q, with a reply and a root block. Q is one more own step. The caller shows
+// that the process, the steps and the helps fit their bytes.
 fn answer(k: u32, q: Process, reply: Reply, block: u32) -> AnswerRecord
-    requires { (q.steps < 65535) × (q.begun < 65536) }
+    requires { (k < 256) × (q.steps < 255) × (q.helps < 256) × (q.begun < 65536) }
     ensures { result ≡ record_of k q reply block }
 {
     AnswerRecord {
-        process: k,
+        process: k as u8,
         reply: reply,
-        steps: q.steps + 1,
-        helps: q.helps,
+        steps: (q.steps + 1) as u8,
+        helps: q.helps as u8,
         serial: q.serial(),
         block: block,
     }
@@ -39,9 +40,8 @@ pub fn answer_of(
     o: Operation,
 ) -> AnswerRecord
     requires { Some (λ ps. Plays layout.now ps heads.now table.now k q) × (q.status ≡ Busy o Q) }
-    ensures record { (ps : List Proc) → Plays layout.now ps heads.now table.now k q →
+    ensures { (ps : List Proc) → Plays layout.now ps heads.now table.now k q →
         result ≡ answer_of layout.now (machine_of table.now heads.now ps) k o }
-    ensures bounds { (result.process < 256) × (result.steps < 256) × (result.helps < 256) }
 {
     let serial = q.serial();
     match o {

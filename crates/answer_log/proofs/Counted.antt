@@ -83,7 +83,7 @@ module _ (xs : List AnswerRecord) (a : AnswerRecord) (log : List ℕ) where
     leading_next h =
         let within : length xs < length log / answer_size = omega arith in
         let there : length xs < length (records_of log) = omega (arith, records_length log) in
-        goes_on ∙ rw (drop-cons (records_of log) (length xs) [] there, cut_at answer_size (length log / answer_size) (length xs) log within)
+        goes_on ∙ rw (drop-cons (records_of log) (length xs) [] there, cut_at answer_size (length log / answer_size) (length xs) log [] within)
 
     -- one more counts if that record is its bytes, and there it has sixteen
     by_record : (if same_bytes (bytes_of_answer a) next then leading_of xs log + 1 else leading_of xs log) ≡ leading_of (xs ++ (a ∷ [])) log

@@ -7,11 +7,11 @@ use record::AnswerRecord;
 // An answer written after n others. Where there are no answer bytes nothing is written: a call that only compares or
 // lists has none.
 pub fn write_answer(out: &mut [u8], n: usize, a: AnswerRecord)
-    requires { (16 * n + 16 < 18446744073709551616) × (a.process < 256) × (a.steps < 256) × (a.helps < 256) }
+    requires { 16 * n + 16 < 18446744073709551616 }
     ensures { out.new ≡ with_answer out.old n a }
 {
     let at = 16 * n;
     if at + 16 <= out.len() {
-        answer_codec::put_answer(out, at, a);
+        out[at..at + 16].copy_from_slice(&<[u8; 16]>::from(a));
     }
 }

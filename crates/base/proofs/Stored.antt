@@ -1,18 +1,25 @@
 -- Bytes stored one after the other make one run; and the room that is left for the next.
-use Prim.Native.Nat.{ℕ, ◌+◌, ◌≤◌}
+use Prim.Native.Nat.{ℕ, ◌+◌, ◌-◌, ◌≤◌}
 use native.Mathlib.Omega.{arith}
 use mathlib.Core.Path.{◌≡◌, refl, ap, sym, ◌∙◌}
 use mathlib.Core.List.{List, [], ◌++◌}
 use lib.ListN.{length, length-append}
 use lib.Seq.{sets, length-sets}
+use borrow.Rule.Slice.PartMut.{put_mid}
 use Rattle.base.specs.Clauses.Stored.{Stored}
-use Rattle.base.proofs.Stores.{runs}
+use Rattle.base.proofs.Stores.{runs, part_stored}
 
 pub stored_none : (l : List ℕ) (at : ℕ) → Stored l at [] l at
 stored_none l at = record { end = omega arith; bytes = refl }
 
-pub stored_all : (l : List ℕ) (at n : ℕ) (xs : List ℕ) → length xs ≡ n → Stored l at xs (sets l at xs) (at + n)
-stored_all l at n xs e = record { end = omega arith; bytes = refl }
+-- a part overwritten with some bytes
+pub stored_part : (l ys : List ℕ) (at n : ℕ) (xs : List ℕ) → at + n ≤ length l → length xs ≡ n → ys ≡ xs
+    → Stored l at xs (put_mid at (at + n - at) l ys) (at + n)
+stored_part l ys at n xs h e f =
+    record {
+      end = omega arith;
+      bytes = ap (put_mid at (at + n - at) l) f ∙ part_stored l xs at (at + n) h (omega arith);
+    }
 
 module _ {before : List ℕ} {at : ℕ} {xs middle : List ℕ} {i : ℕ} (first : Stored before at xs middle i) where
   pub stored_length : length middle ≡ length before

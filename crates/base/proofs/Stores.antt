@@ -1,12 +1,13 @@
 -- A run of stores into a list: the stored values stand there, and all others stay. One store, by cases.
-use Prim.Native.Nat.{ℕ, zero, suc, ◌+◌, ◌≤◌, ◌<◌}
+use Prim.Native.Nat.{ℕ, zero, suc, ◌+◌, ◌-◌, ◌≤◌, ◌<◌}
 use native.Mathlib.Omega.{arith}
 use native.Mathlib.Decide.{dec_lt, ℕ_discrete}
 use native.Mathlib.Nat.{not-suc-le-zero, le_refl, suc-add, add-suc, add-zero}
-use mathlib.Core.Path.{◌≡◌, refl, ap, ◌∙◌}
-use mathlib.Core.List.{List, [], ◌∷◌, ◌++◌, append-nil}
-use lib.ListN.{length, get_or, set, length-set, drop_of_length-le}
+use mathlib.Core.Path.{◌≡◌, refl, ap, sym, ◌∙◌}
+use mathlib.Core.List.{List, [], ◌∷◌, ◌++◌, append-nil, append_assoc}
+use lib.ListN.{length, get_or, take, drop, set, length-set, drop_of_length-le}
 use lib.Seq.{sets, sets-eq, get_or-set_same, get_or-set_other, set_out}
+use borrow.Rule.Slice.PartMut.{put_mid, Post-is}
 
 pub sets_before : (vs l : List ℕ) (a k : ℕ) → k < a → get_or (sets l a vs) k 0 ≡ get_or l k 0
 sets_before [] l a k h = refl
@@ -24,6 +25,14 @@ sets_here (v ∷ vs) l a (suc k) fits h = rw (add-suc, ← suc-add) (sets_here v
 -- values stored in all places of a list are the list
 pub sets_whole : (l vs : List ℕ) → length vs ≡ length l → sets l 0 vs ≡ vs
 sets_whole l vs e = sets-eq vs l 0 (omega arith) ∙ rw (drop_of_length-le l {i = 0 + length vs} (omega arith)) (append-nil vs)
+
+-- a part of a list that is overwritten whole is a run of stores
+pub part_stored : (l xs : List ℕ) (i e : ℕ) → e ≤ length l → i + length xs ≡ e → put_mid i (e - i) l xs ≡ sets l i xs
+part_stored l xs i e h f =
+    ap (λ (t : List ℕ). take i l ++ (xs ++ t)) (Post-is i e l (omega arith))
+    ∙ sym (append_assoc (take i l) xs (drop e l))
+    ∙ ap (λ (k : ℕ). take i l ++ xs ++ drop k l) (sym f)
+    ∙ sym (sets-eq xs l i (omega arith))
 
 -- a run of stores that follows another makes one run with it
 pub runs : (l xs ys : List ℕ) (i j : ℕ) → i + length xs ≡ j → sets (sets l i xs) j ys ≡ sets l i (xs ++ ys)

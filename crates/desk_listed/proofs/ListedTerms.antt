@@ -6,9 +6,12 @@ use mathlib.Core.List.{List, ◌++◌, map}
 use lib.ListN.{length, take, drop, replicate, length-replicate}
 use lib.Seq.{length-take-le}
 use borrow.Author.Tests.{lt-ltb, le-ltb}
+use Rattle.std.specs.Simd.{first_chunks}
 use Rattle.base.specs.Members.{All}
+use Rattle.encoding.proofs.Cuts.{chunks_cut}
 use Rattle.record.specs.declared.OrderRecord.{OrderRecord}
 use Rattle.record.specs.StepRecords.{step_records}
+use Rattle.record.specs.ReadOrders.{read_order}
 use Rattle.tree.specs.Shape.{Shape, shape_for}
 use Rattle.tree.specs.Layout.{words_needed}
 use Rattle.tree.specs.Order.{root_order}
@@ -24,7 +27,7 @@ use Rattle.desk_rules.specs.Entries.{term_size, term_bytes}
 use Rattle.desk_rules.specs.DeskRefusals.{desk_number, delivers, first_desk_refusal}
 use Rattle.desk_rules.specs.Desk.{served, terms, sent, output_refusal, desk_served}
 use Rattle.desk_rules.proofs.Serving.{queue_delivers}
-use Rattle.desk_terms.specs.Clauses.Slots.{orders_in, HasSlot, entered, collected}
+use Rattle.desk_terms.specs.Clauses.Slots.{HasSlot, entered, collected}
 use Rattle.desk_terms.proofs.Entered.{entered_length}
 use Rattle.desk_listed.specs.Left.{desk_left}
 use Rattle.desk_listed.specs.Clauses.Deliverable.{ReceivedAll, Listed}
@@ -50,23 +53,26 @@ module _ {p l : ℕ} {records : List ℕ} {words : ℕ} {order : List ℕ} (k : 
   pub listed_room : length order / 8 ≤ 4000
   listed_room = omega (arith, ap length k.list, list_fits p l records words k.call, all_few p l records words k.call)
 
-  read : orders_in (length order / 8) order ≡ map order_record (root_order s t)
-  read = orders_read p l records words k.call order k.list
+  -- the arrays that Rust cuts its bytes into, each read
+  module _ (chunks : List (List ℕ)) (cut_so : chunks ≡ first_chunks 8 (length order / 8) order) where
+    read : map read_order chunks ≡ map order_record (root_order s t)
+    read = ap (map read_order) (cut_so ∙ chunks_cut 8 (length order / 8) order) ∙ orders_read p l records words k.call order k.list
 
-  pub listed_slots : (n : ℕ) → n ≡ 4000 → All (λ (x : OrderRecord). HasSlot l n x.process x.serial) (orders_in (length order / 8) order)
-  listed_slots n e = rw (e, read) (order_slots p l records words k.call)
+    pub listed_slots : (n : ℕ) → n ≡ 4000 → All (λ (x : OrderRecord). HasSlot l n x.process x.serial) (map read_order chunks)
+    listed_slots n e = rw (e, read) (order_slots p l records words k.call)
 
   pub received_length : {table table' received : List ℕ} → ReceivedAll p l records table table' received → length received ≡ 4000
   received_length all = ap length all.slots ∙ entered_length l g.answers (replicate 4000 0) ∙ length-replicate {A = ℕ} 4000 0
 
   module _ {table table' received : List ℕ} (all : ReceivedAll p l records table table' received) (count : ℕ) (words' : List ℕ)
-      (within : count ≤ length words') (got : take count words' ≡ collected l received (orders_in (length order / 8) order))
+      (within : count ≤ length words') (chunks : List (List ℕ)) (cut_so : chunks ≡ first_chunks 8 (length order / 8) order)
+      (got : take count words' ≡ collected l received (map read_order chunks))
     where
       are : take count words' ≡ ts
       are =
           got
-          ∙ ap (λ (w : List ℕ). collected l w (orders_in (length order / 8) order)) all.slots
-          ∙ ap (collected l (entered l g.answers (replicate 4000 0))) read
+          ∙ ap (λ (w : List ℕ). collected l w (map read_order chunks)) all.slots
+          ∙ ap (collected l (entered l g.answers (replicate 4000 0))) (read chunks cut_so)
           ∙ all_collected p l records words k.call
 
       many : length ts ≡ count

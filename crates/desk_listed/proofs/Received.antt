@@ -33,8 +33,15 @@ use Rattle.calls.proofs.Theorem.{tall_for}
 use Rattle.calls.proofs.RecordsFit.{Named}
 use Rattle.calls.proofs.PlayedRecords.{played_named, played_answers_named, played_answers_fit, played_orders_fit}
 use Rattle.desk_rules.specs.Desk.{terms}
-use Rattle.desk_terms.specs.Clauses.Slots.{answers_in, orders_in, HasSlot, entered, collected}
+use Rattle.desk_terms.specs.Clauses.Slots.{HasSlot, entered, collected}
 use Rattle.desk_listed.proofs.Slots.{slot_within, collected_terms}
+
+-- the first n records of some bytes
+abbrev pub answers_in : ℕ → List ℕ → List AnswerRecord
+answers_in n bytes = map answer_record (cut answer_size n bytes)
+
+abbrev pub orders_in : ℕ → List ℕ → List OrderRecord
+orders_in n bytes = map read_order (cut 8 n bytes)
 
 module _ (p l : ℕ) (records : List ℕ) (words : ℕ) (call : accepted (call_refusal p l words (length records)) ≡ true) where
   abbrev s : Shape
@@ -67,7 +74,7 @@ module _ (p l : ℕ) (records : List ℕ) (words : ℕ) (call : accepted (call_r
   pub answers_read : (rest : List ℕ) → ((i : ℕ) → get_or (play_all (shape_for p l) (step_records records)).machine.memory.table i 0 < 2 ^ 32)
       → answers_in (length (play_all (shape_for p l) (step_records records)).answers) (log_bytes (play_all (shape_for p l) (step_records records)).answers ++ rest)
       ≡ (play_all (shape_for p l) (step_records records)).answers
-  unfolding answers_in log_bytes shape_for play_all
+  unfolding log_bytes shape_for play_all
   answers_read rest fits =
       list_back answer_size bytes_of_answer answer_record answer_length g.answers rest
       (all_map g.answers (λ a f. record_back a f) (played_answers_fit s (tall_for p l) room (step_records records) (short_for p l) few fits))
@@ -86,7 +93,7 @@ module _ (p l : ℕ) (records : List ℕ) (words : ℕ) (call : accepted (call_r
 
   pub orders_read : (order : List ℕ) → order ≡ order_list (shape_for p l) (play_all (shape_for p l) (step_records records)).machine.memory.table
       → orders_in (length order / 8) order ≡ map order_record (root_order (shape_for p l) (play_all (shape_for p l) (step_records records)).machine.memory.table)
-  unfolding orders_in shape_for play_all
+  unfolding shape_for play_all
   orders_read order e =
       ap (λ (bytes : List ℕ). map read_order (cut 8 (length bytes / 8) bytes)) e
       ∙ ap (λ (n : ℕ). map read_order (cut 8 n (order_list s t))) (sym orders_length)

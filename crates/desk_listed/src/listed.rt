@@ -23,7 +23,8 @@ fn receive_all(p: u32, l: u32, records: &[u8], table: &mut [u32], received: &mut
 {
     let mut answers = [0u8; 64000];
     let ran = otq_run(p, l, records, table, &mut answers);
-    receive(&answers, ran.answers as usize, l, received);
+    let (records, _) = answers.as_chunks::<16>();
+    receive(&records[..ran.answers as usize], l, received);
 }
 
 // Delivers the terms of a list of which the queue refuses nothing, and returns how many; `order` is its root order.
@@ -42,7 +43,8 @@ pub fn deliver_listed(
     let mut received = [0u32; 4000];
     receive_all(p, l, records, table, &mut received);
     let mut terms = [0u32; 4000];
-    let count = collect(order, order.len() / 8, l, &received, &mut terms);
+    let (order, _) = order.as_chunks::<8>();
+    let count = collect(order, l, &received, &mut terms);
     if output.len() < 4 * count {
         return Err(DeskRefusal::OutputShort);
     }

@@ -1,41 +1,59 @@
 -- The values that the last answers leave in the slots, and those that one answer more leaves there.
-use Prim.Native.Nat.{ℕ, suc, ◌+◌, ◌*◌, ◌-◌, ◌≤◌, ◌<◌}
-use native.Mathlib.Omega.{arith}
-use mathlib.Core.Path.{◌≡◌, refl, ◌∙◌}
-use mathlib.Core.List.{List, [], ◌∷◌}
-use lib.ListN.{length, take, drop, set, length-set, drop_of_length-le}
-use lib.Seq.{drop-cons}
+use Prim.Native.Nat.{ℕ}
+use mathlib.Core.Path.{◌≡◌, refl, ap, sym, ◌∙◌, subst}
+use mathlib.Core.List.{List, [], ◌∷◌, ◌++◌, map, append-nil, append_assoc}
+use lib.ListN.{length, set, length-set}
+use Rattle.base.specs.Members.{All}
 use Rattle.record.specs.declared.AnswerRecord.{AnswerRecord}
-use Rattle.record.specs.AnswerRecords.{answer_size, reply_value}
+use Rattle.record.specs.AnswerRecords.{reply_value}
 use Rattle.record.specs.ReadAnswers.{answer_record}
-use Rattle.encoding.proofs.Cuts.{read_length, read_at}
-use Rattle.desk_terms.specs.Clauses.Slots.{answers_in, slot_of, entered}
+use Rattle.desk_terms.specs.Clauses.Slots.{slot_of, HasSlot, entered}
 
 pub entered_length : (l : ℕ) (log : List AnswerRecord) (ws : List ℕ) → length (entered l log ws) ≡ length ws
 unfolding entered
 entered_length l [] ws = refl
 entered_length l (a ∷ log) ws = length-set (entered l log ws) _ _ ∙ entered_length l log ws
 
--- the slots after the last i of n answers
-abbrev pub entered_last : ℕ → ℕ → List ℕ → List ℕ → ℕ → List ℕ
-entered_last l n answers ws i = entered l (drop (n - i) (answers_in n answers)) ws
+-- what holds of all answers holds of one in the middle
+middle_has : (P : AnswerRecord → Type 0) (xs ys : List (List ℕ)) (x : List ℕ) → All P (map answer_record (xs ++ (x ∷ ys))) → P (answer_record x)
+middle_has P [] ys x all = all.0
+middle_has P (y ∷ xs) ys x all = middle_has P xs ys x all.1
 
-module _ (l n : ℕ) (answers ws : List ℕ) where
-  pub entered_none : entered_last l n answers ws 0 ≡ ws
-  unfolding entered answers_in
-  entered_none =
-      let e : n - 0 ≡ n = omega arith in
-      rw (e, drop_of_length-le (answers_in n answers) {i = n} (omega (arith, read_length answer_record answer_size n answers)))
+-- the answers behind the first ones, which are left, are entered
+pub record EnteredBehind (l : ℕ) (answers : List (List ℕ)) (before after : List ℕ) (left : List (List ℕ)) : Type 0 where
+  pub passed : List (List ℕ)
+  pub cut : answers ≡ left ++ passed
+  pub words : after ≡ entered l (map answer_record passed) before
 
-  pub entered_more : (i : ℕ) → i < n → (a : AnswerRecord) → a ≡ answer_record (take 16 (drop (16 * (n - 1 - i)) answers))
-      → entered_last l n answers ws (i + 1) ≡ set (entered_last l n answers ws i) (slot_of l a.process a.serial) (reply_value a.reply)
-  unfolding entered answers_in answer_size
-  entered_more i h a is =
-      let j : ℕ = n - 1 - i in
-      let e : n - (i + 1) ≡ j = omega arith in
-      let f : n - i ≡ suc j = omega arith in
-      let there : j < length (answers_in n answers) = omega (arith, read_length answer_record 16 n answers) in
-      rw (e, f, drop-cons (answers_in n answers) j (answer_record []) there, read_at answer_record 16 n answers j (omega arith), is)
+module _ (l : ℕ) (answers : List (List ℕ)) (before : List ℕ) where
+  pub entered_none : EnteredBehind l answers before before answers
+  unfolding entered
+  entered_none = record { passed = []; cut = sym (append-nil answers); words = refl }
 
-  pub entered_all : (i : ℕ) → n ≤ i → entered_last l n answers ws i ≡ entered l (answers_in n answers) ws
-  entered_all i h = let e : n - i ≡ 0 = omega arith in rw e
+  pub entered_all : (after : List ℕ) (left : List (List ℕ)) → length left ≡ 0 → EnteredBehind l answers before after left → after ≡ entered l (map answer_record answers) before
+  entered_all after [] e z = z.words ∙ ap (λ (xs : List (List ℕ)). entered l (map answer_record xs) before) (sym z.cut)
+  entered_all after (x ∷ left) e z = cc
+
+  -- the last of those that are left
+  module _ (after : List ℕ) (left rest : List (List ℕ)) (x : List ℕ) (z : EnteredBehind l answers before after left) (last : left ≡ rest ++ (x ∷ []))
+      (a : AnswerRecord) (is : a ≡ answer_record x)
+    where
+      cut_there : answers ≡ rest ++ (x ∷ z.passed)
+      cut_there = z.cut ∙ ap (λ (xs : List (List ℕ)). xs ++ z.passed) last ∙ append_assoc rest (x ∷ []) z.passed
+
+      pub entered_more : EnteredBehind l answers before (set after (slot_of l a.process a.serial) (reply_value a.reply)) rest
+      unfolding entered
+      entered_more =
+          record {
+            passed = x ∷ z.passed;
+            cut = cut_there;
+            words = rw (is, z.words);
+          }
+
+      pub entered_slot : (n : ℕ) → All (λ (b : AnswerRecord). HasSlot l n b.process b.serial) (map answer_record answers) → HasSlot l n a.process a.serial
+      entered_slot n all =
+          let P : AnswerRecord → Type 0 = λ b. HasSlot l n b.process b.serial in
+          rw is (middle_has P rest z.passed x (subst (λ (xs : List (List ℕ)). All P (map answer_record xs)) cut_there all))
+
+      pub entered_long : length after ≡ length before
+      entered_long = ap length z.words ∙ entered_length l (map answer_record z.passed) before

@@ -1,6 +1,6 @@
 pub mod Lengths
 pub mod Numbers
 pub mod ByteNumbers
-pub mod Stores
+pub mod LittleEndian
 pub mod Cuts
 pub mod ReadBack

@@ -7,14 +7,13 @@ ghost use Rattle.calls.specs.Forecast.{planned_refusal, begins_refusal};
 
 use calls::Refusal;
 use record::StepRecord;
-use step_codec::{ill_formed, step_record};
 
 // A record, where `begun` has how many operations each process begins before it: 5, 12, 8.
 fn planned_refusal(p: u32, l: u32, begun: &[u32], x: StepRecord) -> Result<(), Refusal>
     requires { (accepted (settings_refusal p l) ≡ true) × (length begun.now ≡ 8) }
     ensures { result ≡ planned_refusal (shape_for p l) (get_or begun.now x.process 0) x }
 {
-    let ill = ill_formed(p, x);
+    let ill = x.is_ill_formed(p);
     let step = x.kind == 0;
     if ill {
         return Err(Refusal::IllFormed);
@@ -34,9 +33,8 @@ pub fn begins_refusal(p: u32, l: u32, begins: &[u8]) -> Result<(), Refusal>
     ensures { result ≡ begins_refusal (shape_for p l) [] (step_records begins.now) }
 {
     let mut begun = [0u32; 8];
-    let n = begins.len() / 8;
-    for i in 0..n {
-        let x = step_record(begins, 8 * i);
+    for bytes in begins.as_chunks::<8>().0 {
+        let x = StepRecord::from(*bytes);
         planned_refusal(p, l, &begun, x)?;
         let k = x.process as usize;
         begun[k] = begun[k] + 1;

@@ -6,8 +6,6 @@ use mathlib.Core.Bool.{true, false}
 use mathlib.Core.List.{List, [], flat_map, append-nil}
 use Rattle.record.specs.declared.OrderRecord.{OrderRecord}
 use Rattle.record.specs.OrderRecords.{order_bytes}
-use Rattle.tree.specs.declared.Kind.{Kind}
-use Rattle.tree.specs.declared.Kind.TheVariants.{Puts, Takes}
 use Rattle.tree.specs.Shape.{Shape, processes, leaf_of}
 use Rattle.tree.specs.Memory.{block}
 use Rattle.tree.specs.Order.{opened, placed}
@@ -17,12 +15,6 @@ use Rattle.order.specs.declared.Listing.{Listing}
 use Rattle.order.specs.Clauses.Opens.{leaf_at, adds_to, BlockOf}
 use Rattle.order.specs.Clauses.Listed.{block_records}
 use Rattle.order.proofs.Subblocks.{subtree_low}
-
--- a kind fits in a byte
-pub kind_small : (κ : Kind) → kind_number κ < 256
-unfolding kind_number
-kind_small Puts = omega arith
-kind_small Takes = omega arith
 
 -- the record of the operation at place b of a leaf
 abbrev pub leaf_record : Shape → Listing → ℕ → ℕ → OrderRecord

@@ -15,7 +15,7 @@ use table::layout::Layout;
 use tree::Kind;
 
 // The number of a kind in an order record.
-fn kind_number(kind: Kind) -> u32
+fn kind_number(kind: Kind) -> u8
     ensures { result ≡ kind_number kind }
 {
     match kind {
@@ -52,12 +52,12 @@ fn list_leaf(
 {
     if adds(table, layout, list.kind, leaf, b) {
         let record = OrderRecord {
-            process: leaf - layout.processes() as u32,
+            process: (leaf - layout.processes() as u32) as u8,
             kind: kind_number(list.kind),
-            serial: b,
+            serial: b as u16,
             block: list.block,
         };
-        order_codec::put_order(out, at, record);
+        out[at..at + 8].copy_from_slice(&<[u8; 8]>::from(record));
         return at + 8;
     }
     at

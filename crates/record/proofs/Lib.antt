@@ -1,4 +1,3 @@
 pub mod Lengths
-pub mod Stores
 pub mod Cuts
 pub mod ReadBack

@@ -1,13 +1,18 @@
-// The records: step records, answer records and order records, as the fields that their bytes hold. This crate knows
-// nothing of trees, nor of how steps are played.
+// The records: step records, answer records and order records, as the fields that their bytes hold, read from these
+// bytes and written as them. A field has the width of its bytes. This crate knows nothing of trees, nor of how steps are
+// played.
 #![tactic(auto)]
+
+mod answers;
+mod orders;
+mod steps;
 
 // A step record.
 #[derive(Clone, Copy)]
 pub struct StepRecord {
-    pub process: u32,
-    pub kind: u32,
-    pub zeros: u32,
+    pub process: u8,
+    pub kind: u8,
+    pub zeros: u16,
     pub value: u32,
 }
 
@@ -22,10 +27,10 @@ pub enum Reply {
 // An answer record.
 #[derive(Clone, Copy)]
 pub struct AnswerRecord {
-    pub process: u32,
+    pub process: u8,
     pub reply: Reply,
-    pub steps: u32,
-    pub helps: u32,
+    pub steps: u8,
+    pub helps: u8,
     pub serial: u32,
     pub block: u32,
 }
@@ -33,8 +38,8 @@ pub struct AnswerRecord {
 // An order record.
 #[derive(Clone, Copy)]
 pub struct OrderRecord {
-    pub process: u32,
-    pub kind: u32,
-    pub serial: u32,
+    pub process: u8,
+    pub kind: u8,
+    pub serial: u16,
     pub block: u32,
 }

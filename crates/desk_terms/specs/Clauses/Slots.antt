@@ -1,20 +1,10 @@
 -- A word for each operation, in which the value that it received stands.
 use Rattle.std.specs.Prelude.{ℕ, ◌+◌, ◌*◌, ◌-◌, ◌≤◌, ◌<◌, get_or, set, if◌then◌else◌}
-use mathlib.Core.List.{List, [], ◌∷◌, map, flat_map}
+use mathlib.Core.List.{List, [], ◌∷◌, flat_map}
 use Rattle.record.specs.declared.AnswerRecord.{AnswerRecord}
 use Rattle.record.specs.declared.OrderRecord.{OrderRecord}
-use Rattle.encoding.specs.Bytes.{cut}
-use Rattle.record.specs.AnswerRecords.{answer_size, reply_value}
-use Rattle.record.specs.ReadAnswers.{answer_record}
-use Rattle.record.specs.ReadOrders.{read_order}
+use Rattle.record.specs.AnswerRecords.{reply_value}
 use Rattle.desk_rules.specs.Entries.{is_entry, term_of}
-
--- the first n records of some bytes
-unfoldable pub answers_in : ℕ → List ℕ → List AnswerRecord
-answers_in n bytes = map answer_record (cut answer_size n bytes)
-
-unfoldable pub orders_in : ℕ → List ℕ → List OrderRecord
-orders_in n bytes = map read_order (cut 8 n bytes)
 
 -- the slot of an operation, where each process has l of them
 unfoldable pub slot_of : ℕ → ℕ → ℕ → ℕ

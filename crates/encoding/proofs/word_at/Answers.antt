@@ -1,10 +1,8 @@
--- `encoding::word_at` meets its contract. The number in four bytes is that of the first two and 65536 times that
--- of the others.
+-- `encoding::word_at` meets its contract.
 use native.Mathlib.Omega.{arith}
-use Rattle.encoding.proofs.Numbers.{number_parts}
+use mathlib.Core.Path.{◌∙◌}
+use Rattle.encoding.proofs.LittleEndian.{word_number}
 use Rattle.encoding.proofs.word_at.Goals as goal
 
 pub returns : goal.returns
-returns c =
-    let start = c.args in
-    omega (arith, number_parts 2 2 start.at start.bytes.now (omega arith))
+returns c = c.from_le_bytes.ensures ∙ word_number c.args.bytes.now c.args.at (omega arith)

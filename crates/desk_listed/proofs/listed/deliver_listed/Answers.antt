@@ -9,11 +9,14 @@ use Rattle.desk_listed.proofs.listed.deliver_listed.Goals as goal
 
 pub collect-count-requires : goal.collect-count-requires
 collect-count-requires c =
-    let k = c.requires in record { room = (omega arith, listed_few k, omega (arith, listed_room k, length-replicate {A = ℕ} 4000 0)); slots = listed_slots k _ (received_length k c.receive_all.ensures) }
+    let k = c.requires in
+    let cut_so = c.as_chunks.ensures in
+    record { room = (listed_few k, omega (arith, listed_room k, cut_so.front_len, length-replicate {A = ℕ} 4000 0)); slots = listed_slots k _ cut_so.front _ (received_length k c.receive_all.ensures) }
 
 pub returns-then-output-count : goal.returns-then-output-count
 returns-then-output-count c =
-    listed_short c.requires c.receive_all.ensures c.collect-count.result _ c.collect-count.ensures.0 c.collect-count.ensures.1 _ c.if-output-count.true
+    listed_short c.requires c.receive_all.ensures c.collect-count.result _ c.collect-count.ensures.0 _ c.as_chunks.ensures.front c.collect-count.ensures.1 _
+    c.if-output-count.true
 
 pub send-requires : goal.send-requires
 unfolding term_size
@@ -23,5 +26,5 @@ send-requires c =
 
 pub returns : goal.returns
 returns c =
-    listed_sent c.requires c.receive_all.ensures c.collect-count.result _ c.collect-count.ensures.0 c.collect-count.ensures.1 _ _
+    listed_sent c.requires c.receive_all.ensures c.collect-count.result _ c.collect-count.ensures.0 _ c.as_chunks.ensures.front c.collect-count.ensures.1 _ _
     (omega (arith, c.if-output-count.false)) c.send.ensures

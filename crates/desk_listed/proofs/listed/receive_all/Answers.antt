@@ -1,8 +1,9 @@
 -- `listed::receive_all` meets its contract.
 use Prim.Native.Nat.{ℕ}
 use native.Mathlib.Omega.{arith}
-use mathlib.Core.Path.{ap, ◌∙◌}
+use mathlib.Core.Path.{ap, sym, ◌∙◌}
 use lib.ListN.{length, replicate, length-replicate}
+use lib.Seq.{length-take-le}
 use Rattle.steps.proofs.Limits.{allowed_most}
 use Rattle.calls.proofs.CallAccepted.{accepted_operations}
 use Rattle.desk_listed.proofs.RunAnswers.{Ran, ran_room, ran_slots, ran_received}
@@ -17,10 +18,16 @@ IsRan c = let last = c.otq_run-ran.new in
 ran_at : (c : After-otq_run-ran) → IsRan c
 ran_at c = record { call = c.requires.call; room = length-replicate {A = ℕ} 64000 0; left = c.otq_run-ran.ensures.rules }
 
+pub slice_bounds-receive-end : goal.slice_bounds-receive-end
+slice_bounds-receive-end c =
+    let ran = ran_at (goal.at.slice_bounds-receive-end c).After-otq_run-ran in
+    sym (length-take-le _ _ (omega (arith, ran_room ran, c.as_chunks.ensures.front_len)))
+
 pub receive-requires : goal.receive-requires
 receive-requires c =
-    record { room = (ran_room (ran_at (goal.at.receive-requires c).After-otq_run-ran), (allowed_most c.args.l (accepted_operations _ _ _ _ c.requires.call)).1); slots = ran_slots (ran_at (goal.at.receive-requires c).After-otq_run-ran) (λ i. omega (arith, c.type_inv.table i)) _ (ap length c.requires.zeros ∙ length-replicate {A = ℕ} 4000 0) }
+    let ran = ran_at (goal.at.receive-requires c).After-otq_run-ran in
+    record { small = (allowed_most c.args.l (accepted_operations _ _ _ _ c.requires.call)).1; slots = ran_slots ran (λ i. omega (arith, c.type_inv.table i)) _ c.as_chunks.ensures.front _ (ap length c.requires.zeros ∙ length-replicate {A = ℕ} 4000 0) }
 
 pub returns : goal.returns
 returns c =
-    ran_received (ran_at (goal.at.returns c).After-otq_run-ran) (λ i. omega (arith, c.type_inv.table i)) _ _ c.requires.zeros c.receive.ensures
+    ran_received (ran_at (goal.at.returns c).After-otq_run-ran) (λ i. omega (arith, c.type_inv.table i)) _ c.as_chunks.ensures.front _ _ c.requires.zeros c.receive.ensures

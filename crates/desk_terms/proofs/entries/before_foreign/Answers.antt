@@ -1,22 +1,13 @@
--- `entries::before_foreign` meets its contract. The loop's invariant: no record before the i-th is a foreign entry. The
--- measure is what is left of them.
-use native.Mathlib.Omega.{arith}
-use mathlib.Core.Path.{sym, ◌∙◌}
-use borrow.Author.Rules.{rules}
-use Rattle.desk_terms.proofs.BeforeForeign.{none_left, foreign_next, none_next}
+-- `entries::before_foreign` meets its contract.
+use mathlib.Core.Path.{ap, ◌∙◌}
+use mathlib.Core.List.{map}
+use Rattle.record.specs.StepRecords.{step_record}
+use Rattle.record.proofs.Cuts.{steps_chunked}
+use Rattle.desk_terms.specs.Clauses.Foreign.{before_foreign}
+use Rattle.desk_terms.proofs.BeforeForeign.{first_place}
 use Rattle.desk_terms.proofs.entries.before_foreign.Goals as goal
 
-pub returns-then-is_foreign : goal.returns-then-is_foreign
-returns-then-is_foreign c =
-    let so_far = c.loop-i.invariant.1 in
-    let more = c.loop-i-test.true in
-    sym (foreign_next _ _ _ so_far _ more c.step_record.ensures (sym c.is_foreign.ensures ∙ c.if-is_foreign.true))
-
-pub loop-i-preserved : goal.loop-i-preserved
-loop-i-preserved c =
-    let so_far = c.loop-i.invariant.1 in
-    let more = c.loop-i-test.true in
-    (search rules, none_next _ _ _ so_far _ more c.step_record.ensures (sym c.is_foreign.ensures ∙ c.if-is_foreign.false))
-
 pub returns : goal.returns
-returns c = omega (arith, none_left _ _ _ c.loop-i.invariant.1 c.loop-i-test.false)
+returns c =
+    let chunks = ap (map step_record) c.as_chunks.ensures.front ∙ steps_chunked c.args.records.now in
+    c.unwrap_or.ensures ∙ rw c.first_foreign.ensures (first_place c.args.licensed _ ∙ ap (before_foreign c.args.licensed) chunks)

@@ -1,12 +1,8 @@
--- `receive::receive` meets its contract. The loop's invariant: the values of the last i answers are stored. The measure
--- is what is left of them.
-use Prim.Native.Nat.{◌-◌}
-use mathlib.Core.Path.{◌≡◌}
-use Rattle.desk_terms.proofs.Entered.{entered_last}
+-- `receive::receive` meets its contract. The loop's invariant: the answers behind those that are left are entered.
+use Rattle.std.specs.Slice.Iter.{iter_rest}
+use Rattle.std.specs.Iterator.Adapters.{rev_source}
+use Rattle.desk_terms.proofs.Entered.{EnteredBehind}
 use Rattle.desk_terms.proofs.receive.receive.Given as goal
 
-abbrev pub invariant-loop-i : goal.invariant-loop-i
-invariant-loop-i l = l.received ≡ entered_last l.l l.n l.answers l.initial.received l.i
-
-abbrev pub decreases-loop-i : goal.decreases-loop-i
-decreases-loop-i l = l.n - l.i
+abbrev pub invariant-loop-bytes : goal.invariant-loop-bytes
+invariant-loop-bytes l = EnteredBehind l.l l.answers l.initial.received l.received (iter_rest (rev_source l.bytes-iterator))

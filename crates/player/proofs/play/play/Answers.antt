@@ -310,10 +310,10 @@ answer_of-a-requires c =
     (rw (step_same f) (step_playing f), step_busy f busy c.operation_in.ensures (step_named f busy c.in-Q.is))
 
 pub equal_after-equal-requires : goal.equal_after-equal-requires
-equal_after-equal-requires c = (omega (arith, few_answers (goal.at.equal_after-equal-requires c).Else-free-lt16), c.answer_of-a.ensures.bounds.0, c.answer_of-a.ensures.bounds.1, c.answer_of-a.ensures.bounds.2)
+equal_after-equal-requires c = omega (arith, few_answers (goal.at.equal_after-equal-requires c).Else-free-lt16)
 
 pub write_answer-requires : goal.write_answer-requires
-write_answer-requires c = (omega (arith, few_answers (goal.at.write_answer-requires c).Else-free-lt16), c.answer_of-a.ensures.bounds.0, c.answer_of-a.ensures.bounds.1, c.answer_of-a.ensures.bounds.2)
+write_answer-requires c = omega (arith, few_answers (goal.at.write_answer-requires c).Else-free-lt16)
 
 pub overflow_add-answers : goal.overflow_add-answers
 overflow_add-answers c = record { fits = omega (arith, few_answers (goal.at.overflow_add-answers c).Else-free-lt16) }
@@ -328,7 +328,7 @@ loop-i-preserved-in-Q c =
     let busy = c.in-Busy.is in
     rw c.rested.ensures
     (finish_moves f (step_busy f busy c.operation_in.ensures (step_named f busy c.in-Q.is)) c.if-free-lt16.false _ _ _ c.write_answer.auto.out
-    (rw (step_same f) at c.answer_of-a.ensures.record) c.equal_after-equal.ensures c.write_answer.ensures)
+    (rw (step_same f) at c.answer_of-a.ensures) c.equal_after-equal.ensures c.write_answer.ensures)
 
 pub begin_of-begin-requires : goal.begin_of-begin-requires
 begin_of-begin-requires c = (c.if-first-p.false, omega (arith, loop_narrow c.loop-i.invariant))
