@@ -24,7 +24,7 @@ use stepping::turn::operation_in;
 use steps::{Process, Status, Step};
 use table::layout::Layout;
 
-// What the loop comes to.
+// What the loop comes to: a function, since a struct literal at each of its six ends takes six lines.
 fn ended(ended: Result<(), Refusal>, taken: usize, answers: usize, equal: usize) -> Outcome
     ensures { result ≡ record { ended = ended; taken = taken; answers = answers; equal = equal } }
 {
@@ -175,8 +175,7 @@ pub fn play(
                 },
             }
         }
-        let begin = begin_of(p, first, word_at(records, at + 4));
-        let Some(begin) = begin else {
+        let Some(begin) = begin_of(p, first, word_at(records, at + 4)) else {
             return ended(Err(Refusal::IllFormed), i, answers, equal);
         };
         let k = begin.process as usize;

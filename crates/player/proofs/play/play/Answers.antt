@@ -14,7 +14,7 @@ use Rattle.player.proofs.LoopInvariant.{loop_start, loop_number, loop_narrow, lo
 use Rattle.player.proofs.StepLoop.{StepAt, step_low, step_idle, step_plays, q, step_named, step_busy, step_leaf, step_playing, step_same, step_ready}
 use Rattle.player.proofs.StepLoop.{telling_moves, step_moves, heads_move, table_moves, finish_full, finish_moves}
 use Rattle.player.proofs.BeginLoop.{OtherAt, begin_low, valued_ill, other_ill, begin_few, begin_refused, begin_moves}
-use Rattle.player.proofs.play.play.Goals.{Else-word_at-ne0, After-begin_of-begin, Else-free-lt16}
+use Rattle.player.proofs.play.play.Goals.{Else-word_at-ne0, After-begin_of, Else-free-lt16}
 use Rattle.player.proofs.play.play.Goals as goal
 
 -- ---- at a step record
@@ -50,11 +50,11 @@ few_answers c = omega (arith, c.if-free-lt16.false, c.loop-i.invariant.so_far.sp
 -- ---- at another record
 
 -- its two words say that it is a begin, or nothing
-other_at : (c : After-begin_of-begin) →
+other_at : (c : After-begin_of) →
     OtherAt
     (record { tree = c.args.layout.now; p = c.processes-p.result; records = c.args.records.now; heads = c.args.heads.now; table = c.args.table.now; room = c.args.room; out = c.args.out.now; log = c.args.log.now })
     (record { heads = c.loop-i.heads; table = c.loop-i.table; out = c.loop-i.out; procs = c.loop-i.procs; answers = c.loop-i.answers; equal = c.loop-i.equal; left = c.loop-i.free })
-    c.loop-i.i c.word_at-first.result c.word_at-in-loop-i.result c.begin_of-begin.result
+    c.loop-i.i c.word_at-first.result c.word_at-in-loop-i.result c.begin_of.result
 other_at c =
     record {
       inv = c.loop-i.invariant;
@@ -63,7 +63,7 @@ other_at c =
       word = c.word_at-first.ensures;
       other = c.word_at-in-loop-i.ensures;
       no_step = c.if-first-p.false;
-      says = c.begin_of-begin.ensures;
+      says = c.begin_of.ensures;
     }
 
 pub prove-unreachable-requires : goal.prove-unreachable-requires
@@ -72,7 +72,7 @@ prove-unreachable-requires c =
 
 pub prove-unreachable-requires-in-loop-i : goal.prove-unreachable-requires-in-loop-i
 prove-unreachable-requires-in-loop-i c =
-    let begin = other_at (goal.at.prove-unreachable-requires-in-loop-i c).After-begin_of-begin in
+    let begin = other_at (goal.at.prove-unreachable-requires-in-loop-i c).After-begin_of in
     omega (arith, begin_low begin c.in-Some.is)
 
 pub loop-i-init : goal.loop-i-init
@@ -330,28 +330,28 @@ loop-i-preserved-in-Q c =
     (finish_moves f (step_busy f busy c.operation_in.ensures (step_named f busy c.in-Q.is)) c.if-free-lt16.false _ _ _ c.write_answer.auto.out
     (rw (step_same f) at c.answer_of-a.ensures) c.equal_after-equal.ensures c.write_answer.ensures)
 
-pub begin_of-begin-requires : goal.begin_of-begin-requires
-begin_of-begin-requires c = (c.if-first-p.false, omega (arith, loop_narrow c.loop-i.invariant))
+pub begin_of-requires : goal.begin_of-requires
+begin_of-requires c = (c.if-first-p.false, omega (arith, loop_narrow c.loop-i.invariant))
 
 pub returns-in_default : goal.returns-in_default
-returns-in_default c = rw c.ended-in_default.ensures (other_ill (other_at (goal.at.returns-in_default c).After-begin_of-begin) c.in_default.is)
+returns-in_default c = rw c.ended-in_default.ensures (other_ill (other_at (goal.at.returns-in_default c).After-begin_of) c.in_default.is)
 
 pub returns-in-Err : goal.returns-in-Err
 unfolding idle
 returns-in-Err c =
     rw c.ended-in-Err.ensures
-    (begin_refused (other_at (goal.at.returns-in-Err c).After-begin_of-begin) c.in-Some.is (rw c.most-l.ensures.0 at c.begin_refusal.ensures) _ c.in-Err.is)
+    (begin_refused (other_at (goal.at.returns-in-Err c).After-begin_of) c.in-Some.is (rw c.most-l.ensures.0 at c.begin_refusal.ensures) _ c.in-Err.is)
 
 pub entered-requires : goal.entered-requires
 unfolding idle
 entered-requires c =
-    omega (arith, begin_few (other_at (goal.at.entered-requires c).After-begin_of-begin) c.in-Some.is)
+    omega (arith, begin_few (other_at (goal.at.entered-requires c).After-begin_of) c.in-Some.is)
 
 pub loop-i-preserved : goal.loop-i-preserved
 unfolding idle
 loop-i-preserved c =
     rw c.entered.ensures
-    (begin_moves (other_at (goal.at.loop-i-preserved c).After-begin_of-begin) c.in-Some.is (rw c.most-l.ensures.0 at c.begin_refusal.ensures) c.in-Ok.is)
+    (begin_moves (other_at (goal.at.loop-i-preserved c).After-begin_of) c.in-Some.is (rw c.most-l.ensures.0 at c.begin_refusal.ensures) c.in-Ok.is)
 
 pub returns : goal.returns
 returns c = rw c.ended-2.ensures (loop_ends c.loop-i.invariant c.loop-i-test.false)
