@@ -1,6 +1,6 @@
 // The records: step records, answer records and order records, as the fields that their bytes hold, read from these
-// bytes and written as them. A field has the width of its bytes. This crate knows nothing of trees, nor of how steps are
-// played.
+// bytes and written as them. A field has the width of its bytes. This crate knows nothing of trees, nor of how steps
+// are played.
 #![tactic(auto)]
 
 mod answers;
