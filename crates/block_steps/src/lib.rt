@@ -1,5 +1,6 @@
 // The code of the named steps A, V2, R3, R5 and C4, which read or write blocks and build none: each takes a process and
-// gives the process that it becomes. Where no head is read, they hold whatever the heads are.
+// gives the process that it becomes. Where no head is read, they hold whatever the heads are. R3 and R5 are alike but for
+// the named step that each takes apart, and no parameter stands for a variant.
 #![tactic(auto)]
 
 ghost use Rattle.std.specs.Prelude.{true, false, ◌≡◌, List, ℕ, ◌+◌, ◌*◌, ◌-◌, ◌<◌};

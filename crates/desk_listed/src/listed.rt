@@ -27,7 +27,8 @@ fn receive_all(p: u32, l: u32, records: &[u8], table: &mut [u32], received: &mut
     receive(&records[..ran.answers as usize], l, received);
 }
 
-// Delivers the terms of a list of which the queue refuses nothing, and returns how many; `order` is its root order.
+// Delivers the terms of a list of which the queue refuses nothing, and returns how many; `order` is its root order. The
+// library has no heap, so values and terms have fixed arrays.
 pub fn deliver_listed(
     p: u32,
     l: u32,

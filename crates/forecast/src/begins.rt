@@ -27,7 +27,7 @@ fn planned_refusal(p: u32, l: u32, begun: &[u32], x: StepRecord) -> Result<(), R
     Ok(())
 }
 
-// The first refusal of the records.
+// The first refusal of the records. There are at most 8 processes, and the library has no heap.
 pub fn begins_refusal(p: u32, l: u32, begins: &[u8]) -> Result<(), Refusal>
     requires { accepted (settings_refusal p l) ≡ true }
     ensures { result ≡ begins_refusal (shape_for p l) [] (step_records begins.now) }

@@ -1,5 +1,6 @@
 // The code of the named steps that look at heads alone: each takes a process and gives the process that it becomes,
-// whatever the table is.
+// whatever the table is. R2 and R4, and C1 and C2, are alike but for the named step that each takes apart and makes, and
+// no parameter stands for a variant.
 #![tactic(auto)]
 
 ghost use Rattle.std.specs.Prelude.{◌≡◌, true, false, ℕ, ◌+◌, ◌*◌, ◌/◌, ◌≤◌, ◌<◌, length, get_or};

@@ -14,7 +14,7 @@ use record::OrderRecord;
 use table::layout::Layout;
 use tree::Kind;
 
-// The number of a kind in an order record.
+// The number of a kind in an order record. It is no From of the kind: crate tree, which has it, knows no records.
 fn kind_number(kind: Kind) -> u8
     ensures { result ≡ kind_number kind }
 {
@@ -36,7 +36,8 @@ fn adds(table: &[u32], layout: &Layout, kind: Kind, leaf: u32, b: u32) -> bool
 }
 
 // The operation that a leaf's block adds, if it is of the kind. The process of leaf v is v less the number of
-// processes. Returned here and below is the index after what was stored.
+// processes. Returned here and below is the index after what was stored; the whole output and an index go along, since
+// what is stored is said of the whole (`Stored`).
 fn list_leaf(
     table: &[u32],
     layout: &Layout,

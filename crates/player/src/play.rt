@@ -37,10 +37,11 @@ fn ended(ended: Result<(), Refusal>, taken: usize, answers: usize, equal: usize)
 }
 
 // Plays the records from the start, where there is room for `room` bytes of answers. Each answer is written to `out`,
-// if that has any bytes, and compared with the one in the same place of `log`. A record is told by its two words; why,
-// and why Q takes the process modulo p, below which it is, docs/DECISIONS.md says in "Two words tell a record". Each
-// named step has its own arm, which reads the process again and stores it, so that a step loads and stores only the
-// registers that it uses.
+// if that has any bytes, and compared with the one in the same place of `log`: no closure says what is done with it, whose
+// contract would be longer than these two calls. A record is told by its two words, read where they stand, and counted,
+// since its number is written into blocks; why, and why Q takes the process modulo p, below which it is,
+// docs/DECISIONS.md says in "Two words tell a record". Each named step has its own arm and no closure: it reads the
+// process again and stores it, so that a step loads and stores only the registers that it uses.
 pub fn play(
     layout: &Layout,
     records: &[u8],

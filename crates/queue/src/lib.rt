@@ -1,5 +1,7 @@
 // The public library: Run, list the order, check a log and the forecast. Each call turns down, plays and leaves what
-// its definition says (crate calls).
+// its definition says (crate calls). The calls and what they share take p and l as C gives them: the tree is made of
+// them once they are tested. What a call needs beside the memory that it is lent stands in fixed arrays, since the
+// library has no heap.
 #![tactic(auto)]
 
 pub mod check_log;

@@ -7,7 +7,8 @@ mod answers;
 mod orders;
 mod steps;
 
-// A step record.
+// A step record. Its kind is a number and no enum, since an ill-formed record may have any (specs/StepRecords:
+// ill_formed).
 #[derive(Clone, Copy)]
 pub struct StepRecord {
     pub process: u8,
@@ -35,7 +36,7 @@ pub struct AnswerRecord {
     pub block: u32,
 }
 
-// An order record.
+// An order record. Its kind is the number that its byte holds (specs/ReadOrders: read_order).
 #[derive(Clone, Copy)]
 pub struct OrderRecord {
     pub process: u8,

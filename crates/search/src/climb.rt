@@ -45,7 +45,7 @@ fn beside(table: &[u32], layout: &Layout, v: u32, b: u32) -> u32
 }
 
 // The root block of operation `serial` of process k, found from its leaf up to the root, which is node 1. The answer of
-// a put needs no more than this: it is spared the reads that counting takes.
+// a put needs no more than this: it is spared the reads that counting takes, so it is no part of `standing`.
 pub fn root_block(heads: &[u32], table: &[u32], layout: &Layout, k: u32, serial: u32) -> u32
     requires { Stands layout.now heads.now table.now k serial }
     ensures { RootBlockIs layout.now table.now k serial result }

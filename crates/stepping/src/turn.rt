@@ -55,7 +55,8 @@ fn helps_after(helps: u32, helped: bool) -> u32
     helps
 }
 
-// A busy process q after its step, with step n next, which tells whether it was a help.
+// A busy process q after its step, with step n next, which tells whether it was a help. It is apart from `moved`, so
+// that a step that is no help has no bound of the helps to show.
 pub fn moved_telling(q: Process, n: Step, helped: bool) -> Process
     requires { (q.steps < 65536) × (q.helps < 65536) × (is_idle q.status ≡ false) }
     ensures { (s : Shape) (number k : ℕ) (m after : Memory) → result ≡ stepped q (go_telling s number k (operation_in q.status) m after n helped) }

@@ -7,7 +7,8 @@ ghost use Rattle.steps.specs.Machine.{is_idle};
 ghost use Rattle.steps.specs.Process.{idle, processes_allowed, operations_allowed};
 ghost use Rattle.steps.specs.Clauses.Operations.{entered as entered_of, rested as rested_of};
 
-// What a process is inside of: a put of a value, or a take.
+// What a process is inside of: a put of a value, or a take. No Option: a take is an operation too, and the rules name
+// both (specs/Rules).
 #[derive(Clone, Copy)]
 pub enum Operation {
     Put(u32),
@@ -129,7 +130,8 @@ pub enum Step {
     Q,
 }
 
-// A process is idle, or inside an operation at a named step.
+// A process is idle, or inside an operation at a named step. No Option: the machine's definitions say Idle and Busy
+// (specs/Machine).
 #[derive(Clone, Copy)]
 pub enum Status {
     Idle,

@@ -4,7 +4,7 @@ use mathlib.Core.Path.{◌∙◌}
 use Rattle.record.proofs.Lengths.{order_record_length}
 use Rattle.base.proofs.Stored.{stored_none, stored_part}
 use Rattle.order.proofs.Subblocks.{block_first, block_small, block_place}
-use Rattle.order.proofs.LeafRecords.{leaf_process, leaf_none, leaf_one}
+use Rattle.order.proofs.LeafRecords.{leaf_process, leaf_small, leaf_none, leaf_one}
 use Rattle.order.proofs.list.list_leaf.Goals as goal
 
 pub adds-requires : goal.adds-requires
@@ -14,7 +14,10 @@ pub overflow_sub-record : goal.overflow_sub-record
 overflow_sub-record c = rw c.processes.ensures.0 (leaf_process c.requires.holds)
 
 pub overflow_cast-record-then-adds : goal.overflow_cast-record-then-adds
-overflow_cast-record-then-adds c = omega (arith, block_small c.requires.holds)
+overflow_cast-record-then-adds c = omega (arith, leaf_small c.requires.holds)
+
+pub overflow_cast-record-then-adds-2 : goal.overflow_cast-record-then-adds-2
+overflow_cast-record-then-adds-2 c = omega (arith, block_small c.requires.holds)
 
 pub slice_bounds-copy_from_slice-end : goal.slice_bounds-copy_from_slice-end
 slice_bounds-copy_from_slice-end c =
