@@ -169,9 +169,8 @@ pub fn step_c4(table: &mut [u32], layout: &Layout, number: u32, q: Process) -> P
     };
     let v = visit.node;
     let success = layout.write_if_absent(table, v, visit.head, block_of(number, built));
-    let refresh = visit.refresh;
     moved(
         q,
-        advance(visit, after_refresh(refresh, success), v, visit.head),
+        advance(visit, after_refresh(visit.refresh, success), v, visit.head),
     )
 }

@@ -31,10 +31,7 @@ pub fn block_in(part: &[u32], i: usize) -> Block
 pub fn word_or_zero(part: &[u32], at: usize) -> u32
     ensures { result ≡ get_or part.now at 0 }
 {
-    if at < part.len() {
-        return part[at];
-    }
-    0
+    part.get(at).copied().unwrap_or(0)
 }
 
 // A block with no puts and no takes is absent. Both words are compared: their sum could wrap.

@@ -13,8 +13,7 @@ pub fn operation_in(q: Process) -> Operation
     requires { is_idle q.status ≡ false }
     ensures { result ≡ operation_in q.status }
 {
-    let status = q.status;
-    match status {
+    match q.status {
         Status::Idle => Operation::Take,
         Status::Busy(o, _) => o,
     }
@@ -24,8 +23,7 @@ pub fn operation_in(q: Process) -> Operation
 pub fn step_in(q: Process) -> Step
     ensures { result ≡ step_in q.status }
 {
-    let status = q.status;
-    match status {
+    match q.status {
         Status::Idle => Step::A,
         Status::Busy(_, n) => n,
     }
@@ -74,10 +72,9 @@ pub fn moved_telling(q: Process, n: Step, helped: bool) -> Process
 pub fn by_fields(w: Visit) -> Visit
     ensures { result ≡ w }
 {
-    let refresh = w.refresh;
     Visit {
         node: w.node,
         head: w.head,
-        refresh: refresh,
+        refresh: w.refresh,
     }
 }

@@ -169,8 +169,7 @@ impl Process {
     pub fn is_idle(self) -> bool
         ensures { result ≡ is_idle self.status }
     {
-        let status = self.status;
-        match status {
+        match self.status {
             Status::Idle => true,
             Status::Busy(_, _) => false,
         }
