@@ -7,7 +7,7 @@ use mathlib.Core.Bool.{Bool, true, false, not, ◌&&◌, ◌||◌, true≢false,
 use mathlib.Core.List.{List, [], ◌∷◌, ◌++◌}
 use lib.ListN.{length}
 use lib.Dec.{ltb, leb, eqb}
-use borrow.Author.Tests.{leb-false, ltb-false, not-true, not-false}
+use borrow.Author.Tests.{leb-false, ltb-false, not-true}
 use Rattle.base.proofs.Cases.{cases, or-false}
 use Rattle.record.specs.declared.StepRecord.{StepRecord}
 use Rattle.record.specs.declared.AnswerRecord.{AnswerRecord}
@@ -63,11 +63,14 @@ not_begin r e = rw e
 
 -- the tests of a begin, of a step and of a record, all failed
 begin_passed : (l : ℕ) (q : Process) → accepted (begin_refusal l q) ≡ true → (is_idle q.status ≡ true) × (q.begun < l)
-unfolding begin_refusal
-begin_passed l q h =
-    let a = passed (leb l q.begun) _ _ h in
-    let b = passed (not (is_idle q.status)) _ _ a.1 in
-    (not-false (is_idle q.status) b.0, leb-false l q.begun a.0)
+unfolding begin_refusal accepted
+begin_passed l q h = on (is_idle q.status) refl (leb l q.begun) refl
+  where
+    on : (i : Bool) → is_idle q.status ≡ i → (b : Bool) → leb l q.begun ≡ b → (is_idle q.status ≡ true) × (q.begun < l)
+    on true z false w = (z, leb-false l q.begun w)
+    on true z true w = absurd (false≢true (simp (z, w) at h))
+    on false z true w = absurd (false≢true (simp (z, w) at h))
+    on false z false w = absurd (false≢true (simp (z, w) at h))
 
 step_passed : (room : ℕ) (q : Process) → accepted (step_refusal room q) ≡ true → (is_idle q.status ≡ false) × (at_q q.status && ltb room answer_size ≡ false)
 unfolding step_refusal

@@ -18,7 +18,7 @@ use Rattle.tree.specs.declared.Kind.{Kind}
 use Rattle.tree.specs.declared.Kind.TheVariants.{Puts, Takes}
 use Rattle.tree.specs.Shape.{Shape, processes, root, leaf_of, last_place, height_of}
 use Rattle.tree.specs.Layout.{block_words, part_words, part_start, part_of}
-use Rattle.tree.specs.Memory.{Memory, block}
+use Rattle.tree.specs.Memory.{Memory}
 use Rattle.tree.specs.Blocks.{word_in, left_word, block_in, block_at}
 use Rattle.tree.specs.Order.{OpId, in_root, last_root, placed, block_order, root_order, root_operations}
 use Rattle.tree.specs.Standing.{times, stands_in}
