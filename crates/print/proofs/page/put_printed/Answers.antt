@@ -29,7 +29,7 @@ put_last-requires g c =
 
 pub returns-clause-stored : goal.returns-clause-stored
 unfolding printed
-returns-clause-stored g c = simp (c.put_last.ensures, lines_at g (goal.at.returns g c).After-put_lines, append_assoc) refl
+returns-clause-stored g c = simp (c.put_last.ensures, lines_at g (goal.at.returns-clause-stored g c).After-put_lines, append_assoc) refl
 
 pub returns-clause-upper_bound : goal.returns-clause-upper_bound
 returns-clause-upper_bound g c =
@@ -37,7 +37,7 @@ returns-clause-upper_bound g c =
     omega (
       arith,
       length-append {A = ℕ},
-      ap length (lines_at g (goal.at.returns g c).After-put_lines),
+      ap length (lines_at g (goal.at.returns-clause-upper_bound g c).After-put_lines),
       ap length c.put_last.ensures,
       text_most start.answers.now c.type_inv.answers start.n start.refusal start.taken (omega arith) (omega arith),
     )
