@@ -5,7 +5,7 @@
 pub mod deliver;
 pub mod exports;
 
-// What the desk returns: the number of a refusal, or 0 and the number of terms.
+// What the desk returns, for C: the number of a refusal, or 0 and the number of terms.
 #[repr(C)]
 #[derive(Clone, Copy)]
 pub struct DeskDelivery {

@@ -102,8 +102,8 @@ fn list_block(
     list_range(table, layout, list, right, old.right, new.right, out, next)
 }
 
-// The operations of a node's blocks after `from`, up to and with `to`, in place order. These are a block's subblocks on
-// one side.
+// The operations of a node's blocks after `from`, up to and with `to`, in place order, by place: a block is found by its
+// node and place, and blocks are no slice of anything. These are a block's subblocks on one side.
 #[cycle(list_block_list_range)]
 fn list_range(
     table: &[u32],

@@ -57,6 +57,7 @@ pub fn play(
     let p = layout.processes() as u32;
     let l = layout.most() as u32;
     let idle = Process::start();
+    // at most 8 processes, and no heap
     let mut procs = [idle; 8];
     let n = records.len() / 8;
     let mut answers: usize = 0;

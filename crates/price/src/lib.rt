@@ -23,7 +23,7 @@ pub enum PriceRefusal {
     PriceTooHigh,
 }
 
-// What a call returns: a refusal's number, or 0 and a price in whole cents and hundredths of a cent.
+// What a call returns, for C: a refusal's number, or 0 and a price in whole cents and hundredths of a cent.
 #[repr(C)]
 #[derive(Clone, Copy)]
 pub struct PriceTotal {

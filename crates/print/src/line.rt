@@ -1,4 +1,4 @@
-// The lines of the text.
+// The lines of the text. They are no `impl Display`, for the reason that crate text gives.
 ghost use Rattle.std.specs.Prelude.{◌≡◌, ◌+◌, ◌++◌, ◌≤◌, length};
 ghost use Rattle.print.specs.Lines.{operation_name, number_fields, reply_field, answer_line, last_line};
 

@@ -12,7 +12,7 @@ use std::io::{Read, Stdin, Write};
 
 // The text of every input of which this was read: `records`, the bytes that the record buffer holds, and `next`, the
 // byte after them, if there is one. The longest text has room: 96 lines of at most 50 bytes each, and a last line of at
-// most 36.
+// most 36. The arrays are of the size that p = 4 and L = 24 need, so that nothing can run out of memory.
 fn print_input(records: &[u8], next: &[u8]) -> ArrayString<4836>
     requires { ReadFrom (records.now ++ next.now) records.now next.now }
     ensures { (input : List ℕ) → ReadFrom input records.now next.now → result.bytes ≡ print_run input }

@@ -1,6 +1,6 @@
 // The public library: Run, list the order, check a log and the forecast. Each call turns down, plays and leaves what
-// its definition says (crate calls). The calls and what they share take p and l as C gives them: the tree is made of
-// them once they are tested. What a call needs beside the memory that it is lent stands in fixed arrays, since the
+// its definition says (crate calls). The calls and what they share take p and l as C gives them, and what they need
+// and leave is stated by p and l. What a call needs beside the memory that it is lent stands in fixed arrays, since the
 // library has no heap.
 #![tactic(auto)]
 

@@ -113,7 +113,9 @@ impl Tree {
     }
 }
 
-// A tree, and the first word of each node's part: node v's part is from starts[v] to starts[v + 1].
+// A tree, and the first word of each node's part: node v's part is from starts[v] to starts[v + 1]. Past the last node
+// each entry is the words needed, so that nothing is left for a node that the tree does not have. There are at most 15
+// nodes, and the library has no heap.
 #[derive(Drop)]
 pub struct Layout {
     tree: Tree,
@@ -121,15 +123,14 @@ pub struct Layout {
 }
 
 impl Model for Layout {
-    ghost use Rattle.std.specs.Prelude.{◌≡◌, ℕ, ◌*◌, ◌≤◌, get_or};
-    ghost use Rattle.tree.specs.Shape.{Shape, processes};
-    ghost use Rattle.tree.specs.Layout.{part_start};
+    ghost use Rattle.tree.specs.Shape.{Shape};
+    ghost use Rattle.table.specs.Starts.{StartsOf};
 
     ghost Value = { Shape };
 
     ghost view = { λ a. a.tree };
 
-    ghost invariant = { λ a. (v : ℕ) → v ≤ 2 * processes a.tree → get_or a.starts v 0 ≡ part_start a.tree v };
+    ghost invariant = { λ a. StartsOf a.tree a.starts };
 }
 
 impl Layout {
@@ -138,7 +139,8 @@ impl Layout {
         ensures { result ≡ tree }
     {
         let nodes = 2 * tree.processes();
-        let mut starts = [0; 17];
+        let mut starts = [tree.words_needed(); 17];
+        starts[0] = 0;
         for v in 0..nodes {
             starts[v + 1] = starts[v] + tree.part_words(v);
         }

@@ -8,6 +8,6 @@ use Rattle.table.proofs.layout.Layout.span.Goals as goal
 pub returns : goal.returns
 returns c =
     rw (← c.self.view_is) record {
-      start = c.self.invariant c.args.v (rw c.self.view_is (omega (arith, c.requires.1)));
-      end = c.self.invariant (c.args.v + 1) (rw c.self.view_is (omega (arith, c.requires.1))) ∙ next_start c.self.inside.tree c.args.v;
+      start = c.self.invariant.nodes c.args.v (rw c.self.view_is (omega (arith, c.requires.1)));
+      end = c.self.invariant.nodes (c.args.v + 1) (rw c.self.view_is (omega (arith, c.requires.1))) ∙ next_start c.self.inside.tree c.args.v;
     }
