@@ -4,8 +4,8 @@ use native.Mathlib.Omega.{arith}
 use native.Mathlib.Decide.{dec_lt, ℕ_discrete}
 use native.Mathlib.Nat.{not-suc-le-zero, le_refl, suc-add, add-suc, add-zero}
 use mathlib.Core.Path.{◌≡◌, refl, ap, sym, ◌∙◌}
-use mathlib.Core.List.{List, [], ◌∷◌, ◌++◌, append-nil, append_assoc}
-use lib.ListN.{length, get_or, take, drop, set, length-set, drop_of_length-le}
+use mathlib.Core.List.{List, [], ◌∷◌, ◌++◌, append_assoc}
+use lib.ListN.{length, get_or, take, drop, set, length-set}
 use lib.Seq.{sets, sets-eq, get_or-set_same, get_or-set_other, set_out}
 use borrow.Rule.Slice.PartMut.{put_mid, Post-is}
 
@@ -21,10 +21,6 @@ pub sets_here : (vs l : List ℕ) (a k : ℕ) → a + length vs ≤ length l →
 sets_here [] l a k fits h = absurd (not-suc-le-zero h)
 sets_here (v ∷ vs) l a zero fits h = rw add-zero (sets_before vs (set l a v) (suc a) a (le_refl _) ∙ get_or-set_same l a v 0 (omega arith))
 sets_here (v ∷ vs) l a (suc k) fits h = rw (add-suc, ← suc-add) (sets_here vs (set l a v) (suc a) k (rw length-set (omega arith)) (omega arith))
-
--- values stored in all places of a list are the list
-pub sets_whole : (l vs : List ℕ) → length vs ≡ length l → sets l 0 vs ≡ vs
-sets_whole l vs e = sets-eq vs l 0 (omega arith) ∙ rw (drop_of_length-le l {i = 0 + length vs} (omega arith)) (append-nil vs)
 
 -- a part of a list that is overwritten whole is a run of stores
 pub part_stored : (l xs : List ℕ) (i e : ℕ) → e ≤ length l → i + length xs ≡ e → put_mid i (e - i) l xs ≡ sets l i xs

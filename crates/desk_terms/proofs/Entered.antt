@@ -54,6 +54,3 @@ module _ (l : ℕ) (answers : List (List ℕ)) (before : List ℕ) where
       entered_slot n all =
           let P : AnswerRecord → Type 0 = λ b. HasSlot l n b.process b.serial in
           rw is (middle_has P rest z.passed x (subst (λ (xs : List (List ℕ)). All P (map answer_record xs)) cut_there all))
-
-      pub entered_long : length after ≡ length before
-      entered_long = ap length z.words ∙ entered_length l (map answer_record z.passed) before
