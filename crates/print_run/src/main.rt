@@ -50,6 +50,7 @@ fn read_full<'a>(input: &mut Stdin, buf: &'a mut [u8]) -> &'a [u8]
 fn read_next<'a>(got: usize, input: &mut Stdin, next: &'a mut [u8]) -> &'a [u8]
     ensures upper_bound { length result.now ≤ length next.old }
     ensures value { got < 65536 → result.now ≡ [] }
+    ensures untouched { got < 65536 → next.new ≡ next.old }
 {
     if got < 65536 {
         return &[];
