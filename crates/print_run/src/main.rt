@@ -47,15 +47,16 @@ fn read_full<'a>(input: &mut Stdin, buf: &'a mut [u8]) -> &'a [u8]
 }
 
 // Reads the byte after the record buffer, where that is full: one byte more is enough to know that the input is longer.
-fn read_next<'a>(got: usize, input: &mut Stdin, next: &'a mut [u8]) -> &'a [u8]
-    ensures upper_bound { length result.now ≤ length next.old }
-    ensures value { got < 65536 → result.now ≡ [] }
-    ensures untouched { got < 65536 → next.new ≡ next.old }
+// Returns how many bytes it put at the start of `next`, and no slice of it: beside a slice that is lent on, no clause can
+// say that `next` stays as it was.
+fn read_next(got: usize, input: &mut Stdin, next: &mut [u8]) -> usize
+    ensures prefix_len { result ≤ length next.new }
+    ensures value { got < 65536 → (result ≡ 0) × (next.new ≡ next.old) }
 {
     if got < 65536 {
-        return &[];
+        return 0;
     }
-    read_full(input, next)
+    read_full(input, next).len()
 }
 
 // Only reads and writes; the text is made by print_input. No contract of the library says which bytes come from
@@ -66,7 +67,7 @@ fn main(rt: HostRuntime) -> io::Result<()> {
     let mut next = [0u8; 1];
     let mut input = rt.stdin();
     let first = read_full(&mut input, &mut records);
-    let after = read_next(first.len(), &mut input, &mut next);
-    let text = print_input(first, after);
+    let more = read_next(first.len(), &mut input, &mut next);
+    let text = print_input(first, &next[..more]);
     rt.stdout().write_all(text.as_bytes())
 }
