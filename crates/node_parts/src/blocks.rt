@@ -4,10 +4,11 @@ ghost use Rattle.tree.specs.Layout.{block_words};
 ghost use Rattle.tree.specs.Blocks.{block_in, with_block, absent as absent_of};
 ghost use Rattle.tree.specs.Memory.{with_super};
 ghost use Rattle.tree.specs.Order.{total as total_of};
+ghost use Rattle.tree.specs.Clauses.Access.{totals_of};
 
 use tree::{
     BLOCK_WORDS, Block, Kind, LEFT_WORD, NUMBER_WORD, PUTS_WORD, RIGHT_WORD, SIZE_WORD, SUPER_WORD,
-    TAKES_WORD,
+    TAKES_WORD, Totals,
 };
 
 // The block at place i, whose words the part has.
@@ -25,6 +26,25 @@ pub fn block_in(part: &[u32], i: usize) -> Block
         size: part[at + SIZE_WORD],
         number: part[at + NUMBER_WORD],
     }
+}
+
+// The totals of the block at place i, whose words the part has, so that no test is needed. No other word of it is read.
+pub fn totals_in(part: &[u32], i: usize) -> Totals
+    requires { block_words * i + block_words ≤ length part.now }
+    ensures { result ≡ totals_of (block_in part.now i) }
+{
+    let at = BLOCK_WORDS * i;
+    let puts = part[at + PUTS_WORD];
+    let takes = part[at + TAKES_WORD];
+    Totals { puts, takes }
+}
+
+// The size of the block at place i, whose words the part has. Blocks of the root alone have one.
+pub fn size_in(part: &[u32], i: usize) -> u32
+    requires { block_words * i + block_words ≤ length part.now }
+    ensures { result ≡ (block_in part.now i).size }
+{
+    part[BLOCK_WORDS * i + SIZE_WORD]
 }
 
 // One word of a part. Past the end it is 0, so that no reader has to know where a part ends.

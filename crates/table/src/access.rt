@@ -6,7 +6,7 @@ ghost use Rattle.tree.specs.Clauses.Access.{HasPart, HasPlace, totals_of};
 
 use crate::layout::Layout;
 use node_parts::blocks;
-use tree::{BLOCK_WORDS, Block, PUTS_WORD, SIZE_WORD, TAKES_WORD, Totals};
+use tree::{BLOCK_WORDS, Block, PUTS_WORD, TAKES_WORD, Totals};
 
 impl Layout {
     // Node v's block at place i, which it has.
@@ -17,17 +17,12 @@ impl Layout {
         blocks::block_in(self.part(table, v), i as usize)
     }
 
-    // The totals of node v's block at place i, which it has, so that no test is needed. No other word of it is read.
+    // The totals of node v's block at place i, which it has. No other word of it is read.
     pub fn totals_at(&self, table: &[u32], v: u32, i: u32) -> Totals
         requires { HasPlace self.now table.now v i }
         ensures { result ≡ totals_of (block_at self.now table.now v i) }
     {
-        let part = self.part(table, v);
-        let at = BLOCK_WORDS * i as usize;
-        Totals {
-            puts: part[at + PUTS_WORD],
-            takes: part[at + TAKES_WORD],
-        }
+        blocks::totals_in(self.part(table, v), i as usize)
     }
 
     // The size of the root's block at place i. Blocks of other nodes have none.
@@ -35,8 +30,7 @@ impl Layout {
         requires { HasPlace self.now table.now 1 i }
         ensures { result ≡ (block_at self.now table.now 1 i).size }
     {
-        let part = self.part(table, 1);
-        part[BLOCK_WORDS * i as usize + SIZE_WORD]
+        blocks::size_in(self.part(table, 1), i as usize)
     }
 
     // Whether node v's block at place i is absent. One past the last place it is: there a child is looked at whose
