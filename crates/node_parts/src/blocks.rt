@@ -61,6 +61,14 @@ pub fn absent(b: Block) -> bool
     b.puts == 0 && b.takes == 0
 }
 
+// Whether the block at place i is absent, also past the end, where each word is 0. Takes are read only if puts are 0.
+pub fn absent_in(part: &[u32], i: u32) -> bool
+    ensures { result ≡ absent_of (block_in part.now i) }
+{
+    let at = BLOCK_WORDS * i as usize;
+    word_or_zero(part, at + PUTS_WORD) == 0 && word_or_zero(part, at + TAKES_WORD) == 0
+}
+
 // A block's total of a kind.
 pub fn total(kind: Kind, b: Block) -> u32
     ensures { result ≡ total_of kind b }

@@ -1,12 +1,14 @@
 // Blocks by node number.
-ghost use Rattle.std.specs.Prelude.{◌≡◌, if◌then◌else◌};
+ghost use Rattle.std.specs.Prelude.{◌≡◌, true, ◌*◌, ◌≤◌, ◌<◌, length, if◌then◌else◌};
+ghost use Rattle.tree.specs.Shape.{processes};
+ghost use Rattle.tree.specs.Layout.{words_needed};
 ghost use Rattle.tree.specs.Blocks.{block_at, with_block_at, absent as absent_of};
 ghost use Rattle.tree.specs.Memory.{with_super};
 ghost use Rattle.tree.specs.Clauses.Access.{HasPart, HasPlace, totals_of};
 
 use crate::layout::Layout;
 use node_parts::blocks;
-use tree::{BLOCK_WORDS, Block, PUTS_WORD, TAKES_WORD, Totals};
+use tree::{Block, Totals};
 
 impl Layout {
     // Node v's block at place i, which it has.
@@ -34,15 +36,16 @@ impl Layout {
     }
 
     // Whether node v's block at place i is absent. One past the last place it is: there a child is looked at whose
-    // places are all filled.
+    // places are all filled. A node that the tree lacks has no block, if the table has the words needed.
     pub fn absent_at(&self, table: &[u32], v: u32, i: u32) -> bool
-        requires { HasPart self.now table.now v }
-        ensures { result ≡ absent_of (block_at self.now table.now v i) }
+        requires low { v < 16 }
+        requires node { v < 2 * processes self.now → HasPart self.now table.now v }
+        requires lacking { 2 * processes self.now ≤ v → words_needed self.now ≤ length table.now }
+        ensures value { v < 2 * processes self.now → result ≡ absent_of (block_at self.now table.now v i) }
+        ensures lacking { 2 * processes self.now ≤ v → result ≡ true }
     {
-        let part = self.part(table, v);
-        let at = BLOCK_WORDS * i as usize;
-        blocks::word_or_zero(part, at + PUTS_WORD) == 0
-            && blocks::word_or_zero(part, at + TAKES_WORD) == 0
+        let (from, to) = self.span(v);
+        blocks::absent_in(&table[from..to], i)
     }
 
     // Block b at place i of node v.
