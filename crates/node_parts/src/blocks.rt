@@ -4,10 +4,11 @@ ghost use Rattle.tree.specs.Layout.{block_words};
 ghost use Rattle.tree.specs.Blocks.{block_in, with_block, absent as absent_of};
 ghost use Rattle.tree.specs.Memory.{with_super};
 ghost use Rattle.tree.specs.Order.{total as total_of};
+ghost use Rattle.tree.specs.Clauses.Access.{totals_of};
 
 use tree::{
     BLOCK_WORDS, Block, Kind, LEFT_WORD, NUMBER_WORD, PUTS_WORD, RIGHT_WORD, SIZE_WORD, SUPER_WORD,
-    TAKES_WORD,
+    TAKES_WORD, Totals,
 };
 
 // The block at place i, whose words the part has.
@@ -27,6 +28,25 @@ pub fn block_in(part: &[u32], i: usize) -> Block
     }
 }
 
+// The totals of the block at place i, whose words the part has, so that no test is needed. No other word of it is read.
+pub fn totals_in(part: &[u32], i: usize) -> Totals
+    requires { block_words * i + block_words ≤ length part.now }
+    ensures { result ≡ totals_of (block_in part.now i) }
+{
+    let at = BLOCK_WORDS * i;
+    let puts = part[at + PUTS_WORD];
+    let takes = part[at + TAKES_WORD];
+    Totals { puts, takes }
+}
+
+// The size of the block at place i, whose words the part has. Blocks of the root alone have one.
+pub fn size_in(part: &[u32], i: usize) -> u32
+    requires { block_words * i + block_words ≤ length part.now }
+    ensures { result ≡ (block_in part.now i).size }
+{
+    part[BLOCK_WORDS * i + SIZE_WORD]
+}
+
 // One word of a part. Past the end it is 0, so that no reader has to know where a part ends.
 pub fn word_or_zero(part: &[u32], at: usize) -> u32
     ensures { result ≡ get_or part.now at 0 }
@@ -39,6 +59,14 @@ pub fn absent(b: Block) -> bool
     ensures { result ≡ absent_of b }
 {
     b.puts == 0 && b.takes == 0
+}
+
+// Whether the block at place i is absent, also past the end, where each word is 0. Takes are read only if puts are 0.
+pub fn absent_in(part: &[u32], i: u32) -> bool
+    ensures { result ≡ absent_of (block_in part.now i) }
+{
+    let at = BLOCK_WORDS * i as usize;
+    word_or_zero(part, at + PUTS_WORD) == 0 && word_or_zero(part, at + TAKES_WORD) == 0
 }
 
 // A block's total of a kind.

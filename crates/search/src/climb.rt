@@ -19,9 +19,7 @@ fn holder(heads: &[u32], table: &[u32], layout: &Layout, v: u32, place: u32) -> 
     let last = head_of(heads, v / 2) - 1;
     let guess = layout.block_at(table, v, place).superblock;
     first_place(
-        table,
-        layout,
-        v / 2,
+        layout.part(table, v / 2),
         LEFT_WORD + (v % 2) as usize,
         last,
         place,

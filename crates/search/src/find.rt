@@ -50,7 +50,13 @@ fn find_put(table: &[u32], layout: &Layout, height: usize, v: u32, b: u32, n: u3
         return layout.block_at(table, v, b).left;
     }
     let d = descend(table, layout, v, b, n);
-    let c = first_place(table, layout, d.node, PUTS_WORD, d.last, d.number, d.last);
+    let c = first_place(
+        layout.part(table, d.node),
+        PUTS_WORD,
+        d.last,
+        d.number,
+        d.last,
+    );
     find_put(table, layout, height - 1, d.node, c, d.number)
 }
 
@@ -59,6 +65,6 @@ pub fn put_value(table: &[u32], layout: &Layout, last: u32, n: u32) -> u32
     requires { Some (Numbered layout.now table.now last n) }
     ensures { ValueAt layout.now table.now n result }
 {
-    let b = first_place(table, layout, 1, PUTS_WORD, last, n, last);
+    let b = first_place(layout.part(table, 1), PUTS_WORD, last, n, last);
     find_put(table, layout, layout.height(), 1, b, n)
 }

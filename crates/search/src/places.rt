@@ -1,11 +1,9 @@
-// Search of a node's places for the first whose word reaches a number.
+// Search of a node's places for the first whose word reaches a number, in its part alone.
 ghost use Rattle.std.specs.Prelude.{◌≡◌, true, ◌+◌, ◌*◌, ◌≤◌, ◌<◌, length};
-ghost use Rattle.tree.specs.Layout.{block_words, part_of};
-ghost use Rattle.tree.specs.Clauses.Access.{HasPart};
+ghost use Rattle.tree.specs.Layout.{block_words};
 ghost use Rattle.search.specs.Clauses.Searched.{Reaches, First};
 
 use node_parts::bisect;
-use table::layout::Layout;
 use tree::BLOCK_WORDS;
 
 // Whether place i is the first that reaches x: the one before it does not. Only these two places are looked at.
@@ -42,18 +40,10 @@ fn first_in(part: &[u32], word: usize, last: usize, x: u32, guess: u32) -> usize
     bisect::first_reaching(part, word, last, x)
 }
 
-// The first place of node v.
-pub fn first_place(
-    table: &[u32],
-    layout: &Layout,
-    v: u32,
-    word: usize,
-    last: u32,
-    x: u32,
-    guess: u32,
-) -> u32
-    requires { HasPart layout.now table.now v × Reaches (part_of layout.now table.now v) word last x }
-    ensures { First (part_of layout.now table.now v) word last x result }
+// The same, with the last place and the place found as a block has them.
+pub fn first_place(part: &[u32], word: usize, last: u32, x: u32, guess: u32) -> u32
+    requires { Reaches part.now word last x }
+    ensures { First part.now word last x result }
 {
-    first_in(layout.part(table, v), word, last as usize, x, guess) as u32
+    first_in(part, word, last as usize, x, guess) as u32
 }

@@ -1,12 +1,14 @@
 // Blocks by node number.
-ghost use Rattle.std.specs.Prelude.{◌≡◌, if◌then◌else◌};
+ghost use Rattle.std.specs.Prelude.{◌≡◌, true, ◌*◌, ◌≤◌, ◌<◌, length, if◌then◌else◌};
+ghost use Rattle.tree.specs.Shape.{processes};
+ghost use Rattle.tree.specs.Layout.{words_needed};
 ghost use Rattle.tree.specs.Blocks.{block_at, with_block_at, absent as absent_of};
 ghost use Rattle.tree.specs.Memory.{with_super};
 ghost use Rattle.tree.specs.Clauses.Access.{HasPart, HasPlace, totals_of};
 
 use crate::layout::Layout;
 use node_parts::blocks;
-use tree::{BLOCK_WORDS, Block, PUTS_WORD, SIZE_WORD, TAKES_WORD, Totals};
+use tree::{Block, Totals};
 
 impl Layout {
     // Node v's block at place i, which it has.
@@ -17,17 +19,12 @@ impl Layout {
         blocks::block_in(self.part(table, v), i as usize)
     }
 
-    // The totals of node v's block at place i, which it has, so that no test is needed. No other word of it is read.
+    // The totals of node v's block at place i, which it has. No other word of it is read.
     pub fn totals_at(&self, table: &[u32], v: u32, i: u32) -> Totals
         requires { HasPlace self.now table.now v i }
         ensures { result ≡ totals_of (block_at self.now table.now v i) }
     {
-        let part = self.part(table, v);
-        let at = BLOCK_WORDS * i as usize;
-        Totals {
-            puts: part[at + PUTS_WORD],
-            takes: part[at + TAKES_WORD],
-        }
+        blocks::totals_in(self.part(table, v), i as usize)
     }
 
     // The size of the root's block at place i. Blocks of other nodes have none.
@@ -35,20 +32,20 @@ impl Layout {
         requires { HasPlace self.now table.now 1 i }
         ensures { result ≡ (block_at self.now table.now 1 i).size }
     {
-        let part = self.part(table, 1);
-        part[BLOCK_WORDS * i as usize + SIZE_WORD]
+        blocks::size_in(self.part(table, 1), i as usize)
     }
 
     // Whether node v's block at place i is absent. One past the last place it is: there a child is looked at whose
-    // places are all filled.
+    // places are all filled. A node that the tree lacks has no block, if the table has the words needed.
     pub fn absent_at(&self, table: &[u32], v: u32, i: u32) -> bool
-        requires { HasPart self.now table.now v }
-        ensures { result ≡ absent_of (block_at self.now table.now v i) }
+        requires low { v < 16 }
+        requires node { v < 2 * processes self.now → HasPart self.now table.now v }
+        requires lacking { 2 * processes self.now ≤ v → words_needed self.now ≤ length table.now }
+        ensures value { v < 2 * processes self.now → result ≡ absent_of (block_at self.now table.now v i) }
+        ensures lacking { 2 * processes self.now ≤ v → result ≡ true }
     {
-        let part = self.part(table, v);
-        let at = BLOCK_WORDS * i as usize;
-        blocks::word_or_zero(part, at + PUTS_WORD) == 0
-            && blocks::word_or_zero(part, at + TAKES_WORD) == 0
+        let (from, to) = self.span(v);
+        blocks::absent_in(&table[from..to], i)
     }
 
     // Block b at place i of node v.

@@ -173,11 +173,13 @@ impl Layout {
         self.processes() as u32 + k
     }
 
-    // The first word of node v's part, and the word after its last.
+    // The first word of node v's part, and the word after its last. Of a node that the tree lacks both are the words
+    // needed.
     pub fn span(&self, v: u32) -> (usize, usize)
-        requires { (v < 16) × (v < 2 * processes self.now) }
-        ensures start { result.0 ≡ part_start self.now v }
-        ensures end { result.1 ≡ part_start self.now v + part_words self.now v }
+        requires { v < 16 }
+        ensures start { v < 2 * processes self.now → result.0 ≡ part_start self.now v }
+        ensures end { v < 2 * processes self.now → result.1 ≡ part_start self.now v + part_words self.now v }
+        ensures lacking { 2 * processes self.now ≤ v → (result.0 ≡ words_needed self.now) × (result.1 ≡ words_needed self.now) }
     {
         let v = v as usize;
         (self.starts[v], self.starts[v + 1])

@@ -41,7 +41,8 @@ module _ (s : Shape) where
       let q : s.most * (2 ^ d * 2 ^ (s.height - d)) ≡ s.most * 2 ^ s.height = ap (λ (n : ℕ). s.most * n) p in
       rw e (level_part d (2 ^ d) k (le_refl _) ∙ omega (arith, level_start d (omega arith), pow_pos d))
 
-words_needed_lem : (s : Shape) → part_start s (2 * processes s) ≡ words_needed s
+-- the last node's part ends where they do
+pub words_needed_lem : (s : Shape) → part_start s (2 * processes s) ≡ words_needed s
 unfolding words_needed processes
 words_needed_lem s = ap (part_start s) (omega arith) ∙ level_start s (suc s.height) (le_refl _) ∙ omega arith
 

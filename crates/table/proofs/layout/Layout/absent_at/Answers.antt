@@ -1,14 +1,17 @@
 -- `access::Layout::absent_at` meets its contract.
-use borrow.Author.Tests.{eq-eqb, ne_eqb}
-use Rattle.tree.specs.Blocks.{word_in, block_in, block_at, absent}
+use mathlib.Core.Path.{◌∙◌}
+use Rattle.tree.specs.Blocks.{block_at}
+use Rattle.tree.proofs.NodeParts.{part_between}
+use Rattle.table.proofs.Rest.{lacking_absent}
 use Rattle.table.proofs.layout.Layout.absent_at.Goals as goal
 
-pub returns-then-word_or_zero-eq0 : goal.returns-then-word_or_zero-eq0
-unfolding absent block_at block_in word_in
-returns-then-word_or_zero-eq0 c =
-    rw (← c.part-part.ensures.part, ← c.word_or_zero.ensures, ← c.word_or_zero-then-word_or_zero-eq0.ensures, eq-eqb _ _ c.if-word_or_zero-eq0.true)
+pub returns-clause-value : goal.returns-clause-value
+unfolding block_at
+returns-clause-value c = λ n.
+    let e = c.span-from.ensures in
+    rw (← part_between c.args.self.now c.args.table.now c.args.v _ _ (e.start n) (e.end n)) c.absent_in.ensures
 
-pub returns-else-word_or_zero-eq0 : goal.returns-else-word_or_zero-eq0
-unfolding absent block_at block_in word_in
-returns-else-word_or_zero-eq0 c =
-    rw (← c.part-part.ensures.part, ← c.word_or_zero.ensures, ne_eqb _ _ c.if-word_or_zero-eq0.false)
+pub returns-clause-lacking : goal.returns-clause-lacking
+returns-clause-lacking c = λ n.
+    let e = c.span-from.ensures.lacking n in
+    c.absent_in.ensures ∙ lacking_absent c.args.table.now _ _ _ c.args.i e.0 e.1

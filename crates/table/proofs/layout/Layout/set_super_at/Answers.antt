@@ -9,5 +9,6 @@ returns c =
     let s = c.args.self.now in
     let t = c.args.table.now in
     let e = c.span-from.ensures in
-    let part = part_between s t c.args.v _ _ e.start e.end in
-    rw (c.set_super.ensures, part) (block_put_back s t c.args.v _ _ e.start e.end c.args.i _)
+    let n = c.requires.part.node in
+    let part = part_between s t c.args.v _ _ (e.start n) (e.end n) in
+    rw (c.set_super.ensures, part) (block_put_back s t c.args.v _ _ (e.start n) (e.end n) c.args.i _)

@@ -1,8 +1,7 @@
--- `access::Layout::totals_at` meets its contract. Each word read is a word of the block.
-use Rattle.tree.specs.Blocks.{word_in, block_in, block_at}
-use Rattle.tree.specs.Clauses.Access.{totals_of}
+-- `access::Layout::totals_at` meets its contract.
+use Rattle.tree.specs.Blocks.{block_at}
 use Rattle.table.proofs.layout.Layout.totals_at.Goals as goal
 
 pub returns : goal.returns
-unfolding totals_of block_at block_in word_in
-returns c = rw c.part-part.ensures.part
+unfolding block_at
+returns c = rw (← c.part.ensures.part) c.totals_in.ensures
