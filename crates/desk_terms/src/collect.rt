@@ -18,7 +18,7 @@ pub fn collect(order: &[[u8; 8]], l: u32, received: &[u32], terms: &mut [u32]) -
     let mut count = 0;
     for bytes in order {
         let x = OrderRecord::from(*bytes);
-        let slot = slot_of(l, x.process, x.serial as u32);
+        let slot = slot_of(l, x.process as u32, x.serial as u32);
         let value = received[slot];
         if is_entry(value) {
             terms[count] = value - 2147483648;

@@ -8,7 +8,7 @@ ghost use Rattle.desk_terms.specs.Clauses.Slots.{slot_of, HasSlot, entered};
 use record::AnswerRecord;
 
 // The slot of an operation, where each process has l of them.
-pub fn slot_of(l: u32, process: u8, serial: u32) -> usize
+pub fn slot_of(l: u32, process: u32, serial: u32) -> usize
     requires { (l ≤ 500) × (1 ≤ serial) }
     ensures { result ≡ slot_of l process serial }
 {
@@ -25,7 +25,7 @@ pub fn receive(answers: &[[u8; 16]], l: u32, received: &mut [u32])
 {
     for bytes in answers.iter().rev() {
         let a = AnswerRecord::from(*bytes);
-        let slot = slot_of(l, a.process, a.serial);
+        let slot = slot_of(l, a.process as u32, a.serial);
         received[slot] = a.reply.value();
     }
 }

@@ -29,7 +29,7 @@ next : (k : ℕ) → suc k + 1 ≡ suc (k + 1)
 next k = omega arith
 
 -- as the code compares the bytes of each band and the next
-pub each_rises : (bands : List (List ℕ)) (r : Bool) → IsAllAdjacentAnswer (λ b c t. t ≡ ltb (band b).last (band c).last) bands r → r ≡ rising (map band bands)
+each_rises : (bands : List (List ℕ)) (r : Bool) → IsAllAdjacentAnswer (λ b c t. t ≡ ltb (band b).last (band c).last) bands r → r ≡ rising (map band bands)
 unfolding rising
 each_rises [] true h = refl
 each_rises (b ∷ []) true h = refl
@@ -39,6 +39,10 @@ each_rises (b ∷ []) false h = absurd (omega arith)
 each_rises (b ∷ c ∷ bs) false (zero, l, h) = rw (← h b)
 each_rises (b ∷ c ∷ bs) false (suc k, l, h) =
     rw (← each_rises (c ∷ bs) false (k, omega arith, λ d. rw (next k) at (h d))) (sym (and-false _))
+
+-- so do all bands, in whatever form the code has them
+pub all_rise : (bands compared : List (List ℕ)) (r : Bool) → compared ≡ bands → IsAllAdjacentAnswer (λ b c t. t ≡ ltb (band b).last (band c).last) compared r → r ≡ rising (map band bands)
+all_rise bands compared r all h = rw all at (each_rises compared r h)
 
 -- how many there are
 pub so_many : (bands : List (List ℕ)) → 1 ≤ length bands → length bands ≤ 8 → rising (map band bands) ≡ bands_allowed (map band bands)

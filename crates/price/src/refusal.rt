@@ -21,21 +21,21 @@ impl From<PriceRefusal> for u32 {
 }
 
 // The first test that fails, if one does.
-#[tactic(auto, using(crate::proofs::Bands::chunks_bands), unfolding(crate::specs::Price::price_refusal, crate::specs::Price::most_deliveries, crate::specs::Sheet::band_size))]
+#[tactic(auto, unfolding(crate::specs::Price::price_refusal, crate::specs::Price::most_deliveries, crate::specs::Sheet::band_size))]
 pub fn price_refusal(count: u32, sheet: &[u8]) -> Result<(), PriceRefusal>
     ensures { result ≡ price_refusal count sheet.now }
 {
     if 4000 < count {
         return Err(PriceRefusal::Count);
     }
-    let (bands, rest) = sheet.as_chunks();
+    let (_, rest) = sheet.as_chunks::<8>();
     if !rest.is_empty() {
         return Err(PriceRefusal::SheetTorn);
     }
-    if !bands_allowed(bands) {
+    if !bands_allowed(sheet) {
         return Err(PriceRefusal::Bands);
     }
-    if !prices_allowed(bands) {
+    if !prices_allowed(sheet) {
         return Err(PriceRefusal::PriceTooHigh);
     }
     Ok(())

@@ -1,6 +1,6 @@
 // The bands of a sheet, and whether its ends and its prices are allowed.
-ghost use Rattle.std.specs.Prelude.{◌≡◌, map};
-ghost use Rattle.price.specs.Sheet.{band, bands_allowed, prices_allowed};
+ghost use Rattle.std.specs.Prelude.{◌≡◌};
+ghost use Rattle.price.specs.Sheet.{band, bands, bands_allowed, prices_allowed};
 
 use crate::Band;
 
@@ -19,18 +19,20 @@ impl From<[u8; 8]> for Band {
 }
 
 // Whether the bands are 1 to 8, and each end is below the next.
-pub fn bands_allowed(sheet: &[[u8; 8]]) -> bool
-    ensures { result ≡ bands_allowed (map band sheet.now) }
+pub fn bands_allowed(sheet: &[u8]) -> bool
+    ensures { result ≡ bands_allowed (bands sheet.now) }
 {
-    (1..=8).contains(&sheet.len())
-        && sheet.is_sorted_by(|before, here| Band::from(*before).last < Band::from(*here).last)
+    let (bands, _) = sheet.as_chunks::<8>();
+    (1..=8).contains(&bands.len())
+        && bands.is_sorted_by(|before, here| Band::from(*before).last < Band::from(*here).last)
 }
 
 // Whether no price is too high.
-pub fn prices_allowed(sheet: &[[u8; 8]]) -> bool
-    ensures { result ≡ prices_allowed (map band sheet.now) }
+pub fn prices_allowed(sheet: &[u8]) -> bool
+    ensures { result ≡ prices_allowed (bands sheet.now) }
 {
-    sheet
+    let (bands, _) = sheet.as_chunks::<8>();
+    bands
         .iter()
         .all(|bytes| Band::from(*bytes).price <= 1000000)
 }

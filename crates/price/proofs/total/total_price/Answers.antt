@@ -27,7 +27,7 @@ AtNext c = let loop = c.loop-bytes in
     Next c.args.count c.args.sheet.now loop.bytes-index loop.priced loop.total c.from-here.result c.min-end.result
 
 at_next : (c : After-min-end) → AtNext c
-at_next c = next (accepted _ _ c.requires) (read_at (goal.at.After-min-end c).After-unwrap) c.loop-bytes.invariant _ c.from-here.ensures c.loop-bytes-test.true _ c.min-end.ensures
+at_next c = next (accepted _ _ c.requires) (read_at (goal.at.After-min-end c).After-unwrap) c.loop-bytes.invariant _ c.from-here.ensures c.loop-bytes-test.true _ (omega arith)
 
 pub with_band-total-requires : goal.with_band-total-requires
 with_band-total-requires c = let n = at_next (goal.at.with_band-total-requires c).After-min-end in (n.rest, n.fits)
@@ -41,7 +41,7 @@ AtFinal c = let loop = c.loop-bytes in
     Final c.args.count c.args.sheet.now loop.priced loop.total c.from.result
 
 at_final : (c : After-from) → AtFinal c
-at_final c = final (accepted _ _ c.requires) (read_at (goal.at.After-from c).After-unwrap) c.loop-bytes.invariant _ c.from.ensures (omega arith)
+at_final c = final (accepted _ _ c.requires) (read_at (goal.at.After-from c).After-unwrap) c.loop-bytes.invariant _ (cc) (omega arith)
 
 pub with_band-requires : goal.with_band-requires
 with_band-requires c = let f = at_final (goal.at.with_band-requires c).After-from in (f.rest, f.fits)
