@@ -22,7 +22,7 @@ fn height_for(p: u32) -> usize
 }
 
 // The height of node v in a tree of height h. The nodes above the leaves are those of a tree one lower.
-fn height_in(h: usize, v: usize) -> usize
+pub fn height_in(h: usize, v: usize) -> usize
     requires { h ≤ 3 }
     ensures { (result ≡ height_in h v) × (result ≤ h) }
 {
@@ -88,14 +88,14 @@ impl Tree {
     }
 
     // The last place of node v.
-    fn last_place(self, v: usize) -> usize
+    pub fn last_place(self, v: usize) -> usize
         ensures { (result ≡ last_place self v) × (result ≤ 4000) }
     {
         self.most << height_in(self.height, v)
     }
 
     // The words of node v's part. There is no node 0, so it has none.
-    fn part_words(self, v: usize) -> usize
+    pub fn part_words(self, v: usize) -> usize
         ensures { (result ≡ part_words self v) × (result ≤ block_words * 4001) }
     {
         if v == 0 {
