@@ -47,8 +47,8 @@ fn read_full<'a>(input: &mut Stdin, buf: &'a mut [u8]) -> &'a [u8]
 }
 
 // Reads the byte after the record buffer, where that is full: one byte more is enough to know that the input is longer.
-// Returns how many bytes it put at the start of `next`, and no slice of it: beside a slice that is lent on, no clause can
-// say that `next` stays as it was.
+// Returns how many bytes it put at the start of `next`, and no slice of it: beside a slice that is lent on, no clause
+// can say that `next` stays as it was.
 fn read_next(got: usize, input: &mut Stdin, next: &mut [u8]) -> usize
     ensures prefix_len { result ≤ length next.new }
     ensures value { got < 65536 → (result ≡ 0) × (next.new ≡ next.old) }
