@@ -16,6 +16,7 @@ use Rattle.calls.specs.CheckLog.{same_bytes}
 use Rattle.calls.specs.LogVerdict.{record_at}
 use Rattle.answer_log.specs.Clauses.Leading.{count_after}
 use Rattle.answer_log.proofs.Cuts.{no_record_lem}
+use Rattle.answer_log.proofs.compare.equal_after.Goals.{After-eq}
 use Rattle.answer_log.proofs.compare.equal_after.Goals as goal
 
 -- slices are equal when they are so byte for byte
@@ -26,8 +27,7 @@ slices_same [] (y ∷ ys) = refl
 slices_same (x ∷ xs) [] = refl
 slices_same (x ∷ xs) (y ∷ ys) = ap (λ (b : Bool). eqb x y && b) (slices_same xs ys)
 
--- Whatever bounds the code names, its two slices have to be the whole record and all bytes of the answer.
--- bytes of a log are its record n where they begin at its place and are sixteen
+-- Whatever bounds the code names, bytes of a log are its record n where they begin at its place and are sixteen.
 all_of_record : (log : List ℕ) (n size at : ℕ) → at ≡ 16 * n → size ≡ 16 → take size (drop at log) ≡ record_at n log
 unfolding record_at answer_size
 all_of_record log n size at e f = rw (e, f)
@@ -42,6 +42,15 @@ compared_as : (xs ys log : List ℕ) (n : ℕ) (a : AnswerRecord) (b : Bool) →
     → same_bytes (bytes_of_answer a) (record_at n log) ≡ b
 compared_as xs ys log n a b test e f = rw (← e, ← f) (sym test)
 
+-- and what the code's test tells
+told : (c : After-eq) → same_bytes (bytes_of_answer c.args.a) (record_at c.args.n c.args.log.now) ≡ c.eq.result
+told c =
+    let test = rw slices_same at c.eq.ensures in
+    let place = all_of_record c.args.log.now c.args.n in
+    let bytes = c.from-bytes.ensures in
+    let answer = all_of_answer c.args.a _ bytes in
+    compared_as _ _ _ _ c.args.a _ test (place _ _ (omega arith) (omega arith)) (grind (arith, answer, bytes))
+
 pub returns-then-equal-n : goal.returns-then-equal-n
 unfolding count_after
 returns-then-equal-n c = rw (ne_eqb _ _ c.if-equal-n.true)
@@ -53,24 +62,8 @@ returns-then-log-at c =
 
 pub returns-then-eq : goal.returns-then-eq
 unfolding count_after
-returns-then-eq c =
-    let test = rw slices_same at c.eq.ensures in
-    let place = all_of_record c.args.log.now c.args.n in
-    let bytes = c.from-bytes.ensures in
-    let answer = all_of_answer c.args.a _ bytes in
-    rw (
-      compared_as _ _ _ _ c.args.a _ (sym c.if-eq.true ∙ test) (place _ _ (omega arith) (omega arith)) (grind (arith, answer, bytes)),
-      eq-eqb _ _ c.if-equal-n.false,
-    )
+returns-then-eq c = rw (told (goal.at.returns-then-eq c).After-eq ∙ c.if-eq.true, eq-eqb _ _ c.if-equal-n.false)
 
 pub returns : goal.returns
 unfolding count_after
-returns c =
-    let test = rw slices_same at c.eq.ensures in
-    let place = all_of_record c.args.log.now c.args.n in
-    let bytes = c.from-bytes.ensures in
-    let answer = all_of_answer c.args.a _ bytes in
-    rw (
-      compared_as _ _ _ _ c.args.a _ (sym c.if-eq.false ∙ test) (place _ _ (omega arith) (omega arith)) (grind (arith, answer, bytes)),
-      eq-eqb _ _ c.if-equal-n.false,
-    )
+returns c = rw (told (goal.at.returns c).After-eq ∙ c.if-eq.false, eq-eqb _ _ c.if-equal-n.false)
